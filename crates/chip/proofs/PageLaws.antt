@@ -1,0 +1,113 @@
+-- Pages, byte by byte: free pages, blank and torn pages, sizes. Assumes nothing.
+use mathlib.Core.Path.{_≡_, refl, sym, ap, _∙_}
+use mathlib.Core.Bool.{Bool, true, false, _&&_}
+use mathlib.Core.List.{List, [], _∷_, _++_, map}
+use Prim.Native.Nat.{ℕ, zero, suc, _+_, _-_, _≤_, _<_}
+use native.Mathlib.Nat.{add-sub-cancel-left}
+use native.Mathlib.Numerals.{add-one}
+use native.Mathlib.Omega.{arith}
+use lib.Dec.{eqb}
+use lib.ListN.{
+  length,
+  take,
+  drop,
+  set,
+  getD,
+  replicate,
+  drop-of-length-le,
+  length-append,
+  length-drop,
+  length-set,
+  length-replicate,
+  length-map,
+  replicate-append-replicate,
+  List·getD-map,
+  List·getD-append,
+}
+use lib.Seq.{drop-cons, take-length, length-take-le, getD-take, getD-drop, getD-append-add}
+use borrow.Author.Tests.{eq-eqb, ne-eqb, eqb-true}
+use Rattle.lists.specs.Lists.{all}
+use Rattle.lists.proofs.Alls.{all-replicate}
+use Rattle.chip.specs.declared.page.Mark.{Mark}
+use Rattle.chip.specs.Geometry.{Geometry, pageSize}
+use Rattle.chip.specs.Page.{Page, isFree, blank, mend, tornPage, marked, programmed, spareByte}
+
+-- ---- free pages, from a byte on: another byte than 255 decides, a 255 leaves it to the rest
+pub free-stop : (xs : List ℕ) (i : ℕ) → i < length xs → (getD xs i 0 ≡ 255 → ⊥) → isFree (drop i xs) ≡ false
+unfolding isFree
+free-stop xs i h n = rw (drop-cons xs i 0 h, ne-eqb (getD xs i 0) 255 n)
+
+pub free-pass : (xs : List ℕ) (i : ℕ) → i < length xs → getD xs i 0 ≡ 255 → isFree (drop i xs) ≡ isFree (drop (i + 1) xs)
+unfolding isFree
+free-pass xs i h e = rw (add-one, drop-cons xs i 0 h, eq-eqb (getD xs i 0) 255 e)
+
+pub free-end : (xs : List ℕ) (i : ℕ) → length xs ≤ i → isFree (drop i xs) ≡ true
+unfolding isFree
+free-end xs i h = rw (drop-of-length-le xs h)
+
+-- a list of k bytes copied over the front of another
+pub copied : (k : ℕ) (src dst last : List ℕ) → length src ≡ k → last ≡ take (length src) src ++ drop (length src) dst → last ≡ src ++ drop k dst
+copied k src dst last h e = e ∙ rw (take-length src, h)
+
+-- a byte of a torn erase that is not 0 stays
+pub mend-other : (n : ℕ) → (n ≡ 0 → ⊥) → mend n ≡ n
+mend-other zero h = absurd (h refl)
+mend-other (suc n) h = refl
+
+module _ (g : Geometry) where
+  -- ---- blank pages
+  pub blank-bytes : blank g ≡ replicate (pageSize g) 255
+  unfolding blank
+  blank-bytes = replicate-append-replicate (g .area) (g .spare) 255
+
+  pub length-blank : length (blank g) ≡ pageSize g
+  length-blank = ap length blank-bytes ∙ length-replicate (pageSize g) 255
+
+  -- a page that reads free is the blank one
+  pub free-blank : (x : Page) → length x ≡ pageSize g → isFree x ≡ true → x ≡ blank g
+  unfolding isFree
+  free-blank x h e =
+      all-replicate 255 (λ (b : ℕ). eqb b 255) (λ b t. eqb-true b 255 t) x e ∙ ap (λ (n : ℕ). replicate n 255) h ∙ sym blank-bytes
+
+  -- ---- torn pages
+  module _ (torn : List ℕ) (h : length torn ≡ pageSize g) where
+    front : length (take (g .area) torn) ≡ g .area
+    front = length-take-le (g .area) torn (omega arith)
+
+    pub length-torn : length (tornPage g torn) ≡ pageSize g
+    unfolding tornPage
+    length-torn =
+        length-append (take (g .area) torn) (map mend (drop (g .area) torn))
+        ∙ rw (front, length-map) (omega (arith, length-drop (g .area) torn))
+
+    -- a byte of its data area, and one of its spare area
+    pub torn-data : (i : ℕ) → i < g .area → getD (tornPage g torn) i 0 ≡ getD torn i 0
+    unfolding tornPage
+    torn-data i l = List·getD-append (take (g .area) torn) (map mend (drop (g .area) torn)) 0 i (omega (arith, front)) ∙ getD-take (g .area) torn i 0 l
+
+    pub torn-spare : (i : ℕ) → g .area ≤ i → i < pageSize g → getD (tornPage g torn) i 0 ≡ mend (getD torn i 0)
+    unfolding tornPage
+    torn-spare i l k =
+        let s : List ℕ = drop (g .area) torn in
+        let j : ℕ = i - g .area in
+        let e : length (take (g .area) torn) + j ≡ i = omega (arith, front) in
+        let e' : g .area + j ≡ i = omega arith in
+        let q : length (map mend s) ≡ g .spare = length-map s mend ∙ omega (arith, length-drop (g .area) torn) in
+        ap (λ (n : ℕ). getD (take (g .area) torn ++ map mend s) n 0) (sym e)
+        ∙ getD-append-add (take (g .area) torn) (map mend s) j 0
+        ∙ other-default (map mend s) j (omega (arith, q))
+        ∙ List·getD-map mend s j 0
+        ∙ ap mend (getD-drop (g .area) torn j 0 ∙ ap (λ (n : ℕ). getD torn n 0) e')
+      where
+        -- below the length the default is of no account
+        other-default : (xs : List ℕ) (n : ℕ) → n < length xs → getD xs n 0 ≡ getD xs n 255
+        other-default [] n h = absurd (omega arith)
+        other-default (x ∷ xs) zero h = refl
+        other-default (x ∷ xs) (suc n) h = other-default xs n (omega arith)
+
+  -- ---- an operation keeps a page's size
+  pub length-marked : (m : Mark) (v : ℕ) (x : Page) → length (marked g m v x) ≡ length x
+  length-marked m v x = length-set x (g .area + spareByte m) v
+
+  pub length-programmed : (bytes : List ℕ) (x : Page) → length bytes ≡ g .area → g .area ≤ length x → length (programmed g bytes x) ≡ length x
+  length-programmed bytes x e h = length-append bytes (drop (g .area) x) ∙ omega (arith, length-drop (g .area) x)

@@ -1,0 +1,5 @@
+pub mod Geometry
+pub mod Power
+pub mod Page
+pub mod Chip
+pub mod Sets

@@ -1,0 +1,84 @@
+// One page: programmed, marked, tested for being free. Each function gets the part of the image that is the page.
+ghost use mathlib.Core.Path.{_≡_};
+ghost use Prim.Native.Nat.{_≤_};
+ghost use lib.ListN.{length, take, getD};
+ghost use Rattle.chip.specs.Geometry.{small};
+ghost use Rattle.chip.specs.Page.{isFree, marked, programmed, spareByte};
+ghost use Rattle.chip.specs.Chip.{Operated};
+use crate::geometry::DATA;
+use crate::power;
+use crate::power::Outcome;
+use crate::power::Power;
+
+// The three marks in a page's spare area.
+pub enum Mark {
+    Used,
+    Valid,
+    Obsolete,
+}
+
+// The spare byte that is the mark.
+fn spare_byte(mark: Mark) -> usize
+    ensures { λ r. ⌜ (r ≡ spareByte mark) × (r ≤ 2) ⌝ }
+{
+    match mark {
+        Mark::Used => 0,
+        Mark::Valid => 1,
+        Mark::Obsolete => 2,
+    }
+}
+
+// One mark made 0, or torn byte 0 where power runs out.
+pub fn set_mark(page: &mut [u8], mark: Mark, torn: &[u8], power: Power) -> Power
+    requires { ⌜ (length (now page) ≡ 528) × (length (now torn) ≡ 528) ⌝ }
+    ensures { λ r. ⌜ Operated power r (now (page .exit)) (marked small mark 0 (now (page .entry)))
+        (marked small mark (getD (now (torn .entry)) 0 0) (now (page .entry))) (now (page .entry)) ⌝ }
+{
+    let at = DATA + spare_byte(mark);
+    let left = power::spent(power);
+    match power::next(power) {
+        Outcome::Whole => {
+            page[at] = 0;
+            left
+        }
+        Outcome::Torn => {
+            page[at] = torn[0];
+            left
+        }
+        Outcome::Nothing => left,
+    }
+}
+
+// The data area made `bytes`, or the first torn bytes where power runs out.
+pub fn program(page: &mut [u8], bytes: &[u8], torn: &[u8], power: Power) -> Power
+    requires { ⌜ (length (now page) ≡ 528) × (length (now bytes) ≡ 512) × (length (now torn) ≡ 528) ⌝ }
+    ensures { λ r. ⌜ Operated power r (now (page .exit)) (programmed small (now (bytes .entry)) (now (page .entry)))
+        (programmed small (take 512 (now (torn .entry))) (now (page .entry))) (now (page .entry)) ⌝ }
+{
+    let left = power::spent(power);
+    match power::next(power) {
+        Outcome::Whole => {
+            bytes::copy(bytes, page);
+            left
+        }
+        Outcome::Torn => {
+            bytes::copy(&torn[0..DATA], page);
+            left
+        }
+        Outcome::Nothing => left,
+    }
+}
+
+// Are all bytes of the page 255? The test ends at the first that is not.
+pub fn is_free(page: &[u8]) -> bool
+    ensures { λ r. ⌜ r ≡ isFree (now (page .entry)) ⌝ }
+{
+    let mut i = 0;
+    while i < page.len() {
+        if page[i] != 255 {
+            return false;
+        }
+        i += 1;
+    }
+    true
+}

@@ -1,0 +1,43 @@
+-- Laws of filter and count. Assumes nothing.
+use mathlib.Core.Path.{_≡_, refl, sym, ap, _∙_}
+use mathlib.Core.Bool.{Bool, true, false, not, cond}
+use mathlib.Core.List.{List, [], _∷_, _++_}
+use Prim.Native.Nat.{ℕ, zero, suc, _+_, _≤_, _<_}
+use native.Mathlib.Omega.{arith}
+use lib.ListN.{length}
+use Rattle.lists.specs.Lists.{filter, all, any, All, none, more, bit, count, first}
+use Rattle.lists.proofs.Tests.{cases}
+
+module _ {A : Type 0} where
+  pub filter-append : (p : A → Bool) (xs ys : List A) → filter p (xs ++ ys) ≡ filter p xs ++ filter p ys
+  filter-append p [] ys = refl
+  filter-append p (x ∷ xs) ys = cases (p x) (λ e. rw (e, filter-append p xs ys)) (λ e. rw (e, filter-append p xs ys))
+
+  pub filter-all : (p : A → Bool) {xs : List A} → All (λ (x : A). p x ≡ true) xs → filter p xs ≡ xs
+  filter-all p none = refl
+  filter-all p (more h hs) = rw (h, filter-all p hs)
+
+  pub filter-none : (p : A → Bool) {xs : List A} → All (λ (x : A). p x ≡ false) xs → filter p xs ≡ []
+  filter-none p none = refl
+  filter-none p (more h hs) = rw (h, filter-none p hs)
+
+  pub filter-is : (p : A → Bool) (xs : List A) → All (λ x. p x ≡ true) (filter p xs)
+  filter-is p [] = none
+  filter-is p (x ∷ xs) = cases (p x) (λ t. rw t (more t (filter-is p xs))) (λ t. rw t (filter-is p xs))
+
+  -- what passes and what does not are all
+  pub filter-parts : (p : A → Bool) (xs : List A) → length xs ≡ length (filter p xs) + length (filter (λ x. not (p x)) xs)
+  filter-parts p [] = refl
+  filter-parts p (x ∷ xs) = cases (p x) (λ t. rw t (omega (arith, filter-parts p xs))) (λ t. rw t (omega (arith, filter-parts p xs)))
+
+  pub count-filter : (p : A → Bool) (xs : List A) → count p xs ≡ length (filter p xs)
+  count-filter p [] = refl
+  count-filter p (x ∷ xs) = cases (p x) (λ t. rw t (omega (arith, count-filter p xs))) (λ t. rw t (omega (arith, count-filter p xs)))
+
+  pub count-most : (p : A → Bool) (xs : List A) → count p xs ≤ length xs
+  count-most p [] = omega arith
+  count-most p (x ∷ xs) = cases (p x) (λ t. rw t (omega (arith, count-most p xs))) (λ t. rw t (omega (arith, count-most p xs)))
+
+  pub first-most : (p : A → Bool) (xs : List A) → first p xs ≤ length xs
+  first-most p [] = omega arith
+  first-most p (x ∷ xs) = cases (p x) (λ t. rw t (omega arith)) (λ t. rw t (omega (arith, first-most p xs)))

@@ -1,0 +1,69 @@
+-- Laws of modify, mapFrom and At: one element altered, each altered by its index. Assumes nothing.
+use mathlib.Core.Path.{_≡_, refl, sym, ap, ap₂, _∙_}
+use mathlib.Core.List.{List, [], _∷_, _++_}
+use Prim.Native.Nat.{ℕ, zero, suc, _+_, _≤_, _<_}
+use native.Mathlib.Nat.{not-suc-le-zero}
+use native.Mathlib.Omega.{arith}
+use lib.ListN.{length, take, drop, set, getD}
+use Rattle.lists.specs.Lists.{At, modify, mapFrom, patch, part}
+
+module _ {A : Type 0} where
+  pub length-modify : (n : ℕ) (f : A → A) (xs : List A) → length (modify n f xs) ≡ length xs
+  length-modify n f [] = refl
+  length-modify zero f (x ∷ xs) = refl
+  length-modify (suc n) f (x ∷ xs) = ap suc (length-modify n f xs)
+
+  pub length-mapFrom : (i : ℕ) (f : ℕ → A → A) (xs : List A) → length (mapFrom i f xs) ≡ length xs
+  length-mapFrom i f [] = refl
+  length-mapFrom i f (x ∷ xs) = ap suc (length-mapFrom (suc i) f xs)
+
+  pub At-same : (f : A → A) (n : ℕ) (x : A) (xs : List A) → At n x xs → At n (f x) (modify n f xs)
+  At-same f n x [] h = h
+  At-same f zero x (y ∷ ys) h = ap f h
+  At-same f (suc n) x (y ∷ ys) h = At-same f n x ys h
+
+  pub At-other : (f : A → A) (m n : ℕ) (x : A) (xs : List A) → (m ≡ n → ⊥) → At n x xs → At n x (modify m f xs)
+  At-other f m n x [] d h = h
+  At-other f zero zero x (y ∷ ys) d h = absurd (d refl)
+  At-other f zero (suc n) x (y ∷ ys) d h = h
+  At-other f (suc m) zero x (y ∷ ys) d h = h
+  At-other f (suc m) (suc n) x (y ∷ ys) d h = At-other f m n x ys (λ e. d (ap suc e)) h
+
+  pub At-mapFrom : (f : ℕ → A → A) (i n : ℕ) (x : A) (xs : List A) → At n x xs → At n (f (i + n) x) (mapFrom i f xs)
+  At-mapFrom f i n x [] h = h
+  At-mapFrom f i zero x (y ∷ ys) h = let e : i + 0 ≡ i = omega arith in ap₂ f e h
+  At-mapFrom f i (suc n) x (y ∷ ys) h =
+      let e : i + suc n ≡ suc i + n = omega arith in rw e (At-mapFrom f (suc i) n x ys h)
+
+  -- an element below the length stands somewhere
+  pub At-getD : (n : ℕ) (xs : List A) (d : A) → n < length xs → At n (getD xs n d) xs
+  At-getD n [] d h = absurd (not-suc-le-zero h)
+  At-getD zero (x ∷ xs) d h = refl
+  At-getD (suc n) (x ∷ xs) d h = At-getD n xs d (omega arith)
+
+  pub At-below : (n : ℕ) (x : A) (xs : List A) → At n x xs → n < length xs
+  At-below n x [] h = absurd h
+  At-below zero x (y ∷ ys) h = omega arith
+  At-below (suc n) x (y ∷ ys) h = omega (arith, At-below n x ys h)
+
+  -- two alterations that do the same to the element that is there
+  pub modify-ext : (n : ℕ) (f g : A → A) (xs : List A) → ((x : A) → At n x xs → f x ≡ g x) → modify n f xs ≡ modify n g xs
+  modify-ext n f g [] h = refl
+  modify-ext zero f g (x ∷ xs) h = rw (h x refl)
+  modify-ext (suc n) f g (x ∷ xs) h = rw (modify-ext n f g xs h)
+
+  pub modify-id : (n : ℕ) (xs : List A) → modify n (λ x. x) xs ≡ xs
+  modify-id n [] = refl
+  modify-id zero (x ∷ xs) = refl
+  modify-id (suc n) (x ∷ xs) = rw (modify-id n xs)
+
+  pub modify-modify : (n : ℕ) (f g : A → A) (xs : List A) → modify n g (modify n f xs) ≡ modify n (λ x. g (f x)) xs
+  modify-modify n f g [] = refl
+  modify-modify zero f g (x ∷ xs) = refl
+  modify-modify (suc n) f g (x ∷ xs) = rw (modify-modify n f g xs)
+
+  -- an alteration of one element as a patch
+  pub modify-patch : (n : ℕ) (f : A → A) (xs : List A) (d : A) → n < length xs → modify n f xs ≡ patch xs n 1 (f (getD xs n d) ∷ [])
+  modify-patch n f [] d h = absurd (not-suc-le-zero h)
+  modify-patch zero f (x ∷ xs) d h = refl
+  modify-patch (suc n) f (x ∷ xs) d h = rw (modify-patch n f xs d (omega arith))
