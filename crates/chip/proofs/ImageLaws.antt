@@ -27,7 +27,7 @@ effect-has P Whole w t s a b c = a
 effect-has P Torn w t s a b c = b
 effect-has P Nothing w t s a b c = c
 
-effect-modify : {A : Type 0} (o : Outcome) (n : ℕ) (w t : A → A) (xs : List A)
+pub effect-modify : {A : Type 0} (o : Outcome) (n : ℕ) (w t : A → A) (xs : List A)
     → modify n (λ (x : A). choose o (w x) (t x) x) xs ≡ choose o (modify n w xs) (modify n t xs) xs
 effect-modify Whole n w t xs = refl
 effect-modify Torn n w t xs = refl
@@ -91,6 +91,23 @@ module _ (g : Geometry) (xs : List ℕ) where
         let q : n ≡ p + (1 + d) = omega arith in
         omega (arith, lx, ap (λ (i : ℕ). i * pageSize g) q, add-mul p (1 + d) (pageSize g), add-mul 1 d (pageSize g))
 
+    -- page p lent and put back as f makes it
+    pub page-lent : (p : ℕ) (f : Page → Page) → p < n → length (f (part (p * pageSize g) (pageSize g) xs)) ≡ pageSize g → (last : List ℕ)
+        → last ≡ f (part (p * pageSize g) (p * pageSize g + pageSize g - p * pageSize g) xs)
+        → (pagesOf g (patch xs (p * pageSize g) (p * pageSize g + pageSize g - p * pageSize g) last) ≡ modify p f (pagesOf g xs))
+        × (length (patch xs (p * pageSize g) (p * pageSize g + pageSize g - p * pageSize g) last) ≡ length xs)
+    page-lent p f h size last e =
+        let k : ℕ = pageSize g in
+        let x : Page = part (p * k) k xs in
+        let is : patch xs (p * k) (p * k + k - p * k) last ≡ patch xs (p * k) k (f x) = lent f xs (p * k) k last e in
+        let same : length (patch xs (p * k) k (f x)) ≡ length xs = length-patch xs (p * k) k (f x) (page-fits p h) size in (
+          ap (pagesOf g) is
+              ∙ same-cut (patch xs (p * k) k (f x)) same
+              ∙ cut-modify k p n f xs h lx size
+              ∙ ap (modify p f) (sym (same-cut xs refl)),
+          ap length is ∙ same,
+        )
+
     -- an operation on page p, done on its part: w and t say what it makes of the page, whole and torn
     pub page-stepped : (torn : List ℕ) (o : Op) (p : ℕ) (w t : Page → Page)
         → ((ps : List Page) → whole g o ps ≡ modify p w ps) → ((ps : List Page) → tear g torn o ps ≡ modify p t ps)
@@ -104,22 +121,17 @@ module _ (g : Geometry) (xs : List ℕ) where
     page-stepped torn o p w t ew et h lw lt pw r last op =
         let k : ℕ = pageSize g in
         let f : Page → Page = λ (x : Page). effect pw (w x) (t x) x in
-        let fits : p * k + k ≤ length xs = page-fits p h in
         let x : Page = part (p * k) k xs in
-        let size : length (f x) ≡ k = effect-has (λ (z : Page). length z ≡ k) (outcome pw) (w x) (t x) x lw lt (length-part xs (p * k) k fits) in
-        let is : patch xs (p * k) (p * k + k - p * k) last ≡ patch xs (p * k) k (f x) = lent f xs (p * k) k last (op .left) in
-        let same : length (patch xs (p * k) k (f x)) ≡ length xs = length-patch xs (p * k) k (f x) fits size in
+        let size : length (f x) ≡ k = effect-has (λ (z : Page). length z ≡ k) (outcome pw) (w x) (t x) x lw lt (length-part xs (p * k) k (page-fits p h)) in
+        let put = page-lent p f h size last (op .left) in
         record {
           is =
               ap₂ (λ (q : Power) (ps : List Page). record { power = q; pages = ps })
               (op .power)
-              (ap (pagesOf g) is
-              ∙ same-cut (patch xs (p * k) k (f x)) same
-              ∙ cut-modify k p n f xs h lx size
-              ∙ effect-modify (outcome pw) p w t (cut k n xs)
-              ∙ ap (λ (ps : List Page). effect pw (modify p w ps) (modify p t ps) ps) (sym (same-cut xs refl))
+              (put .0
+              ∙ effect-modify (outcome pw) p w t (pagesOf g xs)
               ∙ ap₂ (λ (u v : List Page). effect pw u v (pagesOf g xs)) (sym (ew (pagesOf g xs))) (sym (et (pagesOf g xs))));
-          size = ap length is ∙ same;
+          size = put .1;
         }
 
     -- an erase of block b, done on its part

@@ -6,3 +6,4 @@ pub mod ImageLaws
 pub mod Runs
 pub mod Marks
 pub mod Examples
+pub mod Sizes

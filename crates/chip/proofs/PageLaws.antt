@@ -28,9 +28,10 @@ use lib.Seq.{drop-cons, take-length, length-take-le, getD-take, getD-drop, getD-
 use borrow.Author.Tests.{eq-eqb, ne-eqb, eqb-true}
 use Rattle.lists.specs.Lists.{all}
 use Rattle.lists.proofs.Alls.{all-replicate}
+use Rattle.lists.proofs.Places.{getD-default}
 use Rattle.chip.specs.declared.page.Mark.{Mark}
 use Rattle.chip.specs.Geometry.{Geometry, pageSize}
-use Rattle.chip.specs.Page.{Page, isFree, blank, mend, tornPage, marked, programmed, spareByte}
+use Rattle.chip.specs.Page.{Page, isFree, isSet, blank, mend, tornPage, marked, programmed, spareByte}
 
 -- ---- free pages, from a byte on: another byte than 255 decides, a 255 leaves it to the rest
 pub free-stop : (xs : List ℕ) (i : ℕ) → i < length xs → (getD xs i 0 ≡ 255 → ⊥) → isFree (drop i xs) ≡ false
@@ -95,15 +96,9 @@ module _ (g : Geometry) where
         let q : length (map mend s) ≡ g .spare = length-map s mend ∙ omega (arith, length-drop (g .area) torn) in
         ap (λ (n : ℕ). getD (take (g .area) torn ++ map mend s) n 0) (sym e)
         ∙ getD-append-add (take (g .area) torn) (map mend s) j 0
-        ∙ other-default (map mend s) j (omega (arith, q))
+        ∙ getD-default (map mend s) j 0 255 (omega (arith, q))
         ∙ List·getD-map mend s j 0
         ∙ ap mend (getD-drop (g .area) torn j 0 ∙ ap (λ (n : ℕ). getD torn n 0) e')
-      where
-        -- below the length the default is of no account
-        other-default : (xs : List ℕ) (n : ℕ) → n < length xs → getD xs n 0 ≡ getD xs n 255
-        other-default [] n h = absurd (omega arith)
-        other-default (x ∷ xs) zero h = refl
-        other-default (x ∷ xs) (suc n) h = other-default xs n (omega arith)
 
   -- ---- an operation keeps a page's size
   pub length-marked : (m : Mark) (v : ℕ) (x : Page) → length (marked g m v x) ≡ length x
@@ -111,3 +106,8 @@ module _ (g : Geometry) where
 
   pub length-programmed : (bytes : List ℕ) (x : Page) → length bytes ≡ g .area → g .area ≤ length x → length (programmed g bytes x) ≡ length x
   length-programmed bytes x e h = length-append bytes (drop (g .area) x) ∙ omega (arith, length-drop (g .area) x)
+
+  -- a mark as code reads it
+  pub set-read : (m : Mark) (x : Page) → g .area + spareByte m < length x → isSet g m x ≡ eqb (getD x (g .area + spareByte m) 0) 0
+  unfolding isSet
+  set-read m x h = ap (λ (b : ℕ). eqb b 0) (getD-default x (g .area + spareByte m) 255 0 h)

@@ -3,7 +3,7 @@ ghost use mathlib.Core.Path.{_≡_};
 ghost use Prim.Native.Nat.{_≤_};
 ghost use lib.ListN.{length, take, getD};
 ghost use Rattle.chip.specs.Geometry.{small};
-ghost use Rattle.chip.specs.Page.{isFree, marked, programmed, spareByte};
+ghost use Rattle.chip.specs.Page.{isFree, isLive, marked, programmed, spareByte};
 ghost use Rattle.chip.specs.Chip.{Operated};
 use crate::geometry::DATA;
 use crate::power;
@@ -81,4 +81,15 @@ pub fn is_free(page: &[u8]) -> bool
         i += 1;
     }
     true
+}
+
+// Is the page live: valid mark set, obsolete mark not?
+pub fn is_live(page: &[u8]) -> bool
+    requires { ⌜ length (now page) ≡ 528 ⌝ }
+    ensures { λ r. ⌜ r ≡ isLive small (now (page .entry)) ⌝ }
+{
+    if page[DATA + 1] != 0 {
+        return false;
+    }
+    page[DATA + 2] != 0
 }

@@ -67,3 +67,9 @@ module _ {A : Type 0} where
   modify-patch n f [] d h = absurd (not-suc-le-zero h)
   modify-patch zero f (x ∷ xs) d h = refl
   modify-patch (suc n) f (x ∷ xs) d h = rw (modify-patch n f xs d (omega arith))
+
+  -- below the length the default is of no account
+  pub getD-default : (xs : List A) (n : ℕ) (d e : A) → n < length xs → getD xs n d ≡ getD xs n e
+  getD-default [] n d e h = absurd (not-suc-le-zero h)
+  getD-default (x ∷ xs) zero d e h = refl
+  getD-default (x ∷ xs) (suc n) d e h = getD-default xs n d e (omega arith)

@@ -1,0 +1,10 @@
+pub mod UnitLaws
+pub mod HeaderLaws
+pub mod Order
+pub mod Pairs
+pub mod Settle
+pub mod LivePages
+pub mod Counts
+pub mod Examples
+pub mod WriteLaws
+pub mod ShowLaws

@@ -1,0 +1,107 @@
+-- A page written by three operations: as a run on the chip, what a cut leaves, and when the page is live. Assumes nothing.
+use mathlib.Core.Path.{_≡_, refl, sym, ap, ap₂, _∙_}
+use mathlib.Core.Bool.{Bool, true, false}
+use mathlib.Core.List.{List, [], _∷_}
+use Prim.Native.Nat.{ℕ, zero, suc, _+_, _≤_}
+use native.Mathlib.Omega.{arith}
+use lib.Dec.{eqb}
+use lib.ListN.{length, take, getD}
+use lib.Seq.{length-take-le}
+use Rattle.lists.specs.Lists.{modify}
+use Rattle.lists.proofs.Places.{modify-modify}
+use Rattle.chip.specs.declared.page.Mark.{Mark}
+use Rattle.chip.specs.declared.page.Mark.the-variants.{Used, Valid}
+use Rattle.chip.specs.declared.power.Power.{Power}
+use Rattle.chip.specs.declared.power.Power.the-variants.{Left, Gone}
+use Rattle.chip.specs.Geometry.{Geometry, pageSize}
+use Rattle.chip.specs.Power.{spend, outcome, effect}
+use Rattle.chip.specs.Page.{Page, isLive, blank, marked, programmed}
+use Rattle.chip.specs.Chip.{Op, program, mark, Machine, step, run, Operated, pagesOf}
+use Rattle.chip.proofs.ImageLaws.{effect-has, effect-modify}
+use Rattle.chip.proofs.PageLaws.{length-marked, length-programmed}
+use Rattle.chip.proofs.Marks.{blank-quiet, first-quiet, second-quiet, third-live}
+use Rattle.pages.specs.Write.{writes, markedBy, programmedBy, written, spent3, Written, Ran}
+
+module _ (g : Geometry) (torn bytes : List ℕ) where
+  -- three operations on one part, one after the other
+  pub written-steps : (p q r s : Power) (x y z last : Page)
+      → Operated p q y (marked g Used 0 x) (marked g Used (getD torn 0 0) x) x
+      → Operated q r z (programmed g bytes y) (programmed g (take (g .area) torn) y) y
+      → Operated r s last (marked g Valid 0 z) (marked g Valid (getD torn 0 0) z) z
+      → Written g torn bytes p s x last
+  unfolding written
+  written-steps p q r s x y z last a b c =
+      let two : r ≡ spend (spend p) = b .power ∙ ap spend (a .power) in
+      record {
+        power = c .power ∙ ap spend two;
+        page = c .left ∙ ap₂ (markedBy g torn Valid) two (b .left ∙ ap₂ (programmedBy g torn bytes) (a .power) (a .left));
+      }
+
+  -- as a run of operations on the chip
+  pub run-writes : (n : ℕ) (p : Power) (ps : List Page)
+      → run g torn (record { power = p; pages = ps }) (writes n bytes) ≡ record { power = spent3 p; pages = modify n (written g torn bytes p) ps }
+  unfolding run written
+  run-writes n p ps =
+      let u : Page → Page = markedBy g torn Used p in
+      let d : Page → Page = programmedBy g torn bytes (spend p) in
+      let v : Page → Page = markedBy g torn Valid (spend (spend p)) in
+      let used : List Page → List Page = λ (xs : List Page). effect p (modify n (marked g Used 0) xs) (modify n (marked g Used (getD torn 0 0)) xs) xs in
+      let prog : List Page → List Page = λ (xs : List Page). effect (spend p) (modify n (programmed g bytes) xs) (modify n (programmed g (take (g .area) torn)) xs) xs in
+      let vald : List Page → List Page = λ (xs : List Page). effect (spend (spend p)) (modify n (marked g Valid 0) xs) (modify n (marked g Valid (getD torn 0 0)) xs) xs in
+      ap (λ (qs : List Page). record { power = spent3 p; pages = qs })
+      (ap (λ (xs : List Page). vald (prog xs)) (sym (effect-modify (outcome p) n (marked g Used 0) (marked g Used (getD torn 0 0)) ps))
+      ∙ ap vald (sym (effect-modify (outcome (spend p)) n (programmed g bytes) (programmed g (take (g .area) torn)) (modify n u ps)))
+      ∙ sym (effect-modify (outcome (spend (spend p))) n (marked g Valid 0) (marked g Valid (getD torn 0 0)) (modify n d (modify n u ps)))
+      ∙ ap (modify n v) (modify-modify n u d ps)
+      ∙ modify-modify n (λ (x : Page). d (u x)) v ps)
+
+  -- a page of an image written is a run on the image
+  pub written-ran : (n : ℕ) (p r : Power) (before after : List ℕ) → r ≡ spent3 p
+      → pagesOf g after ≡ modify n (written g torn bytes p) (pagesOf g before) → length after ≡ length before → Ran g torn (writes n bytes) p r before after
+  written-ran n p r before after e q h =
+      record {
+        is =
+            ap₂ (λ (s : Power) (ps : List Page). record { power = s; pages = ps }) e q
+            ∙ sym (run-writes n p (pagesOf g before));
+        size = h;
+      }
+
+  -- what a cut leaves: before anything, at the used mark, at the data, at the valid mark; and the page written whole
+  pub written-cuts : (x : Page) (n : ℕ)
+      → (written g torn bytes Gone x ≡ x)
+      × (written g torn bytes (Left 0) x ≡ marked g Used (getD torn 0 0) x)
+      × (written g torn bytes (Left 1) x ≡ programmed g (take (g .area) torn) (marked g Used 0 x))
+      × (written g torn bytes (Left 2) x ≡ marked g Valid (getD torn 0 0) (programmed g bytes (marked g Used 0 x)))
+      × (written g torn bytes (Left (suc (suc (suc n)))) x ≡ marked g Valid 0 (programmed g bytes (marked g Used 0 x)))
+  unfolding written
+  written-cuts x n = (refl, refl, refl, refl, refl)
+
+  module _ (lb : length bytes ≡ g .area) (lt : length torn ≡ pageSize g) where
+    marked-size : (m : Mark) (p : Power) (x : Page) → length x ≡ pageSize g → length (markedBy g torn m p x) ≡ pageSize g
+    marked-size m p x h =
+        effect-has (λ (z : Page). length z ≡ pageSize g) (outcome p) (marked g m 0 x) (marked g m (getD torn 0 0) x) x
+        (length-marked g m 0 x ∙ h) (length-marked g m (getD torn 0 0) x ∙ h) h
+
+    front : length (take (g .area) torn) ≡ g .area
+    front = length-take-le (g .area) torn (omega arith)
+
+    programmed-size : (p : Power) (x : Page) → length x ≡ pageSize g → length (programmedBy g torn bytes p x) ≡ pageSize g
+    programmed-size p x h =
+        effect-has (λ (z : Page). length z ≡ pageSize g) (outcome p) (programmed g bytes x) (programmed g (take (g .area) torn) x) x
+        (length-programmed g bytes x lb (omega arith) ∙ h) (length-programmed g (take (g .area) torn) x front (omega arith) ∙ h) h
+
+    pub length-written : (p : Power) (x : Page) → length x ≡ pageSize g → length (written g torn bytes p x) ≡ pageSize g
+    unfolding written
+    length-written p x h =
+        marked-size Valid (spend (spend p)) (programmedBy g torn bytes (spend p) (markedBy g torn Used p x))
+        (programmed-size (spend p) (markedBy g torn Used p x) (marked-size Used p x h))
+
+    -- a free page becomes live exactly when the valid mark becomes 0, set or torn
+    pub written-live : (p : Power) → 3 ≤ g .spare
+        → isLive g (written g torn bytes p (blank g)) ≡ effect (spend (spend p)) true (eqb (getD torn 0 0) 0) false
+    unfolding written
+    written-live Gone h = blank-quiet g
+    written-live (Left zero) h = first-quiet g (getD torn 0 0)
+    written-live (Left (suc zero)) h = second-quiet g 0 (take (g .area) torn) front
+    written-live (Left (suc (suc zero))) h = third-live g 0 bytes lb (getD torn 0 0) h
+    written-live (Left (suc (suc (suc n)))) h = third-live g 0 bytes lb 0 h

@@ -1,0 +1,5 @@
+pub mod Units
+pub mod Data
+pub mod Steps
+pub mod Write
+pub mod Show

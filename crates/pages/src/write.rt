@@ -1,0 +1,31 @@
+// Writing a page: used mark, data, valid mark.
+ghost use mathlib.Core.Path.{_≡_};
+ghost use Prim.Native.Nat.{_+_, _*_, _%_, _≤_};
+ghost use lib.ListN.{length};
+ghost use Rattle.chip.specs.Geometry.{small};
+ghost use Rattle.pages.specs.Write.{writes, Ran, Written};
+use chip::geometry::PAGE;
+use chip::page;
+use chip::page::Mark;
+use chip::power::Power;
+
+// The three operations on the part of the image that is the page.
+pub fn write_page(page: &mut [u8], bytes: &[u8], torn: &[u8], power: Power) -> Power
+    requires { ⌜ (length (now page) ≡ 528) × (length (now bytes) ≡ 512) × (length (now torn) ≡ 528) ⌝ }
+    ensures { λ r. ⌜ Written small (now (torn .entry)) (now (bytes .entry)) power r (now (page .entry)) (now (page .exit)) ⌝ }
+{
+    let used = page::set_mark(page, Mark::Used, torn, power);
+    let filled = page::program(page, bytes, torn, used);
+    page::set_mark(page, Mark::Valid, torn, filled)
+}
+
+// Page `at` of the image written: its part is lent once.
+pub fn write_at(image: &mut [u8], at: usize, bytes: &[u8], torn: &[u8], power: Power) -> Power
+    requires { ⌜ (at * 528 + 528 ≤ length (now image)) × (length (now image) % 528 ≡ 0)
+        × (length (now bytes) ≡ 512) × (length (now torn) ≡ 528) ⌝ }
+    ensures { λ r. ⌜ Ran small (now (torn .entry)) (writes at (now (bytes .entry))) power r (now (image .entry)) (now (image .exit)) ⌝ }
+{
+    let a = at * PAGE;
+    let e = a + PAGE;
+    write_page(&mut image[a..e], bytes, torn, power)
+}
