@@ -5,3 +5,5 @@ pub mod Sorts
 pub mod Places
 pub mod Parts
 pub mod Anys
+pub mod Flats
+pub mod Ends

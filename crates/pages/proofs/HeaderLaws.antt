@@ -1,6 +1,6 @@
 -- Headers and pages laid out: the own rules taken apart, and what is laid out is read back. Assumes nothing.
 use mathlib.Core.Path.{_≡_, refl, sym, ap, ap₂, _∙_, subst}
-use mathlib.Core.Bool.{Bool, true, _&&_}
+use mathlib.Core.Bool.{Bool, true, false, _&&_}
 use mathlib.Core.List.{List, _++_, map, append-assoc, append-nil}
 use Prim.Native.Nat.{ℕ, suc, _+_, _-_, _*_, _^_, _<_, _≤_}
 use native.Mathlib.Numerals.{add-one}
@@ -181,3 +181,17 @@ pub data-units : (g : Geometry) (limit c i n : ℕ) (us : List Unit) → All (Va
     → decodes limit (length us) (drop 8 (dataOf g c i n us)) ≡ map Good us
 data-units g limit c i n us h =
     rw (laid-behind g c i n (length us) (flat encode us)) (decodes-units (replicate (g .area - (8 + 12 * length us)) 255) h)
+
+-- ---- a page's header
+-- a page that obeys its rules is read with its header, one that breaks a rule is not
+pub header-obeys : (g : Geometry) (h : Head) (d : List ℕ) → Obeys h ≡ headerOf g d → (obeys g d ≡ true) × (h ≡ headOf d)
+header-obeys g h d e =
+    cases (obeys g d)
+    (λ t. let k : Obeys h ≡ Obeys (headOf d) = (rw t at e) in (t, cc))
+    (λ t. let k : Obeys h ≡ Breaks = (rw t at e) in let z : _≡_ {A = ℕ} 0 1 = cc in absurd (omega arith))
+
+pub header-breaks : (g : Geometry) (d : List ℕ) → Breaks ≡ headerOf g d → obeys g d ≡ false
+header-breaks g d e =
+    cases (obeys g d)
+    (λ t. let k : Breaks ≡ Obeys (headOf d) = (rw t at e) in let z : _≡_ {A = ℕ} 0 1 = cc in absurd (omega arith))
+    (λ t. t)

@@ -8,3 +8,7 @@ pub mod Counts
 pub mod Examples
 pub mod WriteLaws
 pub mod ShowLaws
+pub mod KeyLaws
+pub mod OrderLaws
+pub mod CollectLaws
+pub mod StandingLaws

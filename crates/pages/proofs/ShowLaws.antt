@@ -8,17 +8,15 @@ use lib.Dec.{ltb, eqb}
 use lib.ListN.{length, take, drop, getD}
 use borrow.Author.Tests.{eq-eqb, ne-eqb, lt-ltb, le-ltb}
 use Rattle.lists.specs.Lists.{part}
-use Rattle.lists.proofs.Tests.{cases}
 use Rattle.chip.specs.Geometry.{Geometry, pageSize, blocksOf}
 use Rattle.chip.specs.Page.{Page, isLive}
 use Rattle.chip.specs.Chip.{pagesOf}
 use Rattle.chip.proofs.ImageLaws.{page-at}
 use Rattle.pages.specs.declared.header.Head.{Head}
-use Rattle.pages.specs.declared.header.Header.{Header}
 use Rattle.pages.specs.declared.header.Header.the-variants.{Obeys, Breaks}
 use Rattle.pages.specs.Data.{headOf, obeys, headerOf}
 use Rattle.pages.specs.Show.{isShown, shownUnits, showRefusal, showUnits, showStart, showLength}
-use Rattle.pages.proofs.HeaderLaws.{obeys-is}
+use Rattle.pages.proofs.HeaderLaws.{obeys-is, header-obeys, header-breaks}
 
 module _ (g : Geometry) (x : Page) where
   -- a page that is not live, one that breaks a rule, one that obeys
@@ -26,22 +24,16 @@ module _ (g : Geometry) (x : Page) where
   unfolding shownUnits
   shown-dead e = rw e
 
-  pub shown-breaks : isLive g x ≡ true → headerOf g (take (g .area) x) ≡ Breaks → shownUnits g x ≡ 0
+  pub shown-breaks : isLive g x ≡ true → Breaks ≡ headerOf g (take (g .area) x) → shownUnits g x ≡ 0
   unfolding shownUnits
-  shown-breaks e h =
-      cases (obeys g (take (g .area) x))
-      (λ t. let z : Obeys (headOf (take (g .area) x)) ≡ Breaks = (rw t at h) in let u : _≡_ {A = ℕ} 0 1 = cc in absurd (omega arith))
-      (λ t. rw (e, t))
+  shown-breaks e h = rw (e, header-breaks g (take (g .area) x) h)
 
-  pub shown-obeys : (h : Head) → isLive g x ≡ true → headerOf g (take (g .area) x) ≡ Obeys h → (shownUnits g x ≡ h .units) × (h .units ≤ g .units)
+  pub shown-obeys : (h : Head) → isLive g x ≡ true → Obeys h ≡ headerOf g (take (g .area) x) → (shownUnits g x ≡ h .units) × (h .units ≤ g .units)
   unfolding shownUnits
   shown-obeys h e k =
-      cases (obeys g (take (g .area) x))
-      (λ t.
-      let z : Obeys (headOf (take (g .area) x)) ≡ Obeys h = (rw t at k) in
-      let q : headOf (take (g .area) x) .units ≡ h .units = cc in
-      (rw (e, t) q, omega (arith, q, obeys-is g (take (g .area) x) t .few)))
-      (λ t. let z : Breaks ≡ Obeys h = (rw t at k) in let u : _≡_ {A = ℕ} 0 1 = cc in absurd (omega arith))
+      let q = header-obeys g h (take (g .area) x) k in
+      let u : h .units ≡ headOf (take (g .area) x) .units = ap (λ (a : Head). a .units) (q .1) in
+      (rw (e, q .0) (sym u), omega (arith, u, obeys-is g (take (g .area) x) (q .0) .few))
 
 module _ (g : Geometry) (image : List ℕ) (p b : ℕ) (eb : b ≡ blocksOf g (length image)) where
   -- refusals, with the empty part

@@ -3,3 +3,4 @@ pub mod Data
 pub mod Steps
 pub mod Write
 pub mod Show
+pub mod Keys

@@ -55,7 +55,7 @@ returns-2 c =
     let i = r .before .before in
     let k = i .before .before .before in
     let x = k .args .page .now in
-    let o = shown-obeys small x (c .before .before .head .given .0 .0) (sym (i .before .is-live .ensures) ∙ not-false _ (i .if1 .left)) (sym (r .read-header .ensures) ∙ c .before .before .head .given .1) in
+    let o = shown-obeys small x (c .before .before .head .given .0 .0) (sym (i .before .is-live .ensures) ∙ not-false _ (i .if1 .left)) (sym (c .before .before .head .given .1) ∙ r .read-header .ensures) in
     (sym (o .0), o .1)
 
 -- src/show.rt:17:1
@@ -64,7 +64,7 @@ returns-3 c =
     let r = c .before .before in
     let i = r .before .before in
     let k = i .before .before .before in
-    (sym (shown-breaks small (k .args .page .now) (sym (i .before .is-live .ensures) ∙ not-false _ (i .if1 .left)) (sym (r .read-header .ensures) ∙ c .enum-told .given .1)), search needs)
+    (sym (shown-breaks small (k .args .page .now) (sym (i .before .is-live .ensures) ∙ not-false _ (i .if1 .left)) (sym (c .enum-told .given .1) ∙ r .read-header .ensures)), search needs)
 
 pub shown-units-spec : {M : Type 1} → statement M
 shown-units-spec =
