@@ -41,3 +41,7 @@ module _ {A : Type 0} where
   pub first-most : (p : A → Bool) (xs : List A) → first p xs ≤ length xs
   first-most p [] = omega arith
   first-most p (x ∷ xs) = cases (p x) (λ t. rw t (omega arith)) (λ t. rw t (omega (arith, first-most p xs)))
+
+pub count-append : {A : Type 0} (p : A → Bool) (a b : List A) → count p (a ++ b) ≡ count p a + count p b
+count-append p [] b = omega arith
+count-append p (x ∷ a) b = omega (arith, count-append p a b)

@@ -5,7 +5,7 @@ use mathlib.Core.List.{List, [], _∷_, _++_, map, append-assoc}
 use Prim.Native.Nat.{ℕ, zero, suc, _+_, _<_}
 use native.Mathlib.Nat.{not-suc-le-zero}
 use native.Mathlib.Omega.{arith}
-use lib.ListN.{length, getD}
+use lib.ListN.{length, take, drop, getD}
 use Rattle.lists.specs.Lists.{filter, all, All, none, more, tab, flat, modify}
 use Rattle.lists.proofs.Tests.{cases, and-left, and-right}
 use Rattle.lists.proofs.Alls.{All-append, All-left, All-right}
@@ -79,3 +79,15 @@ module _ {A : Type 0} where
   getD-modify-other zero (suc n) f (x ∷ xs) d h = refl
   getD-modify-other (suc m) zero f (x ∷ xs) d h = refl
   getD-modify-other (suc m) (suc n) f (x ∷ xs) d h = getD-modify-other m n f xs d (λ e. h (ap suc e))
+
+-- ---- map of a part
+module _ {A B : Type 0} where
+  pub map-take : (f : A → B) (n : ℕ) (a : List A) → map f (take n a) ≡ take n (map f a)
+  map-take f zero a = refl
+  map-take f (suc n) [] = refl
+  map-take f (suc n) (x ∷ a) = rw (map-take f n a)
+
+  pub map-drop : (f : A → B) (n : ℕ) (a : List A) → map f (drop n a) ≡ drop n (map f a)
+  map-drop f zero a = refl
+  map-drop f (suc n) [] = refl
+  map-drop f (suc n) (x ∷ a) = map-drop f n a

@@ -1,8 +1,11 @@
 -- Reasoning by a test. Assumes nothing.
 use mathlib.Core.Path.{_≡_, refl, sym}
 use mathlib.Core.Bool.{Bool, true, false, _&&_, _||_}
-use Prim.Native.Nat.{ℕ}
+use mathlib.Core.Logic.{_⊎_, inl, inr, ⊎-elim}
+use Prim.Native.Nat.{ℕ, _<_, _≤_}
 use native.Mathlib.Omega.{arith}
+use lib.Dec.{ltb, eqb}
+use borrow.Author.Tests.{ltb-true, ltb-false, eqb-true, eqb-false}
 
 -- by the outcome of a test, with its equation
 pub cases : {Q : Type 0} (b : Bool) → (b ≡ true → Q) → (b ≡ false → Q) → Q
@@ -33,3 +36,14 @@ pub same-test : (a b : Bool) → (a ≡ true → b ≡ true) → (b ≡ true →
 same-test true b f h = sym (f refl)
 same-test false true f h = h refl
 same-test false false f h = refl
+
+-- ---- two numbers
+pub below-or-not : (a b : ℕ) → (a < b) ⊎ (b ≤ a)
+below-or-not a b = cases (ltb a b) (λ e. inl (ltb-true a b e)) (λ e. inr (ltb-false a b e))
+
+pub same-or-not : (a b : ℕ) → (a ≡ b) ⊎ (a ≡ b → ⊥)
+same-or-not a b = cases (eqb a b) (λ e. inl (eqb-true a b e)) (λ e. inr (eqb-false a b e))
+
+-- below, equal or above
+pub three : {C : Type 0} (a b : ℕ) → (a < b → C) → (a ≡ b → C) → (b < a → C) → C
+three a b f g h = ⊎-elim f (λ (le : b ≤ a). ⊎-elim h (λ (ge : a ≤ b). g (omega arith)) (below-or-not b a)) (below-or-not a b)

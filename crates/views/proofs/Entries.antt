@@ -1,0 +1,169 @@
+-- Entries in key order: insert and delete keep the order, a lookup after them, and a node written anew. Assumes nothing.
+use mathlib.Core.Path.{_≡_, refl, sym, ap, ap₂, _∙_}
+use mathlib.Core.Bool.{false, cond}
+use mathlib.Core.List.{List, [], _∷_, _++_, map, foldl, append-assoc, append-nil}
+use mathlib.Core.Option.{Option, none, some}
+use Prim.Native.Nat.{ℕ, suc, _≤_, _<_}
+use native.Mathlib.Omega.{arith}
+use lib.Dec.{ltb, leb, eqb}
+use lib.ListN.{length, length-append}
+use borrow.Author.Tests.{ltb-true, ltb-false, leb-true, eqb-true, eqb-false, lt-ltb, le-leb, eq-eqb, ne-eqb}
+use Rattle.lists.proofs.Tests.{cases}
+use Rattle.pages.specs.declared.unit.Update.{Update}
+use Rattle.pages.specs.declared.unit.Update.the-variants.{Insert, Delete, Reset}
+use Rattle.views.specs.Nodes.{Entry, entry, Above, Rising, insertEntry, deleteEntry, View, untouched, broken, view, within, apply, inserted, anew}
+
+-- ---- the order
+pub above-less : (j k : ℕ) (es : List Entry) → j ≤ k → Above k es → Above j es
+above-less j k [] l h = tt
+above-less j k (e ∷ es) l h = (omega (arith, h .0), h .1)
+
+pub above-rising : (k : ℕ) (es : List Entry) → Above k es → Rising es
+above-rising k [] h = tt
+above-rising k (e ∷ es) h = h .1
+
+-- parts of joined lists
+pub rising-left : (ps es : List Entry) → Rising (ps ++ es) → Rising ps
+rising-left [] es h = tt
+rising-left (p ∷ ps) es h = go (p .key) ps h
+  where
+    go : (k : ℕ) (qs : List Entry) → Above k (qs ++ es) → Above k qs
+    go k [] h = tt
+    go k (q ∷ qs) h = (h .0, go (q .key) qs (h .1))
+
+pub rising-right : (ps es : List Entry) → Rising (ps ++ es) → Rising es
+rising-right [] es h = h
+rising-right (p ∷ ps) es h = rising-right ps es (above-rising (p .key) (ps ++ es) h)
+
+-- a later entry's key is above
+pub above-at : (k : ℕ) (ps : List Entry) (e : Entry) (es : List Entry) → Above k (ps ++ e ∷ es) → k < e .key
+above-at k [] e es h = h .0
+above-at k (p ∷ ps) e es h = omega (arith, above-at (p .key) ps e es (h .1), h .0)
+
+-- ---- insert and delete keep the order
+pub insert-above : (j k v : ℕ) (es : List Entry) → j < k → Above j es → Above j (insertEntry k v es)
+insert-above j k v [] l h = (l, tt)
+insert-above j k v (e ∷ es) l h =
+    cases (ltb (e .key) k)
+    (λ t. rw t (h .0, insert-above (e .key) k v es (ltb-true (e .key) k t) (h .1)))
+    (λ t. cases (eqb (e .key) k)
+    (λ q. rw (t, q) (l, above-less k (e .key) es (omega (arith, eqb-true (e .key) k q)) (h .1)))
+    (λ q. let d = eqb-false (e .key) k q in rw (t, q) (l, (omega (arith, ltb-false (e .key) k t, d), h .1))))
+
+pub insert-rising : (k v : ℕ) (es : List Entry) → Rising es → Rising (insertEntry k v es)
+insert-rising k v [] h = tt
+insert-rising k v (e ∷ es) h =
+    cases (ltb (e .key) k)
+    (λ t. rw t (insert-above (e .key) k v es (ltb-true (e .key) k t) h))
+    (λ t. cases (eqb (e .key) k)
+    (λ q. rw (t, q) (above-less k (e .key) es (omega (arith, eqb-true (e .key) k q)) h))
+    (λ q. let d = eqb-false (e .key) k q in rw (t, q) (omega (arith, ltb-false (e .key) k t, d), h)))
+
+pub delete-above : (j k : ℕ) (es : List Entry) → Above j es → Above j (deleteEntry k es)
+delete-above j k [] h = tt
+delete-above j k (e ∷ es) h =
+    cases (ltb (e .key) k)
+    (λ t. rw t (h .0, delete-above (e .key) k es (h .1)))
+    (λ t. cases (eqb (e .key) k) (λ q. rw (t, q) (above-less j (e .key) es (omega (arith, h .0)) (h .1))) (λ q. rw (t, q) h))
+
+pub delete-rising : (k : ℕ) (es : List Entry) → Rising es → Rising (deleteEntry k es)
+delete-rising k [] h = tt
+delete-rising k (e ∷ es) h =
+    cases (ltb (e .key) k)
+    (λ t. rw t (delete-above (e .key) k es h))
+    (λ t. cases (eqb (e .key) k) (λ q. rw (t, q) (above-rising (e .key) es h)) (λ q. rw (t, q) h))
+
+-- ---- lengths: an insert adds one entry or none, a delete takes one or none
+pub insert-most : (k v : ℕ) (es : List Entry) → length (insertEntry k v es) ≤ suc (length es)
+insert-most k v [] = omega arith
+insert-most k v (e ∷ es) =
+    cases (ltb (e .key) k)
+    (λ t. rw t (omega (arith, insert-most k v es)))
+    (λ t. cases (eqb (e .key) k) (λ q. rw (t, q) (omega arith)) (λ q. rw (t, q) (omega arith)))
+
+pub insert-least : (k v : ℕ) (es : List Entry) → length es ≤ length (insertEntry k v es)
+insert-least k v [] = omega arith
+insert-least k v (e ∷ es) =
+    cases (ltb (e .key) k)
+    (λ t. rw t (omega (arith, insert-least k v es)))
+    (λ t. cases (eqb (e .key) k) (λ q. rw (t, q) (omega arith)) (λ q. rw (t, q) (omega arith)))
+
+pub delete-most : (k : ℕ) (es : List Entry) → length (deleteEntry k es) ≤ length es
+delete-most k [] = omega arith
+delete-most k (e ∷ es) =
+    cases (ltb (e .key) k)
+    (λ t. rw t (omega (arith, delete-most k es)))
+    (λ t. cases (eqb (e .key) k) (λ q. rw (t, q) (omega arith)) (λ q. rw (t, q) (omega arith)))
+
+pub delete-least : (k : ℕ) (es : List Entry) → length es ≤ suc (length (deleteEntry k es))
+delete-least k [] = omega arith
+delete-least k (e ∷ es) =
+    cases (ltb (e .key) k)
+    (λ t. rw t (omega (arith, delete-least k es)))
+    (λ t. cases (eqb (e .key) k) (λ q. rw (t, q) (omega arith)) (λ q. rw (t, q) (omega arith)))
+
+-- ---- a node written anew
+-- an entry above all others goes to the end
+pub insert-end : (ps : List Entry) (e : Entry) (es : List Entry) → Rising (ps ++ e ∷ es) → insertEntry (e .key) (e .value) ps ≡ ps ++ (e ∷ [])
+insert-end [] e es h = refl
+insert-end (p ∷ ps) e es h =
+    rw (lt-ltb (p .key) (e .key) (above-at (p .key) ps e es h), insert-end ps e es (above-rising (p .key) (ps ++ e ∷ es) h))
+
+-- the inserts of a rising list, behind entries that are there
+pub inserts : (l : ℕ) (es ps : List Entry) → Rising (ps ++ es) → length (ps ++ es) ≤ 16
+    → foldl apply (view l ps) (map inserted es) ≡ view l (ps ++ es)
+inserts l [] ps h g = rw append-nil
+inserts l (e ∷ es) ps h g =
+    let a : ps ++ (e ∷ []) ++ es ≡ ps ++ e ∷ es = append-assoc ps (e ∷ []) es in
+    let n : length (ps ++ (e ∷ [])) ≤ 16 = omega (arith, simp length-append at g, length-append ps (e ∷ [])) in
+    let one : apply (view l ps) (inserted e) ≡ view l (ps ++ (e ∷ [])) = rw (insert-end ps e es h, le-leb (length (ps ++ (e ∷ []))) 16 n) in
+    ap (λ (s : View). foldl apply s (map inserted es)) one ∙ inserts l es (ps ++ (e ∷ [])) (rw a h) (rw a g) ∙ rw a
+
+-- from any view, a reset and the inserts of a rising list of at most 16 entries give that list
+pub rebuilt : (w : View) (l : ℕ) (es : List Entry) → Rising es → length es ≤ 16 → foldl apply w (anew l es) ≡ view l es
+rebuilt w l es h g = inserts l es [] h g
+
+-- ---- views whose entries rise, and whose entries are at most 16
+abbrev pub RisingView : View → Type 0
+RisingView untouched = Unit {0}
+RisingView broken = Unit {0}
+RisingView (view l es) = Rising es
+
+abbrev pub FewView : View → Type 0
+FewView untouched = Unit {0}
+FewView broken = Unit {0}
+FewView (view l es) = length es ≤ 16
+
+within-rising : (l : ℕ) (es : List Entry) → Rising es → RisingView (within l es)
+within-rising l es h = cases (leb (length es) 16) (λ t. rw t h) (λ t. rw t tt)
+
+within-few : (l : ℕ) (es : List Entry) → FewView (within l es)
+within-few l es = cases (leb (length es) 16) (λ t. rw t (leb-true (length es) 16 t)) (λ t. rw t tt)
+
+-- an update keeps both
+pub apply-rising : (w : View) (u : Update) → RisingView w → RisingView (apply w u)
+apply-rising w (Reset l) h = tt
+apply-rising untouched (Insert k v) h = tt
+apply-rising untouched (Delete k) h = tt
+apply-rising broken (Insert k v) h = tt
+apply-rising broken (Delete k) h = tt
+apply-rising (view l es) (Insert k v) h = within-rising l (insertEntry k v es) (insert-rising k v es h)
+apply-rising (view l es) (Delete k) h = delete-rising k es h
+
+pub apply-few : (w : View) (u : Update) → FewView w → FewView (apply w u)
+apply-few w (Reset l) h = omega arith
+apply-few untouched (Insert k v) h = tt
+apply-few untouched (Delete k) h = tt
+apply-few broken (Insert k v) h = tt
+apply-few broken (Delete k) h = tt
+apply-few (view l es) (Insert k v) h = within-few l (insertEntry k v es)
+apply-few (view l es) (Delete k) h = omega (arith, delete-most k es)
+
+-- and so do updates one after the other
+pub updates-rising : (w : View) (us : List Update) → RisingView w → RisingView (foldl apply w us)
+updates-rising w [] h = h
+updates-rising w (u ∷ us) h = updates-rising (apply w u) us (apply-rising w u h)
+
+pub updates-few : (w : View) (us : List Update) → FewView w → FewView (foldl apply w us)
+updates-few w [] h = h
+updates-few w (u ∷ us) h = updates-few (apply w u) us (apply-few w u h)

@@ -1,0 +1,16 @@
+pub mod Entries
+pub mod Folds
+pub mod Tables
+pub mod Groups
+pub mod Rooms
+pub mod Meanings
+pub mod Examples
+pub mod NodeLaws
+pub mod FoldLaws
+pub mod ViewSteps
+pub mod BufferLaws
+pub mod WellLaws
+pub mod ViewLaws
+pub mod StoreLaws
+pub mod TableLaws
+pub mod ReadLaws

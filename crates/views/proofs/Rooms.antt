@@ -1,0 +1,82 @@
+-- Which blocks no list names after a commit: those that were unnamed and not written, after a snapshot all that were not written. Assumes nothing.
+use mathlib.Core.Path.{_≡_, ap, _∙_}
+use mathlib.Core.Bool.{Bool, false}
+use mathlib.Core.List.{List, [], _∷_, _++_, foldl}
+use Prim.Native.Nat.{ℕ, suc, _≤_, _<_}
+use native.Mathlib.Omega.{arith}
+use lib.Dec.{eqb}
+use Rattle.lists.specs.Lists.{any, All, none, more}
+use Rattle.lists.proofs.Tests.{cases}
+use Rattle.lists.proofs.Alls.{All-map, All-zip, All-append}
+use Rattle.lists.proofs.Flats.{All-flat}
+use Rattle.chip.specs.Geometry.{Geometry}
+use Rattle.chip.specs.Chip.{inBlock}
+use Rattle.pages.specs.declared.unit.Update.{Update}
+use Rattle.pages.specs.declared.unit.Update.the-variants.{Insert, Delete, Reset}
+use Rattle.pages.specs.declared.unit.Decoded.{Decoded}
+use Rattle.pages.specs.declared.unit.Decoded.the-variants.{Good, Bad}
+use Rattle.pages.specs.Steps.{Live, commit}
+use Rattle.views.specs.Table.{Event, eventsOf, events, joins, listed, Node, turnUnit, turn}
+use Rattle.views.specs.Groups.{Group, eventsIn}
+use Rattle.views.proofs.Folds.{events-at}
+use Rattle.views.proofs.Groups.{Without, Distinct, by-groups, list-anew}
+
+-- no list of a node names a page of block b
+abbrev pub Unlisted : Geometry → ℕ → (ℕ → Node) → ℕ → Type 0
+Unlisted g limit T b = (n : ℕ) → n < limit → any (inBlock g b) (T n .pages) ≡ false
+
+-- no page of commit c stands in block b
+abbrev pub Outside : Geometry → ℕ → List Live → ℕ → Type 0
+Outside g c xs b = All (λ (x : Live). commit x ≡ c → inBlock g b (x .place) ≡ false) xs
+
+-- ---- pages that are not hit, in lists that name no page that is
+module _ (hit : ℕ → Bool) where
+  joins-miss : (p : ℕ) (ps : List ℕ) → hit p ≡ false → any hit ps ≡ false → any hit (joins p ps) ≡ false
+  joins-miss p [] h k = rw h
+  joins-miss p (q ∷ qs) h k = cases (eqb p q) (λ t. rw t k) (λ t. rw (t, h) k)
+
+  listed-miss : (u : Update) (p : ℕ) (ps : List ℕ) → hit p ≡ false → any hit ps ≡ false → any hit (listed u p ps) ≡ false
+  listed-miss (Insert k v) p ps h m = joins-miss p ps h m
+  listed-miss (Delete k) p ps h m = joins-miss p ps h m
+  listed-miss (Reset l) p ps h m = rw h
+
+  turn-miss : (n p : ℕ) (d : Decoded) (s : Node) → hit p ≡ false → any hit (s .pages) ≡ false → any hit (turnUnit n p d s .pages) ≡ false
+  turn-miss n p (Good u) s h m = cases (eqb (u .node) n) (λ t. rw t (listed-miss (u .update) p (s .pages) h m)) (λ t. rw t m)
+  turn-miss n p Bad s h m = m
+
+  fold-miss : (n : ℕ) {es : List Event} (s : Node) → All (λ (e : Event). hit (e .place) ≡ false) es → any hit (s .pages) ≡ false
+      → any hit (foldl (turn n) s es .pages) ≡ false
+  fold-miss n s none m = m
+  fold-miss n s (more {x = e} h hs) m = fold-miss n (turn n s e) hs (turn-miss n (e .place) (e .unit) s h m)
+
+  places-miss : (limit : ℕ) {news : List Live} → All (λ (x : Live). hit (x .place) ≡ false) news
+      → All (λ (e : Event). hit (e .place) ≡ false) (events limit news)
+  places-miss limit h = All-flat (eventsOf limit) (All-map (λ x m. All-map (λ e k. ap hit k ∙ m) (events-at limit x)) h)
+
+  -- a block that no list names and that gets no page stays so
+  pub still-unlisted : (limit n : ℕ) (s : Node) (news : List Live) → All (λ (x : Live). hit (x .place) ≡ false) news
+      → any hit (s .pages) ≡ false → any hit (foldl (turn n) s (events limit news) .pages) ≡ false
+  still-unlisted limit n s news h m = fold-miss n s (places-miss limit h) m
+
+  -- a snapshot: every node with a list is written anew; then the lists name only pages that were written
+  pub snapshot-unlisted : (n : ℕ) (s : Node) (qs : List Group) → Distinct qs
+      → All (λ (q : Group). hit (q .place) ≡ false) qs
+      → All (λ (q : Group). (l : ℕ) × (us : List Update) × (q .updates ≡ Reset l ∷ us)) qs
+      → (Without n qs → s .pages ≡ []) → any hit (foldl (turn n) s (eventsIn qs) .pages) ≡ false
+  snapshot-unlisted n s qs d h a k =
+      by-groups (λ (r : Node). any hit (r .pages) ≡ false) n qs s d
+      (All-zip (λ q m r e. let o = list-anew (q .place) s (r .0) (r .1) in rw (r .2, o, m)) h a)
+      (λ w. rw (k w))
+
+-- ---- blocks
+-- a block with no new page holds no page of the new commit
+pub outside-new : (g : Geometry) (c : ℕ) (xs news : List Live) (b : ℕ) → All (λ (x : Live). commit x ≤ c) xs
+    → All (λ (x : Live). inBlock g b (x .place) ≡ false) news → Outside g (suc c) (xs ++ news) b
+outside-new g c xs news b h k = All-append (All-map (λ x l e. absurd (omega arith)) h) (All-map (λ x l e. l) k)
+
+-- blocks that no list named and that get no new page are still unnamed, and outside the new commit
+pub room-kept : (g : Geometry) (limit c : ℕ) (T : ℕ → Node) (xs news : List Live) (bs : List ℕ) → All (Unlisted g limit T) bs
+    → All (λ (x : Live). commit x ≤ c) xs → All (λ (b : ℕ). All (λ (x : Live). inBlock g b (x .place) ≡ false) news) bs
+    → All (Unlisted g limit (λ (n : ℕ). foldl (turn n) (T n) (events limit news))) bs × All (Outside g (suc c) (xs ++ news)) bs
+room-kept g limit c T xs news bs u h k =
+    (All-zip (λ b un a n l. still-unlisted (inBlock g b) limit n (T n) news a (un n l)) u k, All-map (λ b a. outside-new g c xs news b h a) k)

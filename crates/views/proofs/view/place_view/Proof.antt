@@ -1,0 +1,52 @@
+use mathlib.Core.Path.{sym}
+use Rattle.views.specs.FoldCode.{viewOf}
+use Rattle.views.proofs.ViewSteps.{place-on, place-off}
+use borrow.Author.Needs.{needs}
+use Rattle.views.proofs.view.place_view.Statement.{statement}
+use Rattle.views.proofs.view.place_view.Tie as tie
+use Rattle.views.proofs.view.place_view.Reads as reads
+use Rattle.views.proofs.view.place_view.Lts as lts
+use Rattle.views.proofs.view.page_view.Reads as page-view-reads
+
+mul-a : tie.Need-mul-a
+mul-a c = search needs
+
+add-e : tie.Need-add-e
+add-e c = search needs
+
+sub-page-view : tie.Need-sub-page-view
+sub-page-view c = search needs
+
+part-page-view-start : tie.Need-part-page-view-start
+part-page-view-start c = search needs
+
+part-page-view-end : tie.Need-part-page-view-end
+part-page-view-end c = search needs
+
+page-view-requires : tie.Need-page-view-requires
+page-view-requires c κs = search needs
+
+returns : tie.Need-returns
+returns c =
+    let t = c .before .before in
+    let a = t .before .before .args in
+    place-on (a .limit) (a .node) (viewOf (a .f)) (a .image .now) (a .at) (c .page-view .result) (t .if1 .taken) (c .page-view .ensures)
+
+returns-2 : tie.Need-returns-2
+returns-2 c =
+    let k = c .before .before in
+    let a = k .args in
+    record { is = sym (place-off (a .limit) (a .node) (viewOf (a .f)) (a .image .now) (a .at) (c .if1 .left)); room = k .pre .0 }
+
+pub place-view-spec : {M : Type 1} → statement M
+place-view-spec =
+    tie.close
+    (tie.spec
+    mul-a
+    add-e
+    sub-page-view
+    part-page-view-start
+    part-page-view-end
+    page-view-requires
+    returns
+    returns-2)

@@ -1,0 +1,9 @@
+pub mod Nodes
+pub mod Table
+pub mod Groups
+pub mod NodeCode
+pub mod FoldCode
+pub mod Stored
+pub mod Pass
+pub mod Well
+pub mod Read
