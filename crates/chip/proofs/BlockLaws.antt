@@ -4,20 +4,17 @@ use mathlib.Core.List.{List, [], _++_, append-nil}
 use Prim.Native.Nat.{ℕ, zero, suc, _+_, _*_, _-_, _≤_, _<_}
 use native.Mathlib.Numerals.{add-one}
 use native.Mathlib.Omega.{arith}
-use lib.ListN.{length, take, drop, drop-of-length-le}
+use lib.ListN.{length, take, drop}
 use lib.Seq.{drop-length}
 use Rattle.lists.specs.Lists.{part, patch, repeat}
-use Rattle.lists.proofs.Parts.{lent, length-part, repeat-none, repeat-next}
-use Rattle.chip.proofs.PageLaws.{copied}
+use Rattle.lists.proofs.Parts.{copied-part, repeat-none, repeat-next}
 
 -- the next page of k bytes copied into a block whose first i pages are filled
 pub fill-more : (page before block last : List ℕ) (i k : ℕ) → length page ≡ k → block ≡ repeat i page ++ drop (i * k) before → i * k + k ≤ length block
     → last ≡ take (length page) page ++ drop (length page) (part (i * k) (i * k + k - i * k) block)
     → patch block (i * k) (i * k + k - i * k) last ≡ repeat (i + 1) page ++ drop ((i + 1) * k) before
 fill-more page before block last i k h e l c =
-    lent (λ (x : List ℕ). page ++ drop k x) block (i * k) k last (copied k page (part (i * k) (i * k + k - i * k) block) last h c)
-    ∙ ap (λ (x : List ℕ). patch block (i * k) k (page ++ x)) (drop-of-length-le (part (i * k) k block) {i = k} (omega (arith, length-part block (i * k) k l)))
-    ∙ ap (patch block (i * k) k) (append-nil page)
+    copied-part block (i * k) k page last l h c
     ∙ ap (λ (x : List ℕ). patch x (i * k) k page) e
     ∙ repeat-next page before i k h
     ∙ ap (λ (n : ℕ). repeat n page ++ drop (n * k) before) (sym (add-one i))

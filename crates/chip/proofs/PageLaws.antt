@@ -46,10 +46,6 @@ pub free-end : (xs : List ℕ) (i : ℕ) → length xs ≤ i → isFree (drop i 
 unfolding isFree
 free-end xs i h = rw (drop-of-length-le xs h)
 
--- a list of k bytes copied over the front of another
-pub copied : (k : ℕ) (src dst last : List ℕ) → length src ≡ k → last ≡ take (length src) src ++ drop (length src) dst → last ≡ src ++ drop k dst
-copied k src dst last h e = e ∙ rw (take-length src, h)
-
 -- a byte of a torn erase that is not 0 stays
 pub mend-other : (n : ℕ) → (n ≡ 0 → ⊥) → mend n ≡ n
 mend-other zero h = absurd (h refl)

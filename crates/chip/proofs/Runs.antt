@@ -18,7 +18,7 @@ use Rattle.chip.specs.declared.power.Power.the-variants.{Left, Gone}
 use Rattle.chip.specs.Geometry.{Geometry, pageSize}
 use Rattle.chip.specs.Power.{spend, outcome, effect, done, isGone}
 use Rattle.chip.specs.Page.{Page, blank, tornPage, marked, programmed}
-use Rattle.chip.specs.Chip.{Op, program, mark, erase, whole, tear, filled, inBlock, touches, Machine, step, run}
+use Rattle.chip.specs.Chip.{Op, program, mark, erase, whole, tear, filled, inBlock, touches, Machine, machine, step, run, Stepped, Ran}
 use Rattle.chip.proofs.PageLaws.{length-blank, length-torn, length-marked, length-programmed}
 use Rattle.chip.proofs.ImageLaws.{effect-has}
 
@@ -145,6 +145,22 @@ module _ (g : Geometry) (torn : List ℕ) where
           → All (λ (o : Op). (ps : List Page) → At n x ps → At n x (whole g o ps) × At n x (tear g torn o ps)) os
       map-all none = none
       map-all (more {x = o} t ts) = more (λ ps b. (whole-other o n x ps t b, tear-other o n x ps t b)) (map-all ts)
+
+-- ---- runs on a whole image, one after the other
+module _ (g : Geometry) (torn : List ℕ) where
+  pub ran-none : (p : Power) (xs : List ℕ) → Ran g torn [] p p xs xs
+  unfolding run
+  ran-none p xs = record { is = refl; size = refl }
+
+  pub ran-append : (os qs : List Op) (p q r : Power) (xs ys zs : List ℕ) → Ran g torn os p q xs ys → Ran g torn qs q r ys zs → Ran g torn (os ++ qs) p r xs zs
+  ran-append os qs p q r xs ys zs a b =
+      record {
+        is = b .is ∙ ap (λ (m : Machine). run g torn m qs) (a .is) ∙ sym (run-append g torn (machine g p xs) os qs);
+        size = b .size ∙ a .size;
+      }
+
+  pub ran-one : (o : Op) (p q : Power) (xs ys : List ℕ) → Stepped g torn o p q xs ys → Ran g torn (o ∷ []) p q xs ys
+  ran-one o p q xs ys s = record { is = s .is ∙ sym (run-one g torn (machine g p xs) o); size = s .size }
 
 -- ---- every page keeps its size
 abbrev pub Sized : Geometry → Page → Type 0

@@ -106,3 +106,8 @@ machine g p image = record { power = p; pages = pagesOf g image }
 pub record Stepped (g : Geometry) (torn : List ℕ) (o : Op) (p r : Power) (before after : List ℕ) : Type 0 where
   pub is : machine g r after ≡ step g torn (machine g p before) o
   pub size : length after ≡ length before
+
+-- a list of operations on a whole image
+pub record Ran (g : Geometry) (torn : List ℕ) (os : List Op) (p r : Power) (before after : List ℕ) : Type 0 where
+  pub is : machine g r after ≡ run g torn (machine g p before) os
+  pub size : length after ≡ length before

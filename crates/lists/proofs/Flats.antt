@@ -26,6 +26,11 @@ module _ {A : Type 0} where
   getD-tab f k (suc m) (suc n) d h = getD-tab f (suc k) m n d (omega arith) ∙ ap f (let e : suc k + n ≡ k + suc n = omega arith in e)
 
   -- all of them pass if each does, and each if all do
+  -- one more at the end
+  pub tab-last : (f : ℕ → A) (k m : ℕ) → tab k (suc m) f ≡ tab k m f ++ (f (k + m) ∷ [])
+  tab-last f k zero = let e : k + 0 ≡ k = omega arith in rw e
+  tab-last f k (suc m) = let e : suc k + m ≡ k + suc m = omega arith in ap (λ (l : List A). f k ∷ l) (tab-last f (suc k) m ∙ rw e)
+
   pub all-tab : (p : A → Bool) (f : ℕ → A) (k m : ℕ) → ((n : ℕ) → n < k + m → p (f n) ≡ true) → all p (tab k m f) ≡ true
   all-tab p f k zero h = refl
   all-tab p f k (suc m) h = rw (h k (omega arith), all-tab p f (suc k) m (λ n l. h n (omega arith)))

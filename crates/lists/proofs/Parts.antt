@@ -5,7 +5,7 @@ use Prim.Native.Nat.{ℕ, zero, suc, _+_, _*_, _-_, _≤_, _<_}
 use native.Mathlib.Nat.{suc-mul, zero-mul, add-mul, add-sub-cancel-left, not-suc-le-zero, le-of-lt}
 use native.Mathlib.Numerals.{add-one}
 use native.Mathlib.Omega.{arith}
-use lib.ListN.{length, take, drop, set, getD, replicate, length-append, length-drop, take-append-drop, length-replicate}
+use lib.ListN.{length, take, drop, set, getD, replicate, length-append, length-drop, take-append-drop, length-replicate, drop-of-length-le}
 use lib.Seq.{take-at, drop-at, length-take-le, take-append-le, drop-append-le, take-take, drop-drop, take-length, drop-length, drop-cons, set-at, append-snoc, take-suc}
 use Rattle.lists.specs.Lists.{All, none, more, flat, repeat, part, patch, cut, modify}
 use Rattle.lists.proofs.Alls.{All-head, All-tail}
@@ -180,3 +180,15 @@ module _ {A : Type 0} where
       e ∙ ap (λ (m : ℕ). take m s ++ drop m d) q
       ∙ ap₂ (λ (m k : ℕ). take m s ++ drop k d) (sym hs) (sym hd)
       ∙ ap₂ (λ (x y : List A). x ++ y) (take-length s) (drop-length d) ∙ append-nil s
+
+  -- ---- what a copy of a whole list leaves: over the front of another, and over a part
+  pub copied : (k : ℕ) (src dst last : List A) → length src ≡ k → last ≡ take (length src) src ++ drop (length src) dst → last ≡ src ++ drop k dst
+  copied k src dst last h e = e ∙ rw (take-length src, h)
+
+  pub copied-part : (xs : List A) (a k : ℕ) (ys last : List A) → a + k ≤ length xs → length ys ≡ k
+      → last ≡ take (length ys) ys ++ drop (length ys) (part a (a + k - a) xs) → patch xs a (a + k - a) last ≡ patch xs a k ys
+  copied-part xs a k ys last h l e =
+      let w : length (part a k xs) ≤ k = omega (arith, length-part xs a k h) in
+      lent (λ (x : List A). ys ++ drop k x) xs a k last (copied k ys (part a (a + k - a) xs) last l e)
+      ∙ ap (λ (x : List A). patch xs a k (ys ++ x)) (drop-of-length-le (part a k xs) {i = k} w)
+      ∙ ap (patch xs a k) (append-nil ys)

@@ -12,6 +12,7 @@ use borrow.Author.Tests.{lt-ltb, le-leb, ltb-true, leb-true}
 use Rattle.lists.specs.Lists.{all, All, flat, part, patch}
 use Rattle.lists.proofs.Tests.{cases, and-left, and-right}
 use Rattle.lists.proofs.Alls.{All-replicate, All-all}
+use Rattle.lists.proofs.Parts.{copied-part}
 use Rattle.chip.specs.Geometry.{Geometry}
 use Rattle.chip.specs.Page.{isFree}
 use Rattle.pages.specs.declared.unit.Unit.{Unit}
@@ -20,7 +21,7 @@ use Rattle.pages.specs.declared.header.Head.{Head}
 use Rattle.pages.specs.declared.header.Header.the-variants.{Obeys, Breaks}
 use Rattle.pages.specs.Units.{encode, decodes, Valid}
 use Rattle.pages.specs.Data.{headOf, obeys, headerOf, unitBytes, headBytes, laid, dataOf}
-use Rattle.pages.proofs.UnitLaws.{word-back, half-back, byte-below, word-below, half-below, copied-part, decodes-units}
+use Rattle.pages.proofs.UnitLaws.{word-back, half-back, byte-below, word-below, half-below, decodes-units}
 
 -- ---- the own rules one by one
 -- the rules of a page whose data is d, with header h

@@ -178,13 +178,3 @@ decodes-units {limit} rest (more {x = u} {xs = us} h hs) =
     let r : List ℕ = flat encode us ++ rest in
     ap (λ (b : List ℕ). decode limit b ∷ decodes limit (length us) (drop 12 b)) (append-assoc (encode u) (flat encode us) rest)
     ∙ ap₂ _∷_ (decode-front limit u r h) (ap (decodes limit (length us)) (drop-at (encode u) r 12 (length-encode u)) ∙ decodes-units rest hs)
-
--- ---- a part that is written whole
--- k bytes copied into the part from a to a + k
-pub copied-part : (xs : List ℕ) (a k : ℕ) (ys last : List ℕ) → a + k ≤ length xs → length ys ≡ k
-    → last ≡ take (length ys) ys ++ drop (length ys) (part a (a + k - a) xs) → patch xs a (a + k - a) last ≡ patch xs a k ys
-copied-part xs a k ys last h l e =
-    let w : length (part a k xs) ≤ length ys = omega (arith, length-part xs a k h) in
-    ap (patch xs a (a + k - a)) e
-    ∙ ap (λ (n : ℕ). patch xs a n (take (length ys) ys ++ drop (length ys) (part a n xs))) (add-sub-cancel-left a k)
-    ∙ ap (patch xs a k) (ap₂ _++_ (take-length ys) (drop-of-length-le (part a k xs) w) ∙ append-nil ys)

@@ -16,11 +16,11 @@ use Rattle.chip.specs.declared.power.Power.the-variants.{Left, Gone}
 use Rattle.chip.specs.Geometry.{Geometry, pageSize}
 use Rattle.chip.specs.Power.{spend, outcome, effect}
 use Rattle.chip.specs.Page.{Page, isLive, blank, marked, programmed}
-use Rattle.chip.specs.Chip.{Op, program, mark, Machine, step, run, Operated, pagesOf}
+use Rattle.chip.specs.Chip.{Op, program, mark, Machine, step, run, Operated, Ran, pagesOf}
 use Rattle.chip.proofs.ImageLaws.{effect-has, effect-modify}
 use Rattle.chip.proofs.PageLaws.{length-marked, length-programmed}
 use Rattle.chip.proofs.Marks.{blank-quiet, first-quiet, second-quiet, third-live}
-use Rattle.pages.specs.Write.{writes, markedBy, programmedBy, written, spent3, Written, Ran}
+use Rattle.pages.specs.Write.{writes, markedBy, programmedBy, written, spent3, Written}
 
 module _ (g : Geometry) (torn bytes : List ℕ) where
   -- three operations on one part, one after the other

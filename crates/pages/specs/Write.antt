@@ -2,14 +2,14 @@
 use mathlib.Core.Path.{_≡_}
 use mathlib.Core.List.{List, [], _∷_}
 use Prim.Native.Nat.{ℕ}
-use lib.ListN.{length, take, getD}
+use lib.ListN.{take, getD}
 use Rattle.chip.specs.declared.page.Mark.{Mark}
 use Rattle.chip.specs.declared.page.Mark.the-variants.{Used, Valid}
 use Rattle.chip.specs.declared.power.Power.{Power}
 use Rattle.chip.specs.Geometry.{Geometry}
 use Rattle.chip.specs.Power.{spend, effect}
 use Rattle.chip.specs.Page.{Page, marked, programmed}
-use Rattle.chip.specs.Chip.{Op, program, mark, Machine, machine, run}
+use Rattle.chip.specs.Chip.{Op, program, mark}
 
 -- the operations that write page p
 abbrev pub writes : ℕ → List ℕ → List Op
@@ -31,11 +31,7 @@ written g torn bytes p x =
 abbrev pub spent3 : Power → Power
 spent3 p = spend (spend (spend p))
 
--- what a function that writes a page ensures, of the page and of the whole image
+-- what a function that writes a page ensures of it
 pub record Written (g : Geometry) (torn bytes : List ℕ) (p r : Power) (before after : List ℕ) : Type 0 where
   pub power : r ≡ spent3 p
   pub page : after ≡ written g torn bytes p before
-
-pub record Ran (g : Geometry) (torn : List ℕ) (os : List Op) (p r : Power) (before after : List ℕ) : Type 0 where
-  pub is : machine g r after ≡ run g torn (machine g p before) os
-  pub size : length after ≡ length before

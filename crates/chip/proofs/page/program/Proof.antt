@@ -2,7 +2,7 @@ use borrow.Author.Needs.{needs}
 use mathlib.Core.Path.{sym, _∙_}
 use lib.ListN.{take}
 use lib.Seq.{length-take-le}
-use Rattle.chip.proofs.PageLaws.{copied}
+use Rattle.lists.proofs.Parts.{copied}
 use Rattle.chip.proofs.page.program.Statement.{statement}
 use Rattle.chip.proofs.page.program.Tie as tie
 use Rattle.chip.proofs.page.program.Reads as reads

@@ -1,7 +1,8 @@
 use borrow.Author.Needs.{needs}
 use mathlib.Core.Path.{ap, _∙_}
 use lib.ListN.{length}
-use Rattle.pages.proofs.UnitLaws.{copied-part, length-encode}
+use Rattle.lists.proofs.Parts.{copied-part}
+use Rattle.pages.proofs.UnitLaws.{length-encode}
 use Rattle.pages.proofs.unit.put_unit.Statement.{statement}
 use Rattle.pages.proofs.unit.put_unit.Tie as tie
 use Rattle.pages.proofs.unit.put_unit.Reads as reads

@@ -1,0 +1,73 @@
+use mathlib.Core.Path.{_≡_}
+use Prim.Native.Nat.{_≤_, _-_}
+use native.Mathlib.Omega.{arith}
+use Rattle.lists.specs.Lists.{tab}
+use Rattle.chip.specs.Geometry.{small}
+use Rattle.chip.specs.Chip.{erase, Ran}
+use Rattle.chip.proofs.Runs.{ran-none}
+use Rattle.log.proofs.FormatCode.{erased-more}
+use borrow.Author.Needs.{needs}
+use Rattle.log.proofs.format.erase_all.Statement.{statement}
+use Rattle.log.proofs.format.erase_all.Tie as tie
+use Rattle.log.proofs.format.erase_all.Reads as reads
+use Rattle.log.proofs.format.erase_all.Lts as lts
+use Rattle.chip.proofs.image.erase.Reads as erase-reads
+
+abbrev Inv-loop : tie.InvT-loop
+Inv-loop image₀ blocks torn left₀ b₀ image left b = (b ≤ blocks) × Ran small torn (tab 0 b erase) left₀ left image₀ image
+
+abbrev μ-loop : tie.MeasureT-loop
+μ-loop image₀ blocks torn left₀ b₀ image left b = blocks - b
+
+-- src/format.rt:25:5
+loop-holds : tie.Need-loop-holds Inv-loop μ-loop
+loop-holds c =
+    let a = c .before .before .args in
+    (search needs, ran-none small (a .torn .now) (a .power) (a .image .now))
+
+-- src/format.rt:26:9
+erase-requires : tie.Need-erase-requires Inv-loop μ-loop
+erase-requires c κs = search needs
+
+-- src/format.rt:27:9
+add-b : tie.Need-add-b Inv-loop μ-loop
+add-b c = search needs
+
+-- src/format.rt:25:5
+loop-less : tie.Need-loop-less Inv-loop μ-loop
+loop-less c = search needs
+
+-- src/format.rt:25:5
+loop-again : tie.Need-loop-again Inv-loop μ-loop
+loop-again c =
+    let e = c .before .before in
+    let l = e .before .before .before .loop in
+    let a = e .before .before .before .before .before .before .args in
+    (search needs, erased-more small (a .torn .now) (l .b) (a .power) (l .left) (e .erase .result) (a .image .now) (l .image) _ (l .inv .1) (e .erase .ensures))
+
+-- src/format.rt:19:1
+same-length : tie.Need-same-length Inv-loop μ-loop
+same-length c = search needs
+
+-- src/format.rt:19:1
+returns : tie.Need-returns Inv-loop μ-loop
+returns c =
+    let l = c .before .loop in
+    let a = c .before .before .before .before .args in
+    let z : l .b ≡ a .blocks = omega arith in
+    let r = l .inv .1 in
+    rw z at r
+
+pub erase-all-spec : {M : Type 1} → statement M
+erase-all-spec =
+    tie.close
+    (tie.spec
+    Inv-loop
+    μ-loop
+    loop-holds
+    erase-requires
+    add-b
+    loop-less
+    loop-again
+    same-length
+    returns)

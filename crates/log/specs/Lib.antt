@@ -1,0 +1,4 @@
+pub mod Mount
+pub mod Format
+pub mod Commit
+pub mod Plan

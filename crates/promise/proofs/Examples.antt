@@ -1,0 +1,134 @@
+-- The plain store computed on short lists, that of the bench program first; and the same list on the small store. Assumes nothing.
+use mathlib.Core.Path.{_≡_, refl}
+use mathlib.Core.Bool.{Bool, true, false}
+use mathlib.Core.List.{List, [], _∷_, _++_, map}
+use Prim.Native.Nat.{ℕ, zero, suc}
+use lib.ListN.{replicate}
+use Rattle.chip.specs.Geometry.{small}
+use Rattle.views.specs.Nodes.{Entry, entry, untouched, view}
+use Rattle.tree.specs.Tree as T
+use Rattle.promise.specs.Plain.{Call, formats, inserts, deletes, looksUp, commits, mounts, Answer, refuses, accepted, finds, Plain, Fed, Compared, plainRun, isChipSize, isTornSize, hasBlocks, inserting, verdict, leaf, fresh, updated, committed, mounted, finished, off, cutOff, acceptedAnswer}
+use Rattle.promise.specs.Calls.{stateOf}
+use Rattle.promise.specs.Steps.{Act, format, insert, lookUp, commit, mount, Step, Formatted, Agrees}
+use Rattle.promise.proofs.Promise.{promise}
+use Rattle.promise.proofs.Sample.{sample, SampleState, SampleImage, act, stepsOf, runs, allowed}
+
+-- the length of an image of 3 blocks, and of a torn slice
+abbrev pub image : ℕ
+image = 50688
+
+abbrev pub page : ℕ
+page = 528
+
+-- a call whose answer was not 10, and one whose answer was
+abbrev pub call : Call → Fed
+call c = record { call = c; ten = false }
+
+abbrev pub ten : Call → Fed
+ten c = record { call = c; ten = true }
+
+-- off, before any format
+abbrev pub before : Plain
+before = record { kept = []; present = []; pending = 0; number = 0; on = false; blocks = 0 }
+
+abbrev pub answerOf : Compared → Answer
+answerOf r = r .answer
+
+abbrev pub numberOf : Compared → ℕ
+numberOf r = r .number
+
+abbrev pub answers : List Bool → List Fed → List Answer
+answers cs fs = map answerOf (plainRun small before cs fs)
+
+-- format; insert (7, 99); look up; a commit that is cut at once; look up; mount; look up
+abbrev pub bench : List Fed
+bench =
+    call (formats 2000 image page) ∷ call (inserts 7 99 image) ∷ call (looksUp 7 image) ∷ ten (commits 0 image page) ∷ call (looksUp 7 image)
+    ∷ call (mounts 255 image page) ∷ call (looksUp 7 image) ∷ []
+
+-- the same with a commit that has power enough
+abbrev pub whole : List Fed
+whole =
+    call (formats 2000 image page) ∷ call (inserts 7 99 image) ∷ call (commits 2000 image page) ∷ call (mounts 255 image page) ∷ call (looksUp 7 image) ∷ []
+
+-- n inserts, of keys n - 1 down to 0
+abbrev pub insertions : ℕ → List Fed
+insertions zero = []
+insertions (suc n) = call (inserts n n image) ∷ insertions n
+
+-- entries of keys n to n + c - 1
+abbrev pub entries : ℕ → ℕ → List Entry
+entries n zero = []
+entries n (suc c) = entry n n ∷ entries (suc n) c
+
+-- a state on a chip of 3 blocks with one update pending: commit number G, and a full leaf where the last of the 24 numbers is taken
+abbrev pub late : ℕ → Plain
+late G =
+    let t = view 0 (entries 0 16) ∷ replicate 22 untouched ++ (view 0 [] ∷ []) in
+    record { kept = t; present = t; pending = 1; number = G; on = true; blocks = 3 }
+
+abbrev pub lateAnswers : ℕ → List Fed → List Answer
+lateAnswers G fs = map answerOf (plainRun small (late G) [] fs)
+
+-- the bench program's list, with either choice for its cut commit; the numbers kept; 3 at the 17th update; a mount drops what is pending; 4; 2 before 1;
+-- 1 for 2 blocks, for 33 and for a torn slice of 527 bytes; a commit with nothing pending isn't cut; 6 only with updates pending; 5
+pub examples :
+    (answers (false ∷ []) bench ≡ accepted ∷ accepted ∷ finds 99 ∷ refuses 10 ∷ refuses 2 ∷ accepted ∷ refuses 4 ∷ [])
+    × (answers (true ∷ []) bench ≡ accepted ∷ accepted ∷ finds 99 ∷ refuses 10 ∷ refuses 2 ∷ accepted ∷ finds 99 ∷ [])
+    × (map numberOf (plainRun small before (false ∷ []) bench) ≡ 1 ∷ 1 ∷ 1 ∷ 1 ∷ 1 ∷ 1 ∷ 1 ∷ [])
+    × (map numberOf (plainRun small before (true ∷ []) bench) ≡ 1 ∷ 1 ∷ 1 ∷ 2 ∷ 2 ∷ 2 ∷ 2 ∷ [])
+    × (answers [] whole ≡ accepted ∷ accepted ∷ accepted ∷ accepted ∷ finds 99 ∷ [])
+    × (answers [] (call (formats 2000 image page) ∷ insertions 17) ≡ accepted ∷ replicate 16 accepted ++ (refuses 3 ∷ []))
+    × (answers [] (call (formats 2000 image page) ∷ call (inserts 7 99 image) ∷ call (mounts 255 image page) ∷ call (looksUp 7 image) ∷ [])
+    ≡ accepted ∷ accepted ∷ accepted ∷ refuses 4 ∷ [])
+    × (answers [] (call (formats 2000 image page) ∷ call (deletes 7 image) ∷ call (inserts 7 99 image) ∷ call (deletes 7 image) ∷ call (looksUp 7 image) ∷ [])
+    ≡ accepted ∷ refuses 4 ∷ accepted ∷ accepted ∷ refuses 4 ∷ [])
+    × (answers [] (call (looksUp 7 0) ∷ call (formats 2000 image page) ∷ call (looksUp 7 0) ∷ call (looksUp 7 67584) ∷ []) ≡ refuses 2 ∷ accepted ∷ refuses 1 ∷ refuses 1 ∷ [])
+    × (answers [] (call (formats 2000 33792 page) ∷ call (formats 2000 557568 page) ∷ call (mounts 255 image 527) ∷ []) ≡ refuses 1 ∷ refuses 1 ∷ refuses 1 ∷ [])
+    × (answers [] (call (formats 2000 image page) ∷ call (commits 0 image page) ∷ []) ≡ accepted ∷ accepted ∷ [])
+    × (lateAnswers 4294967295 (call (commits 2000 image page) ∷ call (mounts 255 image page) ∷ call (commits 2000 image page) ∷ []) ≡ refuses 6 ∷ accepted ∷ accepted ∷ [])
+    × (lateAnswers 9 (call (inserts 16 0 image) ∷ call (inserts 15 0 image) ∷ call (looksUp 15 image) ∷ []) ≡ refuses 5 ∷ accepted ∷ finds 0 ∷ [])
+unfolding isChipSize isTornSize hasBlocks inserting verdict leaf fresh updated committed mounted finished off cutOff acceptedAnswer T.insert T.allowed T.inserted T.insertAt T.gain T.hold T.halve T.raise T.find T.delete T.deleteAt
+examples = (refl, refl, refl, refl, refl, refl, refl, refl, refl, refl, refl, refl, refl)
+
+-- ---- the small store
+abbrev pub torn : ℕ → List ℕ
+torn b = replicate page b
+
+abbrev pub chip : SampleImage
+chip = record { tree = []; number = 0; whole = false; void = false; size = image }
+
+abbrev pub start : SampleState
+start = record { on = false; blocks = 0; number = 0; pending = 0; buffer = [] }
+
+abbrev pub sampleAnswer : Step sample → Answer
+sampleAnswer x = x .answer
+
+abbrev pub calls : List Act
+calls = insert 7 99 ∷ lookUp 7 ∷ commit 0 (torn 90) ∷ lookUp 7 ∷ mount 255 (torn 90) ∷ lookUp 7 ∷ []
+
+-- a cut commit that counts: its last operation is torn to 0
+abbrev pub found : List Act
+found = insert 7 99 ∷ commit 2 (torn 0) ∷ mount 255 (torn 90) ∷ lookUp 7 ∷ []
+
+abbrev pub s₀ : SampleState
+s₀ = act (format 2000 (torn 90)) start chip .state
+
+abbrev pub i₀ : SampleImage
+i₀ = act (format 2000 (torn 90)) start chip .image
+
+pub sample-examples :
+    (act (format 2000 (torn 90)) start chip .answer ≡ accepted)
+    × (map sampleAnswer (stepsOf calls s₀ i₀) ≡ accepted ∷ finds 99 ∷ refuses 10 ∷ refuses 2 ∷ accepted ∷ refuses 4 ∷ [])
+    × (map sampleAnswer (stepsOf found s₀ i₀) ≡ accepted ∷ refuses 10 ∷ accepted ∷ finds 99 ∷ [])
+unfolding isChipSize isTornSize hasBlocks stateOf inserting leaf T.insert T.allowed T.inserted T.insertAt T.gain T.hold T.halve T.raise T.find
+sample-examples = (refl, refl, refl)
+
+-- and the promise is about these lists
+started : Formatted small sample s₀ i₀
+unfolding isChipSize isTornSize
+started = record { allowance = 2000; torn = torn 90; before = start; was = chip; ops = 4; says = allowed (format 2000 (torn 90)) start chip }
+
+pub sample-agrees : Agrees small sample (fresh 3) i₀ (stepsOf calls s₀ i₀)
+unfolding isChipSize isTornSize
+sample-agrees = promise small sample s₀ i₀ (stepsOf calls s₀ i₀) started (runs calls s₀ i₀ (tt, (tt, (tt, (tt, (tt, (tt, tt)))))))

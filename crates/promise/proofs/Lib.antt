@@ -1,0 +1,12 @@
+pub mod Promise
+pub mod Choices
+pub mod Formats
+pub mod Answers
+pub mod Limits
+pub mod Images
+pub mod Trees
+pub mod Durable
+pub mod Values
+pub mod Falls
+pub mod Sample
+pub mod Examples

@@ -1,0 +1,5 @@
+pub mod Plain
+pub mod Calls
+pub mod Image
+pub mod Steps
+pub mod History

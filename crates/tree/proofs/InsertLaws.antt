@@ -1,0 +1,208 @@
+-- The halves of a node, the way down, and what is pushed for a node that gains an entry. Assumes nothing.
+use mathlib.Core.Path.{_≡_, refl, sym, ap, ap₂, _∙_, subst}
+use mathlib.Core.Bool.{Bool, true, false, cond, _&&_}
+use mathlib.Core.Logic.{_⊎_, inl, inr, ⊎-elim}
+use mathlib.Core.List.{List, [], _∷_, _++_, map, append-nil}
+use Prim.Native.Nat.{ℕ, zero, suc, _+_, _*_, _<_, _≤_}
+use native.Mathlib.Omega.{arith}
+use native.Mathlib.Numerals.{add-one}
+use lib.Dec.{ltb, leb}
+use lib.ListN.{length, take, drop, getD, length-append, length-map, length-take, length-drop, drop-of-length-le}
+use lib.Seq.{length-take-le, slice-cons, slice-empty, drop-cons, take-take, take-all}
+use borrow.Author.Tests.{le-leb, lt-leb, lt-ltb, le-ltb, eq-eqb, ne-eqb, ltb-true, leb-true}
+use Rattle.views.specs.declared.node.Node as N
+use Rattle.lists.specs.Lists.{patch}
+use Rattle.lists.proofs.Tests.{clash, and-left, and-right, below-or-not, same-or-not}
+use Rattle.pages.specs.declared.unit.Unit as U
+use Rattle.pages.specs.declared.unit.Update.the-variants.{Insert}
+use Rattle.pages.specs.Units.{encode}
+use Rattle.views.specs.Nodes.{Entry, entry, insertEntry, anew, inserted as insertOf}
+use Rattle.views.specs.Groups.{unitFor}
+use Rattle.views.specs.Pass.{pushed, nodeUnits}
+use Rattle.views.specs.NodeCode.{pairs, entriesOf, Shows}
+use Rattle.views.proofs.NodeLaws.{length-entries}
+use Rattle.tree.specs.Tree.{below, firstKey}
+use Rattle.tree.specs.Units.{anewAt, halveUnits, raiseUnits}
+use Rattle.tree.specs.declared.insert.Rise.{Rise}
+use Rattle.tree.specs.InsertCode.{two, Written, Keeps, Move, unable, able, fitMove, raiseMove, halveMove, holdMove, Stayed, Went, Moved, Holds}
+use Rattle.tree.proofs.ShownLaws.{length-pushed, pushed-append, take-pushed}
+
+-- ---- the halves of a node of 17 entries
+take-pairs : (n : ℕ) (ks vs : List ℕ) → take n (pairs ks vs) ≡ pairs (take n ks) (take n vs)
+take-pairs zero ks vs = refl
+take-pairs (suc n) [] vs = refl
+take-pairs (suc n) (k ∷ ks) [] = refl
+take-pairs (suc n) (k ∷ ks) (v ∷ vs) = rw (take-pairs n ks vs)
+
+pairs-nil : (ks : List ℕ) → pairs ks [] ≡ []
+pairs-nil [] = refl
+pairs-nil (k ∷ ks) = refl
+
+drop-pairs : (n : ℕ) (ks vs : List ℕ) → drop n (pairs ks vs) ≡ pairs (drop n ks) (drop n vs)
+drop-pairs zero ks vs = refl
+drop-pairs (suc n) [] vs = refl
+drop-pairs (suc n) (k ∷ ks) [] = sym (pairs-nil (drop n ks))
+drop-pairs (suc n) (k ∷ ks) (v ∷ vs) = drop-pairs n ks vs
+
+-- the last 8 of 17
+eight : (l : List ℕ) → length l ≡ 17
+    → drop 9 l ≡ getD l 9 0 ∷ getD l 10 0 ∷ getD l 11 0 ∷ getD l 12 0 ∷ getD l 13 0 ∷ getD l 14 0 ∷ getD l 15 0 ∷ getD l 16 0 ∷ []
+eight l h =
+    drop-cons l 9 0 (omega arith) ∙ ap (λ (r : List ℕ). getD l 9 0 ∷ r)
+    (drop-cons l 10 0 (omega arith) ∙ ap (λ (r : List ℕ). getD l 10 0 ∷ r)
+    (drop-cons l 11 0 (omega arith) ∙ ap (λ (r : List ℕ). getD l 11 0 ∷ r)
+    (drop-cons l 12 0 (omega arith) ∙ ap (λ (r : List ℕ). getD l 12 0 ∷ r)
+    (drop-cons l 13 0 (omega arith) ∙ ap (λ (r : List ℕ). getD l 13 0 ∷ r)
+    (drop-cons l 14 0 (omega arith) ∙ ap (λ (r : List ℕ). getD l 14 0 ∷ r)
+    (drop-cons l 15 0 (omega arith) ∙ ap (λ (r : List ℕ). getD l 15 0 ∷ r)
+    (drop-cons l 16 0 (omega arith) ∙ ap (λ (r : List ℕ). getD l 16 0 ∷ r) (drop-of-length-le l {i = 17} (omega arith)))))))))
+
+module _ (n : N.Node) (h : n .len ≡ 17) (lk : length (n .keys) ≡ 17) (lv : length (n .values) ≡ 17) where
+  all-entries : entriesOf n ≡ pairs (n .keys) (n .values)
+  all-entries = ap₂ pairs (take-all (n .len) (n .keys) (omega arith)) (take-all (n .len) (n .values) (omega arith))
+
+  entries-17 : length (entriesOf n) ≡ 17
+  entries-17 = length-entries n lk lv (omega arith) ∙ h
+
+  pub lower-shows : (r : N.Node) (l : ℕ) → r .level ≡ l → r .len ≡ 9 → r .keys ≡ n .keys → r .values ≡ n .values → Shows r l (take 9 (entriesOf n))
+  lower-shows r l e₁ e₂ e₃ e₄ = record {
+    same = e₁;
+    is =
+        ap (λ (m : ℕ). pairs (take m (r .keys)) (take m (r .values))) e₂
+        ∙ ap₂ (λ (ks vs : List ℕ). pairs (take 9 ks) (take 9 vs)) e₃ e₄
+        ∙ sym (take-pairs 9 (n .keys) (n .values)) ∙ ap (take 9) (sym all-entries);
+    len = length-take-le 9 (entriesOf n) (omega (arith, entries-17)) ∙ sym e₂;
+    room = omega arith;
+  }
+
+  pub upper-shows : (r : N.Node) (l : ℕ) → r .level ≡ l → r .len ≡ 8
+      → take 8 (r .keys) ≡ getD (n .keys) 9 0 ∷ getD (n .keys) 10 0 ∷ getD (n .keys) 11 0 ∷ getD (n .keys) 12 0 ∷ getD (n .keys) 13 0 ∷ getD (n .keys) 14 0 ∷ getD (n .keys) 15 0 ∷ getD (n .keys) 16 0 ∷ []
+      → take 8 (r .values) ≡ getD (n .values) 9 0 ∷ getD (n .values) 10 0 ∷ getD (n .values) 11 0 ∷ getD (n .values) 12 0 ∷ getD (n .values) 13 0 ∷ getD (n .values) 14 0 ∷ getD (n .values) 15 0 ∷ getD (n .values) 16 0 ∷ []
+      → Shows r l (drop 9 (entriesOf n))
+  upper-shows r l e₁ e₂ e₃ e₄ = record {
+    same = e₁;
+    is =
+        ap (λ (m : ℕ). pairs (take m (r .keys)) (take m (r .values))) e₂
+        ∙ ap₂ pairs (e₃ ∙ sym (eight (n .keys) lk)) (e₄ ∙ sym (eight (n .values) lv))
+        ∙ sym (drop-pairs 9 (n .keys) (n .values)) ∙ ap (drop 9) (sym all-entries);
+    len = length-drop 9 (entriesOf n) ∙ omega (arith, entries-17);
+    room = omega arith;
+  }
+
+  pub middle-is : getD (n .keys) 9 0 ≡ firstKey 0 (drop 9 (entriesOf n))
+  middle-is =
+      sym (ap (λ (es : List Entry). firstKey 0 (drop 9 es)) all-entries
+      ∙ ap (firstKey 0) (drop-pairs 9 (n .keys) (n .values) ∙ ap₂ pairs (eight (n .keys) lk) (eight (n .values) lv)))
+
+-- ---- the loop of child: the entries from i on
+abbrev pub from : ℕ → ℕ → List ℕ → List ℕ → List Entry
+from n i ks vs = pairs (drop i (take n ks)) (drop i (take n vs))
+
+module _ (k f n i : ℕ) (ks vs : List ℕ) (h : i < n) (lk : n ≤ length ks) (lv : n ≤ length vs) where
+  -- a key that is not above k is passed
+  pub below-pass : getD ks i 0 ≤ k → below k (getD vs i 0) (from n (i + 1) ks vs) ≡ below k f (from n i ks vs)
+  below-pass q = rw (slice-cons i n ks 0 h lk, slice-cons i n vs 0 h lv, le-leb (getD ks i 0) k q, add-one)
+
+  -- a key above k ends it
+  pub below-stop : k < getD ks i 0 → below k f (from n i ks vs) ≡ f
+  below-stop q = rw (slice-cons i n ks 0 h lk, slice-cons i n vs 0 h lv, lt-leb (getD ks i 0) k q)
+
+pub below-end : (k f n : ℕ) (ks vs : List ℕ) → below k f (from n n ks vs) ≡ f
+below-end k f n ks vs = rw (slice-empty n ks)
+
+-- ---- units written one after the other
+pub written-two : (us vs : List U.Unit) (count i j : ℕ) (old mid new : List ℕ) → Written us count old mid i → Written vs i mid new j → i ≤ 960
+    → Written (us ++ vs) count old new j
+written-two us vs count i j old mid new a b h = record {
+  bytes =
+      b .bytes ∙ ap₂ (λ (x : List ℕ) (m : ℕ). pushed x m vs) (a .bytes) (a .size)
+      ∙ pushed-append old count us vs (omega (arith, a .size, a .long));
+  size = b .size ∙ rw length-append (omega (arith, a .size));
+  long = a .long;
+}
+
+-- a node written anew
+pub written-node : (n l : ℕ) (es : List Entry) (x : N.Node) (count i : ℕ) (old new : List ℕ) → Shows x l es → new ≡ pushed old count (nodeUnits n x)
+    → i ≡ count + 1 + x .len → length old ≡ 11520 → Written (anewAt l n es) count old new i
+unfolding anewAt
+written-node n l es x count i old new s e q h = record {
+  bytes = e ∙ ap₂ (λ (j : ℕ) (ds : List Entry). pushed old count (map (unitFor n) (anew j ds))) (s .same) (s .is);
+  size = q ∙ simp length-map (omega (arith, s .len));
+  long = h;
+}
+
+module _ (l low high : ℕ) (es : List Entry) (count i j : ℕ) (old mid new : List ℕ) where
+  pub written-halves : Written (anewAt l low (take 9 es)) count old mid i → Written (anewAt l high (drop 9 es)) i mid new j → i ≤ 960
+      → Written (halveUnits l low high es) count old new j
+  unfolding halveUnits
+  written-halves a b h = written-two (anewAt l low (take 9 es)) (anewAt l high (drop 9 es)) count i j old mid new a b h
+
+  pub written-raise : Written (halveUnits l low (low + 1) es) count old mid i → Written (anewAt (l + 1) 0 (two low (firstKey 0 (drop 9 es)) (low + 1))) i mid new j
+      → i ≤ 960 → Written (raiseUnits l low es) count old new j
+  unfolding raiseUnits
+  written-raise a b h =
+      subst (λ (m : ℕ). Written (halveUnits l low m es ++ anewAt (suc l) 0 (two low (firstKey 0 (drop 9 es)) m)) count old new j) (add-one low)
+      (subst (λ (d : ℕ). Written (halveUnits l low (low + 1) es ++ anewAt d 0 (two low (firstKey 0 (drop 9 es)) (low + 1))) count old new j) (add-one l)
+      (written-two (halveUnits l low (low + 1) es) (anewAt (l + 1) 0 (two low (firstKey 0 (drop 9 es)) (low + 1))) count i j old mid new a b h))
+
+-- ---- a move that is made
+pub keeps-pushed : (us : List U.Unit) (count used : ℕ) (old new : List ℕ) → new ≡ pushed old count us → used ≡ count + length us → used ≤ 960
+    → length old ≡ 11520 → Keeps count old used new
+keeps-pushed us count used old new e q h l = record {
+  same = ap length e ∙ length-pushed old count us (omega arith);
+  front = ap (take (12 * count)) e ∙ take-pushed old count us (omega arith);
+  more = omega arith;
+  room = h;
+}
+
+-- nothing is pushed
+pub stayed-holds : (count : ℕ) (old new : List ℕ) (r : Rise) → Stayed count old new r → r .gains ≡ false → count ≤ 960 → Holds unable count old new r
+stayed-holds count old new r s g h = record {
+  keeps = record { same = ap length (s .bytes); front = ap (take (12 * count)) (s .bytes); more = omega (arith, s .used); room = omega (arith, s .used) };
+  plain = λ e. clash e g;
+  is = s;
+}
+
+-- units are pushed
+pub went-holds : (us : List U.Unit) (g : Bool) (k m x count used : ℕ) (old new : List ℕ) (r : Rise) → Written us count old new used → used ≤ 960
+    → r .count ≡ used → r .refused ≡ false → r .gains ≡ g → r .key ≡ k → r .number ≡ m → r .next ≡ x → Holds (able us g k m x) count old new r
+went-holds us g k m x count used old new r w h e f g′ k′ m′ x′ = record {
+  keeps = keeps-pushed us count (r .count) old new (w .bytes) (e ∙ w .size) (omega arith) (w .long);
+  plain = λ _. f;
+  is = record { bytes = w .bytes; used = e ∙ w .size; long = w .long; refused = f; gains = g′; key = k′; number = m′; next = x′ };
+}
+
+-- one unit is pushed
+pub written-one : (u : U.Unit) (count : ℕ) (old new : List ℕ) → new ≡ patch old (12 * count) 12 (encode u) → length old ≡ 11520
+    → Written (u ∷ []) count old new (count + 1)
+written-one u count old new e l =
+    record { bytes = e ∙ ap (patch old (12 * count) 12) (sym (append-nil (encode u))); size = refl; long = l }
+
+-- by the outcome of the test that decides about a move
+pub able-holds : (b : Bool) (m : Move) (count : ℕ) (old new : List ℕ) (r : Rise) → b ≡ true → Holds m count old new r → Holds (cond b m unable) count old new r
+able-holds b m count old new r e h = rw e h
+
+pub unable-holds : (b : Bool) (m : Move) (count : ℕ) (old : List ℕ) (r : Rise) → b ≡ false → Stayed count old old r → r .gains ≡ false → count ≤ 960
+    → Holds (cond b m unable) count old old r
+unable-holds b m count old r e s g h = rw e (stayed-holds count old old r s g h)
+
+-- ---- what the tests tell
+pub fit-test : (count n : ℕ) → (ltb count 960 && ltb n 65536) ≡ true → (count < 960) × (n < 65536)
+fit-test count n e =
+    (ltb-true count 960 (and-left (ltb count 960) (ltb n 65536) e), ltb-true n 65536 (and-right (ltb count 960) (ltb n 65536) e))
+
+pub raise-test : (limit x l count : ℕ) → (ltb (x + 1) limit && (ltb l 3 && leb count 938)) ≡ true → (x + 1 < limit) × (l < 3) × (count ≤ 938)
+raise-test limit x l count e =
+    let f = and-right (ltb (x + 1) limit) (ltb l 3 && leb count 938) e in (
+      ltb-true (x + 1) limit (and-left (ltb (x + 1) limit) (ltb l 3 && leb count 938) e),
+      ltb-true l 3 (and-left (ltb l 3) (leb count 938) f),
+      leb-true count 938 (and-right (ltb l 3) (leb count 938) f),
+    )
+
+pub halve-test : (limit x n count : ℕ) → (ltb x limit && (ltb n 65536 && leb count 941)) ≡ true → (x < limit) × (n < 65536) × (count ≤ 941)
+halve-test limit x n count e =
+    let f = and-right (ltb x limit) (ltb n 65536 && leb count 941) e in (
+      ltb-true x limit (and-left (ltb x limit) (ltb n 65536 && leb count 941) e),
+      ltb-true n 65536 (and-left (ltb n 65536) (leb count 941) f),
+      leb-true count 941 (and-right (ltb n 65536) (leb count 941) f),
+    )

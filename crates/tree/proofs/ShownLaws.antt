@@ -1,0 +1,144 @@
+-- Units that are pushed to the buffer do to the table that a state shows what units do to a table. Assumes nothing.
+use mathlib.Core.Path.{_≡_, refl, sym, ap, ap₂, _∙_}
+use mathlib.Core.Bool.{true, cond}
+use mathlib.Core.List.{List, [], _∷_, _++_, map, foldl}
+use Prim.Native.Nat.{ℕ, zero, suc, _+_, _*_, _<_, _≤_}
+use native.Mathlib.Omega.{arith}
+use lib.Dec.{eqb}
+use lib.ListN.{length, take, drop}
+use lib.Seq.{take-at, length-take-le}
+use borrow.Author.Tests.{eq-eqb, ne-eqb, le-leb}
+use Rattle.lists.specs.Lists.{All, none, more, all, tab, flat, patch}
+use Rattle.lists.proofs.Tests.{cases}
+use Rattle.lists.proofs.Alls.{All-map}
+use Rattle.lists.proofs.Flats.{tab-same}
+use Rattle.lists.proofs.Parts.{length-patch}
+use Rattle.chip.specs.Geometry.{Geometry}
+use Rattle.chip.specs.Page.{Page}
+use Rattle.pages.specs.declared.unit.Unit as U
+use Rattle.pages.specs.declared.unit.Decoded.the-variants.{Good}
+use Rattle.pages.specs.Units.{decodes, encode, Valid}
+use Rattle.pages.proofs.UnitLaws.{length-encode, length-units}
+use Rattle.views.specs.Nodes.{View, untouched, view, apply, Entry}
+use Rattle.views.specs.Groups.{own, present}
+use Rattle.views.specs.Table.{isGood}
+use Rattle.views.specs.FoldCode.{turnView, viewAfter}
+use Rattle.views.specs.Stored.{storedList, listView, bufferView, nodeView}
+use Rattle.views.specs.Pass.{pushed}
+use Rattle.views.proofs.Groups.{present-append}
+use Rattle.views.proofs.BufferLaws.{pushed-none, pushed-more, pushed-read}
+use Rattle.tree.specs.Tree.{Table, at, put}
+use Rattle.tree.specs.Units.{touchView, afterUnits}
+use Rattle.tree.specs.Shown.{shown}
+
+-- ---- a buffer of units
+all-good : (us : List U.Unit) → all isGood (map Good us) ≡ true
+all-good [] = refl
+all-good (u ∷ us) = all-good us
+
+pub view-good : (n : ℕ) (w : View) (us : List U.Unit) → viewAfter n w (map Good us) ≡ present n w us
+view-good n w [] = refl
+view-good n w (u ∷ us) =
+    cases (eqb (u .node) n)
+    (λ t. ap (λ (s : View). viewAfter n s (map Good us)) (let e : turnView n w (Good u) ≡ apply w (u .update) = rw t in e) ∙ rw t (view-good n (apply w (u .update)) us))
+    (λ t. ap (λ (s : View). viewAfter n s (map Good us)) (let e : turnView n w (Good u) ≡ w = rw t in e) ∙ rw t (view-good n w us))
+
+-- the view of a node after a buffer of units
+pub buffer-good : (limit n count : ℕ) (bytes : List ℕ) (w : View) (us : List U.Unit) → count ≤ 960 → decodes limit count bytes ≡ map Good us
+    → bufferView limit n count bytes w ≡ present n w us
+unfolding bufferView
+buffer-good limit n count bytes w us h e = rw (le-leb count 960 h, e, all-good us) (view-good n w us)
+
+-- ---- units on a table that is made node by node
+-- one unit, at each node
+abbrev turned : U.Unit → (ℕ → View) → ℕ → View
+turned u f n = cond (eqb (u .node) n) (apply (f n) (u .update)) (f n)
+
+-- nodes above the unit's
+beyond : (u : U.Unit) (f : ℕ → View) (k m : ℕ) → u .node < k → tab k m f ≡ tab k m (turned u f)
+beyond u f k zero h = refl
+beyond u f k (suc m) h = rw (ne-eqb (u .node) k (λ z. omega arith), beyond u f (suc k) m (omega arith))
+
+touch-at : (u : U.Unit) (f : ℕ → View) (k m i : ℕ) → u .node ≡ k + i → i < m
+    → put i (apply (at (tab k m f) i) (u .update)) (tab k m f) ≡ tab k m (turned u f)
+touch-at u f k zero i e h = absurd (omega arith)
+touch-at u f k (suc m) zero e h = rw (eq-eqb (u .node) k (omega arith), beyond u f (suc k) m (omega arith))
+touch-at u f k (suc m) (suc i) e h = rw (ne-eqb (u .node) k (λ z. omega arith), touch-at u f (suc k) m i (omega arith) (omega arith))
+
+turned-present : (u : U.Unit) (f : ℕ → View) (us : List U.Unit) (n : ℕ) → present n (turned u f n) us ≡ present n (f n) (u ∷ us)
+turned-present u f us n = cases (eqb (u .node) n) (λ t. rw t) (λ t. rw t)
+
+pub after-tab : (limit : ℕ) (f : ℕ → View) {us : List U.Unit} → All (λ (u : U.Unit). u .node < limit) us
+    → afterUnits us (tab 0 limit f) ≡ tab 0 limit (λ n. present n (f n) us)
+unfolding afterUnits
+after-tab limit f none = refl
+after-tab limit f (more {x = u} {xs = us} h hs) =
+    ap (λ (t : Table). foldl touchView t us) (touch-at u f 0 limit (u .node) (omega arith) h)
+    ∙ after-tab limit (turned u f) hs
+    ∙ tab-same (λ n. present n (turned u f n) us) (λ n. present n (f n) (u ∷ us)) 0 limit (λ n _. turned-present u f us n)
+
+-- ---- the table that a state shows
+module _ (g : Geometry) (limit : ℕ) (pages : List Page) (lens slots : List ℕ) where
+  -- a node's view from its pages
+  abbrev stored : ℕ → View
+  stored n = listView g limit pages n (storedList lens slots n)
+
+  shown-good : (count : ℕ) (bytes : List ℕ) (us : List U.Unit) → count ≤ 960 → decodes limit count bytes ≡ map Good us
+      → shown g limit pages lens slots count bytes ≡ tab 0 limit (λ n. present n (stored n) us)
+  unfolding shown
+  shown-good count bytes us h e =
+      tab-same (nodeView g limit pages lens slots count bytes) (λ n. present n (stored n) us) 0 limit
+      (λ n _. buffer-good limit n count bytes (stored n) us h e)
+
+  -- the law of pushing: the table after the units vs behind the units us
+  pub shown-pushed : (count : ℕ) (bytes : List ℕ) (us vs : List U.Unit) → decodes limit count bytes ≡ map Good us → All (Valid limit) vs
+      → count + length vs ≤ 960 → length bytes ≡ 11520
+      → shown g limit pages lens slots (count + length vs) (pushed bytes count vs) ≡ afterUnits vs (shown g limit pages lens slots count bytes)
+  shown-pushed count bytes us vs e v h l =
+      let low : All (λ (u : U.Unit). u .node < limit) vs = All-map (λ u q. q .node) v in
+      shown-good (count + length vs) (pushed bytes count vs) (us ++ vs) h (pushed-read limit count bytes us (omega arith) e vs v)
+      ∙ tab-same (λ n. present n (stored n) (us ++ vs)) (λ n. present n (present n (stored n) us) vs) 0 limit (λ n _. present-append n (stored n) us vs)
+      ∙ sym (after-tab limit (λ n. present n (stored n) us) low)
+      ∙ ap (afterUnits vs) (sym (shown-good count bytes us (omega arith) e))
+
+  -- and the buffer is one of units again
+  pub pushed-good : (count : ℕ) (bytes : List ℕ) (us vs : List U.Unit) → decodes limit count bytes ≡ map Good us → All (Valid limit) vs
+      → count + length vs ≤ 960 → length bytes ≡ 11520 → decodes limit (count + length vs) (pushed bytes count vs) ≡ map Good (us ++ vs)
+  pushed-good count bytes us vs e v h l = pushed-read limit count bytes us (omega arith) e vs v
+
+-- ---- a view of the table is a node's view
+view-tab : (f : ℕ → View) (k m n l : ℕ) (es : List Entry) → at (tab k m f) n ≡ view l es → (n < m) × (f (k + n) ≡ view l es)
+view-tab f k zero n l es e = let z : _≡_ {A = ℕ} 0 1 = cc in absurd (omega arith)
+view-tab f k (suc m) zero l es e = (omega arith, ap f (let z : k + 0 ≡ k = omega arith in z) ∙ e)
+view-tab f k (suc m) (suc n) l es e =
+    let r = view-tab f (suc k) m n l es e in
+    (omega (arith, r .0), ap f (let z : k + suc n ≡ suc k + n = omega arith in z) ∙ r .1)
+
+pub view-shown : (g : Geometry) (limit : ℕ) (pages : List Page) (lens slots : List ℕ) (count : ℕ) (bytes : List ℕ) (n l : ℕ) (es : List Entry)
+    → at (shown g limit pages lens slots count bytes) n ≡ view l es
+    → (n < limit) × (nodeView g limit pages lens slots count bytes n ≡ view l es)
+unfolding shown
+view-shown g limit pages lens slots count bytes n l es e =
+    let f : ℕ → View = nodeView g limit pages lens slots count bytes in
+    let r = view-tab f 0 limit n l es e in
+    (r .0, ap f (let z : n ≡ 0 + n = omega arith in z) ∙ r .1)
+
+-- ---- pushes one after the other
+pub length-pushed : (b : List ℕ) (c : ℕ) (us : List U.Unit) → 12 * (c + length us) ≤ length b → length (pushed b c us) ≡ length b
+length-pushed b c us h = length-patch b (12 * c) (12 * length us) (flat encode us) (omega arith) (length-units us)
+
+pub pushed-append : (b : List ℕ) (c : ℕ) (us vs : List U.Unit) → 12 * (c + length us) ≤ length b
+    → pushed (pushed b c us) (c + length us) vs ≡ pushed b c (us ++ vs)
+pushed-append b c [] vs h = ap₂ (λ (x : List ℕ) (m : ℕ). pushed x m vs) (pushed-none b c) (let e : c + 0 ≡ c = omega arith in e)
+pushed-append b c (u ∷ us) vs h =
+    let x : List ℕ = patch b (12 * c) 12 (encode u) in
+    let l : length x ≡ length b = length-patch b (12 * c) 12 (encode u) (omega arith) (length-encode u) in
+    let e : c + suc (length us) ≡ c + 1 + length us = omega arith in
+    ap₂ (λ (y : List ℕ) (m : ℕ). pushed y m vs) (sym (pushed-more b c u us (omega arith))) e
+    ∙ pushed-append x (c + 1) us vs (omega arith)
+    ∙ pushed-more b c u (us ++ vs) (omega arith)
+
+-- what stands before them stays
+pub take-pushed : (b : List ℕ) (c : ℕ) (us : List U.Unit) → 12 * c ≤ length b → take (12 * c) (pushed b c us) ≡ take (12 * c) b
+take-pushed b c us h =
+    take-at (take (12 * c) b) (flat encode us ++ drop (12 * length us) (drop (12 * c) b)) (12 * c) (length-take-le (12 * c) b h)

@@ -1,0 +1,97 @@
+use mathlib.Core.Path.{_≡_, refl, sym, ap, _∙_}
+use Prim.Native.Nat.{_-_, _≤_}
+use native.Mathlib.Omega.{arith}
+use lib.ListN.{drop}
+use Rattle.tree.specs.Tree.{there}
+use Rattle.tree.specs.CheckCode.{listed, countsFrom}
+use Rattle.tree.proofs.CheckLaws.{listed-same, length-listed, counts-pass, counts-fail, counts-end}
+use borrow.Author.Needs.{needs}
+use Rattle.tree.proofs.check.all_once.Statement.{statement}
+use Rattle.tree.proofs.check.all_once.Tie as tie
+use Rattle.tree.proofs.check.all_once.Reads as reads
+use Rattle.tree.proofs.check.all_once.Lts as lts
+use Rattle.tree.proofs.check.count_at.Reads as count-at-reads
+use Rattle.tree.proofs.check.presence.Reads as presence-reads
+use Rattle.views.proofs.view.list_view.Reads as list-view-reads
+
+abbrev Inv-loop : tie.InvT-loop
+Inv-loop image lens slots limit seen n₀ n =
+    (n ≤ limit) × (countsFrom n (drop n (listed image lens slots limit)) seen ≡ countsFrom 0 (listed image lens slots limit) seen)
+
+abbrev μ-loop : tie.MeasureT-loop
+μ-loop image lens slots limit seen n₀ n = limit - n
+
+-- src/check.rt:219:5
+loop-holds : tie.Need-loop-holds Inv-loop μ-loop
+loop-holds c = (omega arith, refl)
+
+-- src/check.rt:220:13
+list-view-requires : tie.Need-list-view-requires Inv-loop μ-loop
+list-view-requires c κs = search needs
+
+-- src/check.rt:221:13
+presence-requires : tie.Need-presence-requires Inv-loop μ-loop
+presence-requires c κs = search needs
+
+-- src/check.rt:222:13
+count-at-requires : tie.Need-count-at-requires Inv-loop μ-loop
+count-at-requires c κs = search needs
+
+-- src/check.rt:224:13
+returns : tie.Need-returns Inv-loop μ-loop
+returns c =
+    let q = c .before in
+    let p = q .before .before in
+    let v = p .before in
+    let s = v .before .before in
+    let a = s .before .before .args in
+    let t = listed (a .image .now) (a .lens .now) (a .slots .now) (a .limit) in
+    let e = listed-same (a .image .now) (a .lens .now) (a .slots .now) (a .limit) there refl (s .loop .n) ∙ ap there (sym (v .list-view .ensures .is)) ∙ sym (p .presence .ensures) in
+    let l = length-listed (a .image .now) (a .lens .now) (a .slots .now) (a .limit) in
+    sym (counts-fail t (s .loop .n) (a .seen .now) (omega arith) (λ z. c .if1 .taken (q .count-at .ensures ∙ z ∙ e))) ∙ s .loop .inv .1
+
+-- src/check.rt:226:9
+add-n : tie.Need-add-n Inv-loop μ-loop
+add-n c = search needs
+
+-- src/check.rt:219:5
+loop-less : tie.Need-loop-less Inv-loop μ-loop
+loop-less c = search needs
+
+-- src/check.rt:219:5
+loop-again : tie.Need-loop-again Inv-loop μ-loop
+loop-again c =
+    let q = c .before in
+    let p = q .before .before in
+    let v = p .before in
+    let s = v .before .before in
+    let a = s .before .before .args in
+    let t = listed (a .image .now) (a .lens .now) (a .slots .now) (a .limit) in
+    let e = listed-same (a .image .now) (a .lens .now) (a .slots .now) (a .limit) there refl (s .loop .n) ∙ ap there (sym (v .list-view .ensures .is)) ∙ sym (p .presence .ensures) in
+    let l = length-listed (a .image .now) (a .lens .now) (a .slots .now) (a .limit) in
+    (omega arith, counts-pass t (s .loop .n) (a .seen .now) (omega arith) (sym (q .count-at .ensures) ∙ c .if1 .left ∙ sym e) ∙ s .loop .inv .1)
+
+-- src/check.rt:208:1
+returns-2 : tie.Need-returns-2 Inv-loop μ-loop
+returns-2 c =
+    let s = c .before in
+    let a = s .before .before .args in
+    let t = listed (a .image .now) (a .lens .now) (a .slots .now) (a .limit) in
+    let l = length-listed (a .image .now) (a .lens .now) (a .slots .now) (a .limit) in
+    sym (counts-end t (s .loop .n) (a .seen .now) (omega arith)) ∙ s .loop .inv .1
+
+pub all-once-spec : {M : Type 1} → statement M
+all-once-spec =
+    tie.close
+    (tie.spec
+    Inv-loop
+    μ-loop
+    loop-holds
+    list-view-requires
+    presence-requires
+    count-at-requires
+    returns
+    add-n
+    loop-less
+    loop-again
+    returns-2)

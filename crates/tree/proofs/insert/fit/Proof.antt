@@ -1,0 +1,61 @@
+use mathlib.Core.Path.{_≡_, refl, sym, _∙_}
+use mathlib.Core.Bool.{Bool, true, false, _&&_}
+use mathlib.Core.List.{List, [], _∷_}
+use Prim.Native.Nat.{_+_}
+use native.Mathlib.Omega.{arith}
+use lib.Dec.{ltb, leb}
+use lib.ListN.{drop}
+use Rattle.pages.specs.declared.unit.Update.the-variants.{Insert}
+use Rattle.views.specs.Groups.{unitFor}
+use Rattle.views.specs.NodeCode.{entriesOf}
+use Rattle.tree.specs.Tree.{firstKey}
+use Rattle.tree.specs.Units.{halveUnits, raiseUnits}
+use Rattle.tree.specs.InsertCode.{able}
+use Rattle.tree.proofs.InsertLaws.{fit-test, raise-test, halve-test, written-one, went-holds, able-holds, unable-holds}
+use borrow.Author.Needs.{needs}
+use Rattle.tree.proofs.insert.fit.Statement.{statement}
+use Rattle.tree.proofs.insert.fit.Tie as tie
+use Rattle.tree.proofs.insert.fit.Reads as reads
+use Rattle.tree.proofs.insert.fit.Lts as lts
+use Rattle.tree.proofs.insert.can_fit.Reads as can-fit-reads
+use Rattle.tree.proofs.insert.refuse.Reads as refuse-reads
+use Rattle.views.proofs.buffer.push_unit.Reads as push-unit-reads
+
+can-fit-requires : tie.Need-can-fit-requires
+can-fit-requires c κs = search needs
+
+push-unit-requires : tie.Need-push-unit-requires
+push-unit-requires c κs =
+    let t = c .before .before in
+    let a = t .before .args in
+    fit-test (a .count) (a .node) (sym (t .can-fit .ensures) ∙ c .before .if1 .taken)
+
+add-t13 : tie.Need-add-t13
+add-t13 c = search needs
+
+refuse-requires : tie.Need-refuse-requires
+refuse-requires c κs = search needs
+
+returns : tie.Need-returns
+returns c =
+    let j = c .before .before in
+    let t = j .before in
+    let a = t .before .args in
+    let u = unitFor (a .node) (Insert (a .key) (a .value)) in
+    let e = sym (t .can-fit .ensures) ∙ j .if1 .taken in
+    let f = fit-test (a .count) (a .node) e in
+    able-holds (ltb (a .count) 960 && ltb (a .node) 65536) (able (unitFor (a .node) (Insert (a .key) (a .value)) ∷ []) false 0 0 (a .next)) (a .count) (a .buffer .now) _ _ e
+    (went-holds (u ∷ []) false 0 0 (a .next) (a .count) (a .count + 1) (a .buffer .now) _ _
+    (written-one u (a .count) (a .buffer .now) _ (c .push-unit .ensures .0) (c .push-unit .ensures .1)) (omega (arith, f .0)) refl refl refl refl refl refl)
+
+returns-2 : tie.Need-returns-2
+returns-2 c =
+    let t = c .before .before in
+    let a = t .before .args in
+    unable-holds (ltb (a .count) 960 && ltb (a .node) 65536) (able (unitFor (a .node) (Insert (a .key) (a .value)) ∷ []) false 0 0 (a .next)) (a .count) (a .buffer .now) (c .refuse .result) (sym (t .can-fit .ensures) ∙ c .before .if1 .left)
+    (record { bytes = refl; used = c .refuse .ensures .2; refused = c .refuse .ensures .0 }) (c .refuse .ensures .1) (t .before .pre)
+
+pub fit-spec : {M : Type 1} → statement M
+fit-spec =
+    tie.close
+    (tie.spec can-fit-requires push-unit-requires add-t13 refuse-requires returns returns-2)

@@ -1,0 +1,46 @@
+use mathlib.Core.Path.{_≡_, refl, sym, _∙_}
+use native.Mathlib.Omega.{arith}
+use lib.ListN.{length}
+use borrow.Author.Tests.{le-leb, lt-leb, eq-eqb, ne-eqb}
+use Rattle.views.specs.NodeCode.{entriesOf}
+use borrow.Author.Needs.{needs}
+use Rattle.tree.proofs.insert.hold.Statement.{statement}
+use Rattle.tree.proofs.insert.hold.Tie as tie
+use Rattle.tree.proofs.insert.hold.Reads as reads
+use Rattle.tree.proofs.insert.hold.Lts as lts
+use Rattle.tree.proofs.insert.fit.Reads as fit-reads
+use Rattle.tree.proofs.insert.grow.Reads as grow-reads
+use Rattle.tree.proofs.insert.split.Reads as split-reads
+
+fit-requires : tie.Need-fit-requires
+fit-requires c κs = search needs
+
+returns : tie.Need-returns
+returns c =
+    let s = c .before .before .before in
+    let a = s .args in
+    rw (le-leb (length (entriesOf (a .n))) 16 (omega (arith, s .pre .3, c .before .before .if1 .taken))) (c .fit .ensures)
+
+grow-requires : tie.Need-grow-requires
+grow-requires c κs = search needs
+
+split-requires : tie.Need-split-requires
+split-requires c κs = search needs
+
+returns-2 : tie.Need-returns-2
+returns-2 c =
+    let i = c .before .before in
+    let s = i .before .before in
+    let a = s .args in
+    rw (lt-leb (length (entriesOf (a .n))) 16 (omega (arith, s .pre .3, i .before .if1 .left)), eq-eqb (a .node) 0 (i .if2 .taken)) (c .grow .ensures)
+
+returns-3 : tie.Need-returns-3
+returns-3 c =
+    let i = c .before .before in
+    let s = i .before .before in
+    let a = s .args in
+    rw (lt-leb (length (entriesOf (a .n))) 16 (omega (arith, s .pre .3, i .before .if1 .left)), ne-eqb (a .node) 0 (i .if2 .left)) (c .split .ensures)
+
+pub hold-spec : {M : Type 1} → statement M
+hold-spec =
+    tie.close (tie.spec fit-requires returns grow-requires split-requires returns-2 returns-3)

@@ -1,0 +1,67 @@
+use mathlib.Core.Path.{_≡_, refl}
+use mathlib.Core.Path.{ap}
+use native.Mathlib.Omega.{arith}
+use Prim.Native.Nat.{_+_}
+use lib.ListN.{length, take, drop}
+use Rattle.views.specs.NodeCode.{entriesOf, Shows}
+use Rattle.tree.specs.Tree.{firstKey}
+use Rattle.tree.specs.InsertCode.{two}
+use Rattle.tree.proofs.InsertLaws.{written-node, written-raise}
+use borrow.Author.Needs.{needs}
+use Rattle.tree.proofs.insert.raise.Statement.{statement}
+use Rattle.tree.proofs.insert.raise.Tie as tie
+use Rattle.tree.proofs.insert.raise.Reads as reads
+use Rattle.tree.proofs.insert.raise.Lts as lts
+use Rattle.tree.proofs.insert.halve.Reads as halve-reads
+use Rattle.tree.proofs.insert.middle.Reads as middle-reads
+use Rattle.tree.proofs.insert.pair.Reads as pair-reads
+use Rattle.views.proofs.buffer.push_node.Reads as push-node-reads
+
+add-halve : tie.Need-add-halve
+add-halve c = search needs
+
+halve-requires : tie.Need-halve-requires
+halve-requires c κs = search needs
+
+middle-requires : tie.Need-middle-requires
+middle-requires c κs = search needs
+
+add-pair : tie.Need-add-pair
+add-pair c = search needs
+
+add-pair-2 : tie.Need-add-pair-2
+add-pair-2 c = search needs
+
+pair-requires : tie.Need-pair-requires
+pair-requires c κs = search needs
+
+push-node-requires : tie.Need-push-node-requires
+push-node-requires c κs = search needs
+
+returns : tie.Need-returns
+returns c =
+    let q = c .before .before in
+    let m = q .before in
+    let h = m .before in
+    let a = h .before .before .args in
+    let es = entriesOf (a .n) in (
+      written-raise (a .level) (a .next) 0 es (a .count) (h .halve .result) (c .push-node .result) _ _ _
+          (h .halve .ensures .0)
+          (written-node 0 (a .level + 1) (two (a .next) (firstKey 0 (drop 9 es)) (a .next + 1)) (q .pair .result) (h .halve .result) (c .push-node .result) _ _
+          (rw (← m .middle .ensures) (q .pair .ensures .0)) (c .push-node .ensures .0) (c .push-node .ensures .1) (c .push-node .ensures .2))
+          (omega (arith, h .halve .ensures .1)),
+      omega (arith, h .halve .ensures .1, c .push-node .ensures .1, q .pair .ensures .1),
+    )
+
+pub raise-spec : {M : Type 1} → statement M
+raise-spec =
+    tie.close
+    (tie.spec
+    add-halve
+    halve-requires
+    middle-requires
+    add-pair
+    add-pair-2
+    pair-requires
+    push-node-requires
+    returns)

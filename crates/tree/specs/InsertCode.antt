@@ -1,0 +1,190 @@
+-- What the code of an insert and of a delete ensures: on any arrays, and where they show a tree.
+use mathlib.Core.Path.{_≡_}
+use mathlib.Core.Logic.{_⊎_}
+use mathlib.Core.Bool.{Bool, true, false, cond, _&&_}
+use mathlib.Core.List.{List, [], _∷_, _++_, map}
+use Prim.Native.Nat.{ℕ, suc, _+_, _*_, _<_, _≤_}
+use lib.Dec.{ltb, leb, eqb}
+use lib.ListN.{length, take, drop}
+use Rattle.lists.specs.Lists.{All}
+use Rattle.chip.specs.Geometry.{small}
+use Rattle.chip.specs.Chip.{pagesOf}
+use Rattle.pages.specs.declared.unit.Unit as U
+use Rattle.pages.specs.declared.unit.Update.the-variants.{Insert}
+use Rattle.pages.specs.declared.unit.Decoded.the-variants.{Good}
+use Rattle.pages.specs.Units.{decodes, Valid}
+use Rattle.views.specs.Nodes.{Entry, entry, view, insertEntry}
+use Rattle.views.specs.Groups.{unitFor}
+use Rattle.views.specs.Stored.{nodeView}
+use Rattle.views.specs.Pass.{pushed}
+use Rattle.tree.specs.declared.insert.Rise.{Rise}
+use Rattle.tree.specs.declared.insert.Inserted.{Inserted}
+use Rattle.tree.specs.Tree.{Table, entriesAt, next, rootLevel, firstKey, leafAt, Up, stop, gains, tableOf, insertAt, inserted, refusal, done, insert, delete}
+use Rattle.tree.specs.Step6.{top, Leads, Tree}
+use Rattle.tree.specs.Units.{afterUnits, halveUnits, raiseUnits, insertUnitsAt, insertUnits, deleteUnits}
+use Rattle.tree.specs.Shown.{shown}
+
+-- the entries of a root above two nodes
+abbrev pub two : ℕ → ℕ → ℕ → List Entry
+two low k high = entry 0 low ∷ entry k high ∷ []
+
+-- ---- what is pushed
+-- the units us behind the count units of a buffer, and the count after them
+pub record Written (us : List U.Unit) (count : ℕ) (old new : List ℕ) (used : ℕ) : Type 0 where
+  pub bytes : new ≡ pushed old count us
+  pub size : used ≡ count + length us
+  pub long : length old ≡ 11520
+
+-- on any arrays: the buffer keeps its length and the units that it had, and has room for those it has then
+pub record Keeps (count : ℕ) (old : List ℕ) (used : ℕ) (new : List ℕ) : Type 0 where
+  pub same : length new ≡ length old
+  pub front : take (12 * count) new ≡ take (12 * count) old
+  pub more : count ≤ used
+  pub room : used ≤ 960
+
+-- what a node that gains an entry does: nothing where there is no room, else units, and maybe an entry for the parent
+pub data Move : Type 0 where
+  unable : Move
+  able : List U.Unit → Bool → ℕ → ℕ → ℕ → Move
+
+-- one unit
+abbrev pub fitMove : ℕ → ℕ → ℕ → ℕ → ℕ → Move
+fitMove x n k v count = cond (ltb count 960 && ltb n 65536) (able (unitFor n (Insert k v) ∷ []) false 0 0 x) unable
+
+-- node 0 with 17 entries
+abbrev pub raiseMove : ℕ → ℕ → ℕ → List Entry → ℕ → Move
+raiseMove limit x l es count =
+    cond (ltb (x + 1) limit && (ltb l 3 && leb count 938)) (able (raiseUnits l x es) false 0 0 (x + 2)) unable
+
+-- another node with 17 entries
+abbrev pub halveMove : ℕ → ℕ → ℕ → ℕ → List Entry → ℕ → Move
+halveMove limit x l n es count =
+    cond (ltb x limit && (ltb n 65536 && leb count 941)) (able (halveUnits l n x es) true (firstKey 0 (drop 9 es)) x (x + 1)) unable
+
+-- node n of level l is to hold es, with (k, v) among them
+abbrev pub holdMove : ℕ → ℕ → ℕ → ℕ → ℕ → ℕ → List Entry → ℕ → Move
+holdMove limit x l n k v es count =
+    cond (leb (length es) 16) (fitMove x n k v count) (cond (eqb n 0) (raiseMove limit x l es count) (halveMove limit x l n es count))
+
+pub record Stayed (count : ℕ) (old new : List ℕ) (r : Rise) : Type 0 where
+  pub bytes : new ≡ old
+  pub used : r .count ≡ count
+  pub refused : r .refused ≡ true
+
+pub record Went (us : List U.Unit) (g : Bool) (k m x count : ℕ) (old new : List ℕ) (r : Rise) : Type 0 where
+  pub bytes : new ≡ pushed old count us
+  pub used : r .count ≡ count + length us
+  pub long : length old ≡ 11520
+  pub refused : r .refused ≡ false
+  pub gains : r .gains ≡ g
+  pub key : r .key ≡ k
+  pub number : r .number ≡ m
+  pub next : r .next ≡ x
+
+abbrev pub Moved : Move → ℕ → List ℕ → List ℕ → Rise → Type 0
+Moved unable count old new r = Stayed count old new r
+Moved (able us g k m x) count old new r = Went us g k m x count old new r
+
+-- what a function that makes a move ensures
+pub record Holds (m : Move) (count : ℕ) (old new : List ℕ) (r : Rise) : Type 0 where
+  pub keeps : Keeps count old (r .count) new
+  pub plain : r .gains ≡ true → r .refused ≡ false
+  pub is : Moved m count old new r
+
+-- ---- the arrays of a state
+-- the table that they show
+abbrev pub tableIn : List ℕ → List ℕ → List ℕ → ℕ → ℕ → List ℕ → Table
+tableIn image lens slots limit count bytes = shown small limit (pagesOf small image) lens slots count bytes
+
+-- a node's view gains an entry
+pub record Gains (image lens slots : List ℕ) (limit x l n k v count : ℕ) (old new : List ℕ) (r : Rise) : Type 0 where
+  pub keeps : Keeps count old (r .count) new
+  pub plain : r .gains ≡ true → r .refused ≡ false
+  pub is : (j : ℕ) (es : List Entry) → nodeView small limit (pagesOf small image) lens slots count old n ≡ view j es
+      → Moved (holdMove limit x l n k v (insertEntry k v es) count) count old new r
+
+-- what an insert relies on: a tree with its next number, entries of 32 bits, and a buffer of units with room for 60 more
+pub record Ready (limit x count : ℕ) (bytes : List ℕ) (us : List U.Unit) (t : Table) : Type 0 where
+  pub tree : Tree t
+  pub small : (n : ℕ) → All (λ (e : Entry). (e .key < top) × (e .value < top)) (entriesAt t n)
+  pub next : x ≡ next t
+  pub numbers : x ≤ limit
+  pub levels : rootLevel t ≤ 3
+  pub units : decodes limit count bytes ≡ map Good us
+  pub room : count ≤ 900
+
+-- ---- what an insert under a node leaves
+abbrev pub givesOf : Up → Bool
+givesOf (stop t) = false
+givesOf (gains k m t) = true
+
+abbrev pub keyOf : Up → ℕ
+keyOf (stop t) = 0
+keyOf (gains k m t) = k
+
+abbrev pub numberOf : Up → ℕ
+numberOf (stop t) = 0
+numberOf (gains k m t) = m
+
+-- too many numbers, or the root too high
+abbrev pub Over : ℕ → ℕ → Up → Type 0
+Over limit n r = (limit < next (tableOf r)) ⊎ ((n ≡ 0) × (3 < rootLevel (tableOf r)))
+
+-- the units us make the table of r from t, within the limits
+pub record Sound (limit : ℕ) (t : Table) (us : List U.Unit) (r : Up) : Type 0 where
+  pub after : afterUnits us t ≡ tableOf r
+  pub valid : All (Valid limit) us
+  pub small : (n : ℕ) → All (λ (e : Entry). (e .key < top) × (e .value < top)) (entriesAt (tableOf r) n)
+  pub key : keyOf r < top
+  pub number : numberOf r < top
+  pub numbers : next (tableOf r) ≤ limit
+  pub low : rootLevel (tableOf r) ≤ 3
+
+-- the code's answer r to an insert under node n of level l that makes the units us and leaves up
+pub record Outcome (limit n l : ℕ) (t : Table) (us : List U.Unit) (up : Up) (count : ℕ) (old new : List ℕ) (r : Rise) : Type 0 where
+  pub refused : r .refused ≡ true → Over limit n up
+  pub sound : r .refused ≡ false → Sound limit t us up
+  pub went : r .refused ≡ false → Went us (givesOf up) (keyOf up) (numberOf up) (next (tableOf up)) count old new r
+  pub few : r .refused ≡ false → (n ≡ 0 → ⊥) → length us ≤ 19 * suc l
+
+-- where node n of level l is on the way to the leaf of k
+pub record Way (l n k : ℕ) (t : Table) : Type 0 where
+  pub leads : Leads l n k t
+  pub low : l ≤ rootLevel t
+  pub root : l ≡ rootLevel t → n ≡ 0
+
+pub record Rises (image lens slots : List ℕ) (limit x l n k v count : ℕ) (old new : List ℕ) (r : Rise) : Type 0 where
+  pub keeps : Keeps count old (r .count) new
+  pub plain : r .gains ≡ true → r .refused ≡ false
+  pub is : (us : List U.Unit) → Ready limit x count old us (tableIn image lens slots limit count old) → Way l n k (tableIn image lens slots limit count old)
+      → Outcome limit n l (tableIn image lens slots limit count old) (insertUnitsAt l n k v (tableIn image lens slots limit count old))
+      (insertAt l n k v (tableIn image lens slots limit count old)) count old new r
+
+-- ---- an insert
+-- an insert that is not refused: the table, its next number and the units of the buffer then
+pub record Done (image lens slots : List ℕ) (limit k v count : ℕ) (old : List ℕ) (us : List U.Unit) (t : Table) (new : List ℕ) (r : Inserted) : Type 0 where
+  pub is : insert limit k v t ≡ done (inserted k v t)
+  pub table : tableIn image lens slots limit (r .count) new ≡ inserted k v t
+  pub next : r .next ≡ next (inserted k v t)
+  pub units : decodes limit (r .count) new ≡ map Good (us ++ insertUnits k v t)
+  pub few : r .count ≤ count + 60
+
+pub record Inserts (image lens slots : List ℕ) (limit x k v count : ℕ) (old new : List ℕ) (r : Inserted) : Type 0 where
+  pub keeps : Keeps count old (r .count) new
+  pub stays : r .refused ≡ true → (r .count ≡ count) × (r .next ≡ x)
+  pub refused : r .refused ≡ true → (us : List U.Unit) → Ready limit x count old us (tableIn image lens slots limit count old)
+      → insert limit k v (tableIn image lens slots limit count old) ≡ refusal 5
+  pub done : r .refused ≡ false → (us : List U.Unit) → Ready limit x count old us (tableIn image lens slots limit count old)
+      → Done image lens slots limit k v count old us (tableIn image lens slots limit count old) new r
+
+-- ---- a delete of k from its leaf
+pub record Gone (image lens slots : List ℕ) (limit k count : ℕ) (us : List U.Unit) (t : Table) (new : List ℕ) (used : ℕ) : Type 0 where
+  pub table : tableIn image lens slots limit used new ≡ delete k t
+  pub units : decodes limit used new ≡ map Good (us ++ deleteUnits k t)
+  pub one : used ≡ count + 1
+
+pub record Deletes (image lens slots : List ℕ) (limit leaf k count : ℕ) (old new : List ℕ) (used : ℕ) : Type 0 where
+  pub keeps : Keeps count old used new
+  pub is : (x : ℕ) (us : List U.Unit) → Ready limit x count old us (tableIn image lens slots limit count old)
+      → leaf ≡ leafAt (rootLevel (tableIn image lens slots limit count old)) 0 k (tableIn image lens slots limit count old)
+      → Gone image lens slots limit k count us (tableIn image lens slots limit count old) new used

@@ -1,0 +1,255 @@
+// Step 6: the views are those of a tree whose root is node 0. The walk stops where a node comes twice, so that each is read a few times at most.
+ghost use mathlib.Core.Path.{_≡_};
+ghost use Prim.Native.Nat.{_+_, _%_, _<_, _≤_};
+ghost use lib.ListN.{length, getD, replicate};
+ghost use Rattle.views.specs.FoldCode.{viewOf};
+ghost use Rattle.views.specs.NodeCode.{entriesOf};
+ghost use Rattle.tree.specs.Tree as T;
+ghost use Rattle.tree.specs.Step6.{isLevel, keysIn, areSubtrees, isSubtree, reached, step6};
+ghost use Rattle.tree.specs.FindCode.{from};
+ghost use Rattle.tree.specs.CheckCode.{listed, startsAt, obeysAt, ownAt, under, Walks, Marks, countsFrom};
+use crate::find::solid;
+use views::fold::Folded;
+use views::fold::Stage;
+use views::node::Node;
+use views::view::list_view;
+
+// The end of the root's keys: every key is below it.
+const TOP: u64 = 4294967296;
+
+// 1 where a node is, 0 where none is.
+fn presence(f: Folded) -> u32
+    ensures { λ r. ⌜ r ≡ T.there (viewOf f) ⌝ }
+{
+    let stage = f.stage;
+    match stage {
+        Stage::Untouched => 0,
+        Stage::Broken => 0,
+        Stage::Full => 1,
+    }
+}
+
+// Whether a view is that of a node of level `level`.
+fn is_level(f: Folded, level: u32) -> bool
+    ensures { λ r. ⌜ r ≡ isLevel level (viewOf f) ⌝ }
+{
+    let stage = f.stage;
+    match stage {
+        Stage::Untouched => false,
+        Stage::Broken => false,
+        Stage::Full => f.node.level == level,
+    }
+}
+
+// Whether all keys of a node are from `lo` to below `hi`.
+fn keys_in(n: Node, lo: u32, hi: u64) -> bool
+    requires { ⌜ n .len ≤ 16 ⌝ }
+    ensures { λ r. ⌜ r ≡ keysIn lo hi (entriesOf n) ⌝ }
+{
+    let len = n.len;
+    let mut i: usize = 0;
+    while i < len {
+        let key = n.keys[i];
+        if key < lo {
+            return false;
+        }
+        if hi <= key as u64 {
+            return false;
+        }
+        i += 1;
+    }
+    true
+}
+
+// Whether a node has 1 to 16 entries, the first at `lo`.
+fn starts_at(n: Node, lo: u32) -> bool
+    requires { ⌜ n .len ≤ 16 ⌝ }
+    ensures { λ r. ⌜ r ≡ startsAt lo (entriesOf n) ⌝ }
+{
+    let len = n.len;
+    if len == 0 {
+        return false;
+    }
+    n.keys[0] == lo
+}
+
+// Whether the entries of a node of level `level` obey the rules of one node.
+fn obeys(n: Node, level: u32, lo: u32, hi: u64) -> bool
+    requires { ⌜ n .len ≤ 16 ⌝ }
+    ensures { λ r. ⌜ r ≡ obeysAt level lo hi (entriesOf n) ⌝ }
+{
+    if level == 0 {
+        return keys_in(n, lo, hi);
+    }
+    let starts = starts_at(n, lo);
+    if starts { keys_in(n, lo, hi) } else { false }
+}
+
+// Whether a view is that of a node of level `level` that obeys the rules of one node.
+fn own(f: Folded, level: u32, lo: u32, hi: u64) -> bool
+    requires { ⌜ f .node .len ≤ 16 ⌝ }
+    ensures { λ r. ⌜ r ≡ ownAt level (viewOf f) lo hi ⌝ }
+{
+    let right = is_level(f, level);
+    let n = f.node;
+    if right {
+        obeys(n, level, lo, hi)
+    } else {
+        false
+    }
+}
+
+// Where the keys of the child at `i` end: the next key, or the node's own end.
+fn end_at(n: Node, i: usize, hi: u64) -> u64
+    requires { ⌜ (n .len ≤ 16) × (i < n .len) ⌝ }
+    ensures { λ r. ⌜ (r ≡ T.firstKey hi (from (n .len) (i + 1) (n .keys) (n .values))) × (length (n .keys) ≡ 17) × (length (n .values) ≡ 17) ⌝ }
+{
+    let len = n.len;
+    let j = i + 1;
+    if j < len { n.keys[j] as u64 } else { hi }
+}
+
+// Counts `number`, unless it is counted already or no number of a node.
+fn mark(lens: &[u32], seen: &mut [u32], number: u32) -> bool
+    requires { ⌜ (length (now lens) ≡ 256) × (length (now seen) ≡ 256) ⌝ }
+    ensures { λ r. ⌜ Marks (length (now (lens .entry))) number (now (seen .entry)) (now (seen .exit)) r ⌝ }
+{
+    let n = number as usize;
+    if lens.len() <= n {
+        return false;
+    }
+    if seen[n] != 0 {
+        return false;
+    }
+    seen[n] = 1;
+    true
+}
+
+// How often `number` is counted; never from 256 on.
+fn count_at(seen: &[u32], number: u32) -> u32
+    requires { ⌜ length (now seen) ≡ 256 ⌝ }
+    ensures { λ r. ⌜ r ≡ getD (now (seen .entry)) number 0 ⌝ }
+{
+    let n = number as usize;
+    if n < 256 { seen[n] } else { 0 }
+}
+
+// Nothing is counted.
+fn clear(seen: &mut [u32; 256])
+    ensures { λ _. ⌜ now (seen .exit) ≡ replicate 256 0 ⌝ }
+{
+    *seen = [0; 256];
+}
+
+// Whether node `number` is the top of a tree of level `level` with keys from `lo` to below `hi`, of nodes that are new.
+fn visit(
+    image: &[u8],
+    lens: &[u32; 256],
+    slots: &[u32; 1024],
+    limit: u32,
+    seen: &mut [u32; 256],
+    level: u32,
+    number: u32,
+    lo: u32,
+    hi: u64,
+) -> bool
+    requires { ⌜ length (now image) % 528 ≡ 0 ⌝ }
+    ensures { λ r. ⌜ Walks (listed (now (image .entry)) (now (lens .entry)) (now (slots .entry)) limit)
+        (isSubtree level (listed (now (image .entry)) (now (lens .entry)) (now (slots .entry)) limit) number lo hi)
+        (reached level (listed (now (image .entry)) (now (lens .entry)) (now (slots .entry)) limit) number)
+        (now (seen .entry)) (now (seen .exit)) r ⌝ }
+{
+    let f = list_view(image, lens, slots, number, limit);
+    let fit = own(f, level, lo, hi);
+    if !fit {
+        return false;
+    }
+    let new = mark(lens, seen, number);
+    if !new {
+        return false;
+    }
+    if level == 0 {
+        return true;
+    }
+    let n = f.node;
+    subtrees(image, lens, slots, limit, seen, level - 1, n, 0, hi)
+}
+
+// Whether the entries of a node from `i` on lead to trees of level `level`, of nodes that are new.
+fn subtrees(
+    image: &[u8],
+    lens: &[u32; 256],
+    slots: &[u32; 1024],
+    limit: u32,
+    seen: &mut [u32; 256],
+    level: u32,
+    n: Node,
+    i: usize,
+    hi: u64,
+) -> bool
+    requires { ⌜ (length (now image) % 528 ≡ 0) × (n .len ≤ 16) ⌝ }
+    ensures { λ r. ⌜ Walks (listed (now (image .entry)) (now (lens .entry)) (now (slots .entry)) limit)
+        (areSubtrees (isSubtree level (listed (now (image .entry)) (now (lens .entry)) (now (slots .entry)) limit)) hi (from (n .len) i (n .keys) (n .values)))
+        (under level (listed (now (image .entry)) (now (lens .entry)) (now (slots .entry)) limit) (from (n .len) i (n .keys) (n .values)))
+        (now (seen .entry)) (now (seen .exit)) r ⌝ }
+{
+    let len = n.len;
+    if len <= i {
+        return true;
+    }
+    let number = n.values[i];
+    let lo = n.keys[i];
+    let end = end_at(n, i, hi);
+    let tree = visit(image, lens, slots, limit, seen, level, number, lo, end);
+    if !tree {
+        return false;
+    }
+    subtrees(image, lens, slots, limit, seen, level, n, i + 1, hi)
+}
+
+// Whether each node below `limit` is counted once, and nothing else.
+fn all_once(
+    image: &[u8],
+    lens: &[u32; 256],
+    slots: &[u32; 1024],
+    limit: u32,
+    seen: &[u32; 256],
+) -> bool
+    requires { ⌜ length (now image) % 528 ≡ 0 ⌝ }
+    ensures { λ r. ⌜ r ≡ countsFrom 0 (listed (now (image .entry)) (now (lens .entry)) (now (slots .entry)) limit) (now (seen .entry)) ⌝ }
+{
+    let mut n: u32 = 0;
+    while n < limit {
+        let f = list_view(image, lens, slots, n, limit);
+        let one = presence(f);
+        let count = count_at(seen, n);
+        if count != one {
+            return false;
+        }
+        n += 1;
+    }
+    true
+}
+
+// Step 6 on the table of the pages; `seen` is room to count in.
+pub fn is_tree(
+    image: &[u8],
+    lens: &[u32; 256],
+    slots: &[u32; 1024],
+    limit: u32,
+    seen: &mut [u32; 256],
+) -> bool
+    requires { ⌜ length (now image) % 528 ≡ 0 ⌝ }
+    ensures { λ r. ⌜ r ≡ step6 (listed (now (image .entry)) (now (lens .entry)) (now (slots .entry)) limit) ⌝ }
+{
+    let f = list_view(image, lens, slots, 0, limit);
+    let n = solid(f);
+    let level = n.level;
+    clear(seen);
+    let tree = visit(image, lens, slots, limit, seen, level, 0, 0, TOP);
+    if tree {
+        all_once(image, lens, slots, limit, seen)
+    } else {
+        false
+    }
+}

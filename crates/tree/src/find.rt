@@ -1,0 +1,173 @@
+// To find a key: the way down from node 0, each node read from its pages and then from the buffer.
+ghost use mathlib.Core.Path.{_≡_};
+ghost use Prim.Native.Nat.{_+_, _%_, _≤_};
+ghost use lib.ListN.{length};
+ghost use Rattle.chip.specs.Geometry.{small};
+ghost use Rattle.chip.specs.Chip.{pagesOf};
+ghost use Rattle.views.specs.FoldCode.{viewOf};
+ghost use Rattle.views.specs.NodeCode.{entriesOf};
+ghost use Rattle.views.specs.Stored.{storedList};
+ghost use Rattle.tree.specs.Tree as T;
+ghost use Rattle.tree.specs.Shown.{shown};
+ghost use Rattle.tree.specs.FindCode.{hitOf, Holds, Finds, Answers};
+use views::fold::Folded;
+use views::fold::Stage;
+use views::node;
+use views::node::Node;
+use views::view::node_view;
+
+// What a leaf holds for a key: its value, or nothing.
+pub enum Hit {
+    At(u32),
+    Nothing,
+}
+
+// What a key has, the number of its leaf, and how many pages were read on the way to it.
+pub struct Looked {
+    pub hit: Hit,
+    pub leaf: u32,
+    pub pages: u32,
+}
+
+// The child of a node for `key`: the value of the greatest entry key that is not above it.
+pub fn child(n: Node, key: u32) -> u32
+    requires { ⌜ n .len ≤ 17 ⌝ }
+    ensures { λ r. ⌜ r ≡ T.below key 0 (entriesOf n) ⌝ }
+{
+    let len = n.len;
+    let mut found: u32 = 0;
+    let mut i: usize = 0;
+    while i < len {
+        if key < n.keys[i] {
+            return found;
+        }
+        found = n.values[i];
+        i += 1;
+    }
+    found
+}
+
+// What a leaf holds for `key`.
+pub fn lookup(n: Node, key: u32) -> Hit
+    requires { ⌜ n .len ≤ 17 ⌝ }
+    ensures { λ r. ⌜ hitOf r ≡ T.lookup key (entriesOf n) ⌝ }
+{
+    let len = n.len;
+    let mut i: usize = 0;
+    while i < len {
+        if n.keys[i] == key {
+            return Hit::At(n.values[i]);
+        }
+        i += 1;
+    }
+    Hit::Nothing
+}
+
+// The level and the entries of a view; none where the node is not there.
+pub fn solid(f: Folded) -> Node
+    requires { ⌜ f .node .len ≤ 16 ⌝ }
+    ensures { λ r. ⌜ Holds (viewOf f) r ⌝ }
+{
+    let stage = f.stage;
+    match stage {
+        Stage::Untouched => node::reset(0),
+        Stage::Broken => node::reset(0),
+        Stage::Full => f.node,
+    }
+}
+
+// The level and the entries of node `number`, from its pages and then from the buffer.
+pub fn node_at(
+    image: &[u8],
+    lens: &[u32; 256],
+    slots: &[u32; 1024],
+    buffer: &[u8; 11520],
+    count: usize,
+    limit: u32,
+    number: u32,
+) -> Node
+    requires { ⌜ length (now image) % 528 ≡ 0 ⌝ }
+    ensures { λ r. ⌜ Holds (T.at (shown small limit (pagesOf small (now (image .entry))) (now (lens .entry)) (now (slots .entry)) count (now (buffer .entry))) number) r ⌝ }
+{
+    let f = node_view(image, lens, slots, buffer, count, number, limit);
+    solid(f)
+}
+
+// How many pages the list of node `number` has, with the arrays as slices.
+fn used_pages(lens: &[u32], slots: &[u32], number: u32) -> u32
+    requires { ⌜ (length (now lens) ≡ 256) × (length (now slots) ≡ 1024) ⌝ }
+    ensures { λ r. ⌜ (r ≡ length (storedList (now (lens .entry)) (now (slots .entry)) number)) × (r ≤ 4) ⌝ }
+{
+    let n = number as usize;
+    if n < 256 {
+        let len = lens[n];
+        if len < 4 { len } else { 4 }
+    } else {
+        0
+    }
+}
+
+// How many pages the list of node `number` has, as they are read: at most 4.
+pub fn list_pages(lens: &[u32; 256], slots: &[u32; 1024], number: u32) -> u32
+    ensures { λ r. ⌜ (r ≡ length (storedList (now (lens .entry)) (now (slots .entry)) number)) × (r ≤ 4) ⌝ }
+{
+    used_pages(lens, slots, number)
+}
+
+// The way from node `number` of level `level`, which `n` shows, down to the leaf of `key`.
+fn find_at(
+    image: &[u8],
+    lens: &[u32; 256],
+    slots: &[u32; 1024],
+    buffer: &[u8; 11520],
+    count: usize,
+    limit: u32,
+    level: u32,
+    number: u32,
+    n: Node,
+    key: u32,
+) -> Looked
+    requires { ⌜ (length (now image) % 528 ≡ 0) × (level ≤ 3) × Holds (T.at (shown small limit (pagesOf small (now image)) (now lens) (now slots) count (now buffer)) number) n ⌝ }
+    ensures { λ r. ⌜ Finds (now (lens .entry)) (now (slots .entry)) level number key (shown small limit (pagesOf small (now (image .entry))) (now (lens .entry)) (now (slots .entry)) count (now (buffer .entry))) r ⌝ }
+{
+    let pages = list_pages(lens, slots, number);
+    if level == 0 {
+        let hit = lookup(n, key);
+        return Looked {
+            hit,
+            leaf: number,
+            pages,
+        };
+    }
+    let c = child(n, key);
+    let m = node_at(image, lens, slots, buffer, count, limit, c);
+    let low = level - 1;
+    let r = find_at(image, lens, slots, buffer, count, limit, low, c, m, key);
+    let hit = r.hit;
+    let leaf = r.leaf;
+    let more = r.pages;
+    let sum = pages + more;
+    Looked {
+        hit,
+        leaf,
+        pages: sum,
+    }
+}
+
+// What `key` has, its leaf, and how many pages the way from the root to it read: at most 16.
+pub fn find(
+    image: &[u8],
+    lens: &[u32; 256],
+    slots: &[u32; 1024],
+    buffer: &[u8; 11520],
+    count: usize,
+    limit: u32,
+    key: u32,
+) -> Looked
+    requires { ⌜ length (now image) % 528 ≡ 0 ⌝ }
+    ensures { λ r. ⌜ Answers (now (lens .entry)) (now (slots .entry)) key (shown small limit (pagesOf small (now (image .entry))) (now (lens .entry)) (now (slots .entry)) count (now (buffer .entry))) r ⌝ }
+{
+    let n = node_at(image, lens, slots, buffer, count, limit, 0);
+    let level = n.level;
+    find_at(image, lens, slots, buffer, count, limit, level, 0, n, key)
+}

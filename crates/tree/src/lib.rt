@@ -1,0 +1,5 @@
+// The tree: find, insert and delete as recursion on the level, and step 6.
+pub mod check;
+pub mod delete;
+pub mod find;
+pub mod insert;
