@@ -1,29 +1,28 @@
 -- What the code of an insert answers where the arrays show a tree: one node that gains an entry, and the way up. Assumes nothing.
 use mathlib.Core.Path.{_≡_, refl, sym, ap, ap₂, _∙_, subst}
-use mathlib.Core.Bool.{Bool, true, false, cond}
+use mathlib.Core.Bool.{true, false}
 use mathlib.Core.Logic.{_⊎_, inl, inr, ⊎-elim}
-use mathlib.Core.List.{List, [], _∷_, _++_, map, append-nil}
+use mathlib.Core.List.{List, [], _∷_, _++_, append-nil}
 use Prim.Native.Nat.{ℕ, zero, suc, _+_, _*_, _<_, _≤_}
 use native.Mathlib.Omega.{arith}
-use native.Mathlib.Numerals.{add-one}
 use lib.Dec.{leb}
 use lib.ListN.{length, take, drop, length-append}
 use lib.Seq.{take-take}
 use borrow.Author.Tests.{le-leb, lt-leb, lt-ltb, le-ltb, eq-eqb, ne-eqb}
-use Rattle.lists.specs.Lists.{All, none, more}
+use Rattle.lists.specs.Lists.{All, more}
 use Rattle.lists.proofs.Tests.{cases, clash, below-or-not, same-or-not}
 use Rattle.lists.proofs.Alls.{All-zip, All-append, All-head}
 use Rattle.chip.specs.Geometry.{small}
 use Rattle.chip.specs.Chip.{pagesOf}
 use Rattle.pages.specs.declared.unit.Unit as U
-use Rattle.pages.specs.declared.unit.Update.the-variants.{Insert, Delete}
+use Rattle.pages.specs.declared.unit.Update.the-variants.{Delete}
 use Rattle.pages.specs.Units.{decodes}
 use Rattle.views.specs.declared.node.Node as N
 use Rattle.views.specs.declared.fold.Stage.{Stage}
 use Rattle.views.specs.declared.fold.Stage.the-variants.{Untouched, Broken, Full}
 use Rattle.views.specs.Nodes.{Entry, entry, View, view, Above, Rising, insertEntry}
 use Rattle.views.specs.NodeCode.{entriesOf, Shows}
-use Rattle.views.specs.FoldCode.{viewAt, viewOf, Stands}
+use Rattle.views.specs.FoldCode.{viewAt, Stands}
 use Rattle.views.specs.declared.fold.Folded.{Folded}
 use Rattle.views.specs.Stored.{nodeView}
 use Rattle.views.specs.Pass.{pushed}
@@ -34,7 +33,7 @@ use Rattle.tree.specs.Step6.{top, isLevel, Leads, Fits, Tree}
 use Rattle.tree.specs.Units.{afterUnits, halveUnits, raiseUnits, holdUnits, gainUnits, passUnits, insertUnitsAt, insertUnits, deleteUnits}
 use Rattle.tree.specs.declared.insert.Rise.{Rise}
 use Rattle.tree.specs.declared.insert.Inserted.{Inserted}
-use Rattle.tree.specs.InsertCode.{Move, unable, able, fitMove, raiseMove, halveMove, holdMove, Stayed, Went, Moved, Holds, Keeps, tableIn, Gains, Ready, givesOf, keyOf, numberOf, Over, Sound, Outcome, Way, Rises, Inserts, Written, Gone, Deletes}
+use Rattle.tree.specs.InsertCode.{Move, unable, able, holdMove, Stayed, Went, Moved, Holds, Keeps, tableIn, Gains, Ready, givesOf, keyOf, numberOf, Over, Sound, Outcome, Way, Rises, comes, Passes, Descends, RootIs, answers, Inserts, Written, Deletes}
 use Rattle.tree.proofs.Entries.{Between, insert-step}
 use Rattle.tree.proofs.Tables.{at-same, at-other, there-below}
 use Rattle.tree.proofs.Numbers.{next-same, next-halve, next-raise, raised}
@@ -340,10 +339,13 @@ module _ (image lens slots : List ℕ) (limit : ℕ) (hl : limit ≤ 256) where
     root-there g = ap there (leads-view (rootLevel t) 0 k t (leads k t g hk))
 
     -- the leaf
-    pub rises-leaf : (l n : ℕ) (new : List ℕ) (r : Rise) → l ≡ 0 → Gains image lens slots limit x 0 n k v count old new r
+    pub rises-leaf : (l n : ℕ) (new : List ℕ) (a r : Rise) → l ≡ 0 → a ≡ comes count x k v → Passes image lens slots limit l n a old new r
         → Rises image lens slots limit x l n k v count old new r
     unfolding insertAt insertUnitsAt
-    rises-leaf l n new r z G =
+    rises-leaf l n new a r z c P =
+        let G : Gains image lens slots limit x 0 n k v count old new r =
+        subst (λ (i : ℕ). Gains image lens slots limit x i n k v count old new r) z
+        (subst (λ (b : Rise). Passes image lens slots limit l n b old new r) c P .gained refl) in
         subst (λ (i : ℕ). Rises image lens slots limit x i n k v count old new r) (sym z)
         (record {
           keeps = G .keeps;
@@ -362,16 +364,13 @@ module _ (image lens slots : List ℕ) (limit : ℕ) (hl : limit ≤ 256) where
       root = λ q. absurd (omega (arith, W .low));
     }
 
-    -- the child that is read
-    pub child-read : (m n c : ℕ) (f : Folded) → Stands f (nodeView small limit (pagesOf small image) lens slots count old n) → Leads m n k t
-        → below k 0 (entriesOf (f .node)) ≡ child t n k
-    child-read m n c f st h =
-        ap (below k 0)
-        (read-view f (nodeView small limit (pagesOf small image) lens slots count old n) m (entriesAt t n) st (way-read count old m n t refl (leads-view m n k t h)) .1)
+    module _ (m n c : ℕ) (mid : List ℕ) (r : Rise) (D : Descends image lens slots limit count old n k c) (A : Rises image lens slots limit x m c k v count old mid r) where
+      -- the child that is read
+      ec : (l : ℕ) → Leads l n k t → c ≡ child t n k
+      ec l h = D l (entriesAt t n) (way-read count old l n t refl (leads-view l n k t h))
 
-    module _ (m n c : ℕ) (mid : List ℕ) (r : Rise) (ec : (l : ℕ) → Leads l n k t → c ≡ child t n k) (A : Rises image lens slots limit x m c k v count old mid r) where
       -- the child's answer is passed on
-      pub rises-stop : (l : ℕ) → l ≡ suc m → r .gains ≡ false → Rises image lens slots limit x l n k v count old mid r
+      rises-stop : (l : ℕ) → l ≡ suc m → r .gains ≡ false → Rises image lens slots limit x l n k v count old mid r
       unfolding insertAt insertUnitsAt
       rises-stop l z g =
           subst (λ (i : ℕ). Rises image lens slots limit x i n k v count old mid r) (sym z)
@@ -438,10 +437,19 @@ module _ (image lens slots : List ℕ) (limit : ℕ) (hl : limit ≤ 256) where
                   (up-outcome us R W w (insertAt m c k v t) refl (A .is us R w));
             })
 
-      pub rises-up : (l : ℕ) → l ≡ suc m → (new : List ℕ) (r₂ : Rise) → r .gains ≡ true
+      rises-up : (l : ℕ) → l ≡ suc m → (new : List ℕ) (r₂ : Rise) → r .gains ≡ true
           → Gains image lens slots limit (r .next) l n (r .key) (r .number) (r .count) mid new r₂ → Rises image lens slots limit x l n k v count old new r₂
       rises-up l z new r₂ g G =
           rises-gain new r₂ g (subst (λ (i : ℕ). Gains image lens slots limit (r .next) i n (r .key) (r .number) (r .count) mid new r₂) z G) l z
+
+      pub rises-pass : (l : ℕ) → l ≡ suc m → (new : List ℕ) (a : Rise) → Passes image lens slots limit l n r mid new a
+          → Rises image lens slots limit x l n k v count old new a
+      rises-pass l z new a P =
+          cases (r .gains)
+          (λ g. rises-up l z new a g (P .gained g))
+          (λ g. let s = P .same g in
+          subst (λ (b : List ℕ). Rises image lens slots limit x l n k v count old b a) (sym (s .0))
+          (subst (λ (b : Rise). Rises image lens slots limit x l n k v count old mid b) (sym (s .1)) (rises-stop l z g)))
 
     -- ---- an insert from node 0
     root-way : Tree t → Way (rootLevel t) 0 k t
@@ -463,42 +471,43 @@ module _ (image lens slots : List ℕ) (limit : ℕ) (hl : limit ≤ 256) where
     unfolding insert allowed inserted
     within-done p q = rw (le-leb (next left) limit p, le-leb (rootLevel left) 3 q)
 
-    module _ (f : Folded) (st : Stands f (nodeView small limit (pagesOf small image) lens slots count old 0)) (room : count ≤ 960) (r : Inserted) where
+    module _ (l : ℕ) (L : RootIs image lens slots limit count old l) (room : count ≤ 960) (a : Rise) where
       -- the root's level is read
-      root-read : Tree t → f .node .level ≡ rootLevel t
-      root-read g =
-          read-view f (nodeView small limit (pagesOf small image) lens slots count old 0) (rootLevel t) (entriesAt t 0) st
-          (way-read count old (rootLevel t) 0 t refl (leads-view (rootLevel t) 0 k t (leads k t g hk))) .0
+      root-read : Tree t → l ≡ rootLevel t
+      root-read g = L (rootLevel t) (entriesAt t 0) (way-read count old (rootLevel t) 0 t refl (leads-view (rootLevel t) 0 k t (leads k t g hk)))
 
       -- it is not above 3
-      pub insert-high : 3 < f .node .level → r .refused ≡ true → r .count ≡ count → r .next ≡ x → Inserts image lens slots limit x k v count old old r
-      insert-high h e c q = record {
+      too-high : 3 < l → Inserts image lens slots limit x k v count old old (record { refused = true; count = count; next = x })
+      too-high h = record {
         keeps = record { same = refl; front = refl; more = omega arith; room = omega arith };
-        stays = λ _. (c, q);
+        stays = λ _. (refl, refl);
         refused = λ _ us R. absurd (omega (arith, root-read (R .tree), R .levels));
-        done = λ g. clash e g;
+        done = λ g. clash refl g;
       }
 
-      module _ (new : List ℕ) (a : Rise) (A : Rises image lens slots limit x (f .node .level) 0 k v count old new a) where
+      pub insert-high : 3 < l → a .refused ≡ true → (r : Inserted) → r ≡ answers a count x → Inserts image lens slots limit x k v count old old r
+      insert-high h e r q = rw (q, e) (too-high h)
+
+      module _ (new : List ℕ) (A : Rises image lens slots limit x l 0 k v count old new a) where
         root-outcome : (us : List U.Unit) → Ready limit x count old us t
             → Outcome limit 0 (rootLevel t) t (insertUnitsAt (rootLevel t) 0 k v t) (insertAt (rootLevel t) 0 k v t) count old new a
         root-outcome us R =
             subst (λ (l : ℕ). Rises image lens slots limit x l 0 k v count old new a) (root-read (R .tree)) A .is us R (root-way (R .tree))
 
-        pub insert-refused : a .refused ≡ true → r .refused ≡ true → r .count ≡ count → r .next ≡ x → Inserts image lens slots limit x k v count old new r
-        insert-refused b e c q = record {
+        insert-refused : a .refused ≡ true → Inserts image lens slots limit x k v count old new (record { refused = true; count = count; next = x })
+        insert-refused b = record {
           keeps = record { same = A .keeps .same; front = A .keeps .front; more = omega arith; room = omega arith };
-          stays = λ _. (c, q);
+          stays = λ _. (refl, refl);
           refused = λ _ us R. over-refused (root-outcome us R .refused b);
-          done = λ g. clash e g;
+          done = λ g. clash refl g;
         }
 
-        pub insert-made : a .refused ≡ false → r .refused ≡ false → r .count ≡ a .count → r .next ≡ a .next → Inserts image lens slots limit x k v count old new r
+        insert-made : a .refused ≡ false → Inserts image lens slots limit x k v count old new (record { refused = false; count = a .count; next = a .next })
         unfolding inserted insertUnits
-        insert-made b e c q = record {
-          keeps = subst (λ (i : ℕ). Keeps count old i new) (sym c) (A .keeps);
-          stays = λ g. clash g e;
-          refused = λ g. clash g e;
+        insert-made b = record {
+          keeps = A .keeps;
+          stays = λ g. clash g refl;
+          refused = λ g. clash g refl;
           done =
               λ _ us R. let O = root-outcome us R in
               let S = O .sound b in
@@ -508,15 +517,18 @@ module _ (image lens slots : List ℕ) (limit : ℕ) (hl : limit ≤ 256) where
               record {
                 is = within-done (S .numbers) (S .low);
                 table =
-                    ap₂ (λ (i : ℕ) (y : List ℕ). tableIn image lens slots limit i y) (c ∙ X .used) (X .bytes)
+                    ap₂ (λ (i : ℕ) (y : List ℕ). tableIn image lens slots limit i y) (X .used) (X .bytes)
                     ∙ shown-pushed small limit (pagesOf small image) lens slots count old us xs (R .units) (S .valid) fits (X .long) ∙ S .after;
-                next = q ∙ X .next;
+                next = X .next;
                 units =
-                    ap₂ (λ (i : ℕ) (y : List ℕ). decodes limit i y) (c ∙ X .used) (X .bytes)
+                    ap₂ (λ (i : ℕ) (y : List ℕ). decodes limit i y) (X .used) (X .bytes)
                     ∙ pushed-good small limit (pagesOf small image) lens slots count old us xs (R .units) (S .valid) fits (X .long);
                 few = omega (arith, X .used, insert-units k v t (R .tree) hk .few (R .levels) (S .low));
               };
         }
+
+        pub insert-answers : (r : Inserted) → r ≡ answers a count x → Inserts image lens slots limit x k v count old new r
+        insert-answers r q = cases (a .refused) (λ b. rw (q, b) (insert-refused b)) (λ b. rw (q, b) (insert-made b))
 
   -- ---- a delete
   module _ (k count : ℕ) (old : List ℕ) (hk : k < top) (leaf : ℕ) where

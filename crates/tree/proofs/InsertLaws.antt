@@ -1,22 +1,20 @@
 -- The halves of a node, the way down, and what is pushed for a node that gains an entry. Assumes nothing.
 use mathlib.Core.Path.{_≡_, refl, sym, ap, ap₂, _∙_, subst}
 use mathlib.Core.Bool.{Bool, true, false, cond, _&&_}
-use mathlib.Core.Logic.{_⊎_, inl, inr, ⊎-elim}
 use mathlib.Core.List.{List, [], _∷_, _++_, map, append-nil}
 use Prim.Native.Nat.{ℕ, zero, suc, _+_, _*_, _<_, _≤_}
 use native.Mathlib.Omega.{arith}
 use native.Mathlib.Numerals.{add-one}
 use lib.Dec.{ltb, leb}
-use lib.ListN.{length, take, drop, getD, length-append, length-map, length-take, length-drop, drop-of-length-le}
-use lib.Seq.{length-take-le, slice-cons, slice-empty, drop-cons, take-take, take-all}
-use borrow.Author.Tests.{le-leb, lt-leb, lt-ltb, le-ltb, eq-eqb, ne-eqb, ltb-true, leb-true}
+use lib.ListN.{length, take, drop, getD, length-append, length-map, length-drop, drop-of-length-le}
+use lib.Seq.{length-take-le, slice-cons, slice-empty, drop-cons, take-all}
+use borrow.Author.Tests.{le-leb, lt-leb, ltb-true, leb-true}
 use Rattle.views.specs.declared.node.Node as N
 use Rattle.lists.specs.Lists.{patch}
-use Rattle.lists.proofs.Tests.{clash, and-left, and-right, below-or-not, same-or-not}
+use Rattle.lists.proofs.Tests.{clash, and-left, and-right}
 use Rattle.pages.specs.declared.unit.Unit as U
-use Rattle.pages.specs.declared.unit.Update.the-variants.{Insert}
 use Rattle.pages.specs.Units.{encode}
-use Rattle.views.specs.Nodes.{Entry, entry, insertEntry, anew, inserted as insertOf}
+use Rattle.views.specs.Nodes.{Entry, entry, anew}
 use Rattle.views.specs.Groups.{unitFor}
 use Rattle.views.specs.Pass.{pushed, nodeUnits}
 use Rattle.views.specs.NodeCode.{pairs, entriesOf, Shows}
@@ -24,7 +22,7 @@ use Rattle.views.proofs.NodeLaws.{length-entries}
 use Rattle.tree.specs.Tree.{below, firstKey}
 use Rattle.tree.specs.Units.{anewAt, halveUnits, raiseUnits}
 use Rattle.tree.specs.declared.insert.Rise.{Rise}
-use Rattle.tree.specs.InsertCode.{two, Written, Keeps, Move, unable, able, fitMove, raiseMove, halveMove, holdMove, Stayed, Went, Moved, Holds}
+use Rattle.tree.specs.InsertCode.{two, Written, Keeps, Move, unable, able, Stayed, Holds}
 use Rattle.tree.proofs.ShownLaws.{length-pushed, pushed-append, take-pushed}
 
 -- ---- the halves of a node of 17 entries
@@ -45,7 +43,7 @@ drop-pairs (suc n) (k ∷ ks) [] = sym (pairs-nil (drop n ks))
 drop-pairs (suc n) (k ∷ ks) (v ∷ vs) = drop-pairs n ks vs
 
 -- the last 8 of 17
-eight : (l : List ℕ) → length l ≡ 17
+pub eight : (l : List ℕ) → length l ≡ 17
     → drop 9 l ≡ getD l 9 0 ∷ getD l 10 0 ∷ getD l 11 0 ∷ getD l 12 0 ∷ getD l 13 0 ∷ getD l 14 0 ∷ getD l 15 0 ∷ getD l 16 0 ∷ []
 eight l h =
     drop-cons l 9 0 (omega arith) ∙ ap (λ (r : List ℕ). getD l 9 0 ∷ r)
@@ -75,16 +73,13 @@ module _ (n : N.Node) (h : n .len ≡ 17) (lk : length (n .keys) ≡ 17) (lv : l
     room = omega arith;
   }
 
-  pub upper-shows : (r : N.Node) (l : ℕ) → r .level ≡ l → r .len ≡ 8
-      → take 8 (r .keys) ≡ getD (n .keys) 9 0 ∷ getD (n .keys) 10 0 ∷ getD (n .keys) 11 0 ∷ getD (n .keys) 12 0 ∷ getD (n .keys) 13 0 ∷ getD (n .keys) 14 0 ∷ getD (n .keys) 15 0 ∷ getD (n .keys) 16 0 ∷ []
-      → take 8 (r .values) ≡ getD (n .values) 9 0 ∷ getD (n .values) 10 0 ∷ getD (n .values) 11 0 ∷ getD (n .values) 12 0 ∷ getD (n .values) 13 0 ∷ getD (n .values) 14 0 ∷ getD (n .values) 15 0 ∷ getD (n .values) 16 0 ∷ []
+  pub upper-shows : (r : N.Node) (l : ℕ) → r .level ≡ l → r .len ≡ 8 → take 8 (r .keys) ≡ drop 9 (n .keys) → take 8 (r .values) ≡ drop 9 (n .values)
       → Shows r l (drop 9 (entriesOf n))
   upper-shows r l e₁ e₂ e₃ e₄ = record {
     same = e₁;
     is =
         ap (λ (m : ℕ). pairs (take m (r .keys)) (take m (r .values))) e₂
-        ∙ ap₂ pairs (e₃ ∙ sym (eight (n .keys) lk)) (e₄ ∙ sym (eight (n .values) lv))
-        ∙ sym (drop-pairs 9 (n .keys) (n .values)) ∙ ap (drop 9) (sym all-entries);
+        ∙ ap₂ pairs e₃ e₄ ∙ sym (drop-pairs 9 (n .keys) (n .values)) ∙ ap (drop 9) (sym all-entries);
     len = length-drop 9 (entriesOf n) ∙ omega (arith, entries-17);
     room = omega arith;
   }

@@ -4,9 +4,9 @@ use mathlib.Core.Bool.{true, cond}
 use mathlib.Core.List.{List, [], _∷_, _++_, map, foldl}
 use Prim.Native.Nat.{ℕ, zero, suc, _+_, _*_, _<_, _≤_}
 use native.Mathlib.Omega.{arith}
-use lib.Dec.{eqb}
-use lib.ListN.{length, take, drop}
-use lib.Seq.{take-at, length-take-le}
+use lib.Dec.{leb, eqb}
+use lib.ListN.{length, take, drop, getD}
+use lib.Seq.{take-at, take-take, take-nil, length-take-le, getD-take}
 use borrow.Author.Tests.{eq-eqb, ne-eqb, le-leb}
 use Rattle.lists.specs.Lists.{All, none, more, all, tab, flat, patch}
 use Rattle.lists.proofs.Tests.{cases}
@@ -16,14 +16,15 @@ use Rattle.lists.proofs.Parts.{length-patch}
 use Rattle.chip.specs.Geometry.{Geometry}
 use Rattle.chip.specs.Page.{Page}
 use Rattle.pages.specs.declared.unit.Unit as U
+use Rattle.pages.specs.declared.unit.Decoded.{Decoded}
 use Rattle.pages.specs.declared.unit.Decoded.the-variants.{Good}
-use Rattle.pages.specs.Units.{decodes, encode, Valid}
+use Rattle.pages.specs.Units.{decode, decodes, encode, Valid}
 use Rattle.pages.proofs.UnitLaws.{length-encode, length-units}
-use Rattle.views.specs.Nodes.{View, untouched, view, apply, Entry}
-use Rattle.views.specs.Groups.{own, present}
+use Rattle.views.specs.Nodes.{View, broken, view, apply, Entry}
+use Rattle.views.specs.Groups.{present}
 use Rattle.views.specs.Table.{isGood}
 use Rattle.views.specs.FoldCode.{turnView, viewAfter}
-use Rattle.views.specs.Stored.{storedList, listView, bufferView, nodeView}
+use Rattle.views.specs.Stored.{storedList, viewOver, listView, bufferView, nodeView}
 use Rattle.views.specs.Pass.{pushed}
 use Rattle.views.proofs.Groups.{present-append}
 use Rattle.views.proofs.BufferLaws.{pushed-none, pushed-more, pushed-read}
@@ -142,3 +143,49 @@ pushed-append b c (u ∷ us) vs h =
 pub take-pushed : (b : List ℕ) (c : ℕ) (us : List U.Unit) → 12 * c ≤ length b → take (12 * c) (pushed b c us) ≡ take (12 * c) b
 take-pushed b c us h =
     take-at (take (12 * c) b) (flat encode us ++ drop (12 * length us) (drop (12 * c) b)) (12 * c) (length-take-le (12 * c) b h)
+
+-- ---- what stands behind the units does not count
+-- a unit is read from its 12 bytes
+decode-take : (limit : ℕ) (b : List ℕ) → decode limit (take 12 b) ≡ decode limit b
+unfolding decode
+decode-take limit b =
+    let at : (i : ℕ) → i < 12 → getD (take 12 b) i 0 ≡ getD b i 0 = λ i h. getD-take 12 b i 0 h in
+    rw (
+      at 0 (omega arith),
+      at 1 (omega arith),
+      at 2 (omega arith),
+      at 3 (omega arith),
+      at 4 (omega arith),
+      at 5 (omega arith),
+      at 6 (omega arith),
+      at 7 (omega arith),
+      at 8 (omega arith),
+      at 9 (omega arith),
+      at 10 (omega arith),
+      at 11 (omega arith),
+    )
+
+drop-take : (a m n : ℕ) (xs : List ℕ) → n ≡ a + m → drop a (take n xs) ≡ take m (drop a xs)
+drop-take zero m n xs e = ap (λ (i : ℕ). take i xs) (let q : n ≡ m = omega arith in q)
+drop-take (suc a) m zero xs e = absurd (omega arith)
+drop-take (suc a) m (suc n) [] e = sym (take-nil m)
+drop-take (suc a) m (suc n) (x ∷ xs) e = drop-take a m n xs (omega arith)
+
+decodes-take : (limit c n : ℕ) (b : List ℕ) → n ≡ 12 * c → decodes limit c (take n b) ≡ decodes limit c b
+decodes-take limit zero n b e = refl
+decodes-take limit (suc c) n b e =
+    let m : ℕ = 12 * c in
+    ap₂ _∷_
+    (sym (decode-take limit (take n b)) ∙ ap (decode limit) (take-take 12 n b (omega arith)) ∙ decode-take limit b)
+    (ap (decodes limit c) (drop-take 12 m n b (omega arith)) ∙ decodes-take limit c m (drop 12 b) refl)
+
+-- buffers with the same units in front show the same
+module _ (limit c : ℕ) (b d : List ℕ) (e : take (12 * c) b ≡ take (12 * c) d) where
+  pub decodes-front : decodes limit c b ≡ decodes limit c d
+  decodes-front = sym (decodes-take limit c (12 * c) b refl) ∙ ap (decodes limit c) e ∙ decodes-take limit c (12 * c) d refl
+
+  pub shown-front : (g : Geometry) (pages : List Page) (lens slots : List ℕ) → shown g limit pages lens slots c b ≡ shown g limit pages lens slots c d
+  unfolding shown bufferView
+  shown-front g pages lens slots =
+      tab-same (nodeView g limit pages lens slots c b) (nodeView g limit pages lens slots c d) 0 limit
+      (λ n _. ap (λ (ds : List Decoded). cond (leb c 960) (viewOver n (listView g limit pages n (storedList lens slots n)) ds) broken) decodes-front)

@@ -19,7 +19,7 @@ use Rattle.views.specs.Stored.{nodeView}
 use Rattle.views.specs.Pass.{pushed}
 use Rattle.tree.specs.declared.insert.Rise.{Rise}
 use Rattle.tree.specs.declared.insert.Inserted.{Inserted}
-use Rattle.tree.specs.Tree.{Table, entriesAt, next, rootLevel, firstKey, leafAt, Up, stop, gains, tableOf, insertAt, inserted, refusal, done, insert, delete}
+use Rattle.tree.specs.Tree.{Table, entriesAt, next, rootLevel, below, firstKey, leafAt, Up, stop, gains, tableOf, insertAt, inserted, refusal, done, insert, delete}
 use Rattle.tree.specs.Step6.{top, Leads, Tree}
 use Rattle.tree.specs.Units.{afterUnits, halveUnits, raiseUnits, insertUnitsAt, insertUnits, deleteUnits}
 use Rattle.tree.specs.Shown.{shown}
@@ -102,6 +102,30 @@ pub record Gains (image lens slots : List ℕ) (limit x l n k v count : ℕ) (ol
   pub plain : r .gains ≡ true → r .refused ≡ false
   pub is : (j : ℕ) (es : List Entry) → nodeView small limit (pagesOf small image) lens slots count old n ≡ view j es
       → Moved (holdMove limit x l n k v (insertEntry k v es) count) count old new r
+
+-- an entry that comes to a leaf
+abbrev pub comes : ℕ → ℕ → ℕ → ℕ → Rise
+comes count x k v = record { refused = false; gains = true; key = k; number = v; count = count; next = x }
+
+-- a node after its child's answer a: it gains what the child gave up, or the answer stays
+pub record Passes (image lens slots : List ℕ) (limit l n : ℕ) (a : Rise) (old new : List ℕ) (r : Rise) : Type 0 where
+  pub gained : a .gains ≡ true → Gains image lens slots limit (a .next) l n (a .key) (a .number) (a .count) old new r
+  pub same : a .gains ≡ false → (new ≡ old) × (r ≡ a)
+
+-- c is under node n on the way to the leaf of k
+abbrev pub Descends : List ℕ → List ℕ → List ℕ → ℕ → ℕ → List ℕ → ℕ → ℕ → ℕ → Type 0
+Descends image lens slots limit count bytes n k c =
+    (l : ℕ) (es : List Entry) → nodeView small limit (pagesOf small image) lens slots count bytes n ≡ view l es → c ≡ below k 0 es
+
+-- l is the level of node 0
+abbrev pub RootIs : List ℕ → List ℕ → List ℕ → ℕ → ℕ → List ℕ → ℕ → Type 0
+RootIs image lens slots limit count bytes l =
+    (j : ℕ) (es : List Entry) → nodeView small limit (pagesOf small image) lens slots count bytes 0 ≡ view j es → l ≡ j
+
+-- the answer to an insert at node 0
+abbrev pub answers : Rise → ℕ → ℕ → Inserted
+answers r count x =
+    cond (r .refused) (record { refused = true; count = count; next = x }) (record { refused = false; count = r .count; next = r .next })
 
 -- what an insert relies on: a tree with its next number, entries of 32 bits, and a buffer of units with room for 60 more
 pub record Ready (limit x count : ℕ) (bytes : List ℕ) (us : List U.Unit) (t : Table) : Type 0 where

@@ -1,15 +1,13 @@
 // The insert, as recursion on the level: it pushes its units to the buffer, from the leaf upward.
 ghost use mathlib.Core.Path.{_≡_};
 ghost use mathlib.Core.Bool.{true, false, _&&_};
-ghost use Prim.Native.Nat.{_+_, _*_, _%_, _<_, _≤_};
+ghost use Prim.Native.Nat.{_+_, _%_, _<_, _≤_};
 ghost use lib.Dec.{ltb, leb};
 ghost use lib.ListN.{length, take, drop};
-ghost use Rattle.views.specs.Nodes.{insertEntry};
 ghost use Rattle.views.specs.NodeCode.{entriesOf, Shows};
-ghost use Rattle.views.specs.Pass.{pushed};
 ghost use Rattle.tree.specs.Tree.{below, firstKey};
 ghost use Rattle.tree.specs.Units.{halveUnits, raiseUnits};
-ghost use Rattle.tree.specs.InsertCode.{two, Written, Moved, fitMove, raiseMove, halveMove, holdMove, Keeps, Holds, Gains, Rises, Inserts};
+ghost use Rattle.tree.specs.InsertCode.{two, Written, fitMove, raiseMove, halveMove, holdMove, Holds, Gains, comes, Passes, Descends, Rises, RootIs, answers, Inserts};
 use crate::find::child;
 use pages::unit::Unit;
 use pages::unit::Update;
@@ -46,54 +44,45 @@ fn lower(n: Node, level: u32) -> Node
     r
 }
 
+// The last 8 of 17 numbers, in front.
+fn last_eight(a: [u32; 17]) -> [u32; 17]
+    ensures { λ r. ⌜ take 8 r ≡ drop 9 a ⌝ }
+{
+    [
+        a[9],
+        a[10],
+        a[11],
+        a[12],
+        a[13],
+        a[14],
+        a[15],
+        a[16],
+        0,
+        0,
+        0,
+        0,
+        0,
+        0,
+        0,
+        0,
+        0,
+    ]
+}
+
 // The other 8 entries, at `level`.
 fn upper(n: Node, level: u32) -> Node
     requires { ⌜ n .len ≡ 17 ⌝ }
     ensures { λ r. ⌜ Shows r level (drop 9 (entriesOf n)) × (r .len ≡ 8) ⌝ }
 {
-    let k = n.keys;
-    let v = n.values;
+    let ks = n.keys;
+    let vs = n.values;
+    let keys = last_eight(ks);
+    let values = last_eight(vs);
     Node {
         level,
         len: 8,
-        keys: [
-            k[9],
-            k[10],
-            k[11],
-            k[12],
-            k[13],
-            k[14],
-            k[15],
-            k[16],
-            0,
-            0,
-            0,
-            0,
-            0,
-            0,
-            0,
-            0,
-            0,
-        ],
-        values: [
-            v[9],
-            v[10],
-            v[11],
-            v[12],
-            v[13],
-            v[14],
-            v[15],
-            v[16],
-            0,
-            0,
-            0,
-            0,
-            0,
-            0,
-            0,
-            0,
-            0,
-        ],
+        keys,
+        values,
     }
 }
 
@@ -318,54 +307,34 @@ fn gain(
     hold(buffer, count, limit, next, level, node, new, key, value)
 }
 
-// An insert under node `node` of `level`: down to the leaf, and on the way up each node gains what its child gave up.
-fn insert_at(
+// An entry that comes to a leaf, as if a child gave it up.
+fn coming(count: usize, next: u32, key: u32, value: u32) -> Rise
+    ensures { λ r. ⌜ r ≡ comes count next key value ⌝ }
+{
+    Rise {
+        refused: false,
+        gains: true,
+        key,
+        number: value,
+        count,
+        next,
+    }
+}
+
+// Node `node` of `level` gains what its child gave up, if anything.
+fn pass_up(
     image: &[u8],
     lens: &[u32; 256],
     slots: &[u32; 1024],
     buffer: &mut [u8; 11520],
-    count: usize,
     limit: u32,
-    next: u32,
     level: u32,
     node: u32,
-    key: u32,
-    value: u32,
+    r: Rise,
 ) -> Rise
-    requires { ⌜ (length (now image) % 528 ≡ 0) × (limit ≤ 256) × (count ≤ 960) ⌝ }
-    ensures { λ r. ⌜ Rises (now (image .entry)) (now (lens .entry)) (now (slots .entry)) limit next level node key value count (now (buffer .entry)) (now (buffer .exit)) r ⌝ }
+    requires { ⌜ (length (now image) % 528 ≡ 0) × (limit ≤ 256) × (r .count ≤ 960) ⌝ }
+    ensures { λ a. ⌜ Passes (now (image .entry)) (now (lens .entry)) (now (slots .entry)) limit level node r (now (buffer .entry)) (now (buffer .exit)) a ⌝ }
 {
-    if level == 0 {
-        return gain(
-            image,
-            lens,
-            slots,
-            buffer,
-            count,
-            limit,
-            next,
-            0,
-            node,
-            key,
-            value,
-        );
-    }
-    let f = view::node_view(image, lens, slots, buffer, count, node, limit);
-    let here = f.node;
-    let below = child(here, key);
-    let r = insert_at(
-        image,
-        lens,
-        slots,
-        buffer,
-        count,
-        limit,
-        next,
-        level - 1,
-        below,
-        key,
-        value,
-    );
     if r.gains {
         let k = r.key;
         let m = r.number;
@@ -389,7 +358,100 @@ fn insert_at(
     }
 }
 
-// An insert from node 0. Where it is refused, the count and the next number are as they were.
+// The node under `node` on the way to the leaf of `key`.
+fn way_down(
+    image: &[u8],
+    lens: &[u32; 256],
+    slots: &[u32; 1024],
+    buffer: &[u8; 11520],
+    count: usize,
+    limit: u32,
+    node: u32,
+    key: u32,
+) -> u32
+    requires { ⌜ length (now image) % 528 ≡ 0 ⌝ }
+    ensures { λ r. ⌜ Descends (now (image .entry)) (now (lens .entry)) (now (slots .entry)) limit count (now (buffer .entry)) node key r ⌝ }
+{
+    let f = view::node_view(image, lens, slots, buffer, count, node, limit);
+    let here = f.node;
+    child(here, key)
+}
+
+// An insert under node `node` of `level`: down to the leaf, and on the way up each node gains what its child gave up.
+fn insert_at(
+    image: &[u8],
+    lens: &[u32; 256],
+    slots: &[u32; 1024],
+    buffer: &mut [u8; 11520],
+    count: usize,
+    limit: u32,
+    next: u32,
+    level: u32,
+    node: u32,
+    key: u32,
+    value: u32,
+) -> Rise
+    requires { ⌜ (length (now image) % 528 ≡ 0) × (limit ≤ 256) × (count ≤ 960) ⌝ }
+    ensures { λ r. ⌜ Rises (now (image .entry)) (now (lens .entry)) (now (slots .entry)) limit next level node key value count (now (buffer .entry)) (now (buffer .exit)) r ⌝ }
+{
+    if level == 0 {
+        let r = coming(count, next, key, value);
+        return pass_up(image, lens, slots, buffer, limit, level, node, r);
+    }
+    let below = way_down(image, lens, slots, buffer, count, limit, node, key);
+    let r = insert_at(
+        image,
+        lens,
+        slots,
+        buffer,
+        count,
+        limit,
+        next,
+        level - 1,
+        below,
+        key,
+        value,
+    );
+    pass_up(image, lens, slots, buffer, limit, level, node, r)
+}
+
+// The level of node 0.
+fn root_level(
+    image: &[u8],
+    lens: &[u32; 256],
+    slots: &[u32; 1024],
+    buffer: &[u8; 11520],
+    count: usize,
+    limit: u32,
+) -> u32
+    requires { ⌜ length (now image) % 528 ≡ 0 ⌝ }
+    ensures { λ r. ⌜ RootIs (now (image .entry)) (now (lens .entry)) (now (slots .entry)) limit count (now (buffer .entry)) r ⌝ }
+{
+    let f = view::node_view(image, lens, slots, buffer, count, 0, limit);
+    let root = f.node;
+    root.level
+}
+
+// The answer to an insert at node 0. Where it is refused, the count and the next number are as they were.
+fn answer(r: Rise, count: usize, next: u32) -> Inserted
+    ensures { λ a. ⌜ a ≡ answers r count next ⌝ }
+{
+    if r.refused {
+        Inserted {
+            refused: true,
+            count,
+            next,
+        }
+    } else {
+        Inserted {
+            refused: false,
+            count: r.count,
+            next: r.next,
+        }
+    }
+}
+
+// An insert from node 0.
 pub fn insert(
     image: &[u8],
     lens: &[u32; 256],
@@ -404,15 +466,10 @@ pub fn insert(
     requires { ⌜ (length (now image) % 528 ≡ 0) × (limit ≤ 256) × (count ≤ 960) ⌝ }
     ensures { λ r. ⌜ Inserts (now (image .entry)) (now (lens .entry)) (now (slots .entry)) limit next key value count (now (buffer .entry)) (now (buffer .exit)) r ⌝ }
 {
-    let f = view::node_view(image, lens, slots, buffer, count, 0, limit);
-    let root = f.node;
-    let level = root.level;
+    let level = root_level(image, lens, slots, buffer, count, limit);
     if level > 3 {
-        return Inserted {
-            refused: true,
-            count,
-            next,
-        };
+        let r = refuse(count, next);
+        return answer(r, count, next);
     }
     let r = insert_at(
         image,
@@ -427,19 +484,5 @@ pub fn insert(
         key,
         value,
     );
-    if r.refused {
-        Inserted {
-            refused: true,
-            count,
-            next,
-        }
-    } else {
-        let used = r.count;
-        let last = r.next;
-        Inserted {
-            refused: false,
-            count: used,
-            next: last,
-        }
-    }
+    answer(r, count, next)
 }

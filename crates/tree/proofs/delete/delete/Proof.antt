@@ -9,9 +9,6 @@ use Rattle.tree.proofs.GainLaws.{delete-none, delete-made}
 use borrow.Author.Needs.{needs}
 use Rattle.tree.proofs.delete.delete.Statement.{statement}
 use Rattle.tree.proofs.delete.delete.Tie as tie
-use Rattle.tree.proofs.delete.delete.Reads as reads
-use Rattle.tree.proofs.delete.delete.Lts as lts
-use Rattle.views.proofs.buffer.push_unit.Reads as push-unit-reads
 
 returns : tie.Need-returns
 returns c =

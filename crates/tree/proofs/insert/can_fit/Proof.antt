@@ -1,11 +1,6 @@
-use native.Mathlib.Omega.{arith}
-use Prim.Native.Nat.{_+_}
-use borrow.Author.Tests.{lt-ltb, le-ltb, le-leb, lt-leb}
-use borrow.Author.Needs.{needs}
+use borrow.Author.Tests.{lt-ltb, le-ltb}
 use Rattle.tree.proofs.insert.can_fit.Statement.{statement}
 use Rattle.tree.proofs.insert.can_fit.Tie as tie
-use Rattle.tree.proofs.insert.can_fit.Reads as reads
-use Rattle.tree.proofs.insert.can_fit.Lts as lts
 
 returns : tie.Need-returns
 returns c = let a = c .before .args in rw (le-ltb (a .count) 960 (c .if1 .taken))

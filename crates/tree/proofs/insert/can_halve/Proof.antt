@@ -1,11 +1,6 @@
-use native.Mathlib.Omega.{arith}
-use Prim.Native.Nat.{_+_}
-use borrow.Author.Tests.{lt-ltb, le-ltb, le-leb, lt-leb}
-use borrow.Author.Needs.{needs}
+use borrow.Author.Tests.{lt-ltb, le-ltb}
 use Rattle.tree.proofs.insert.can_halve.Statement.{statement}
 use Rattle.tree.proofs.insert.can_halve.Tie as tie
-use Rattle.tree.proofs.insert.can_halve.Reads as reads
-use Rattle.tree.proofs.insert.can_halve.Lts as lts
 
 returns : tie.Need-returns
 returns c = let a = c .before .args in rw (le-ltb (a .next) (a .limit) (c .if1 .taken))

@@ -1,11 +1,9 @@
 use native.Mathlib.Omega.{arith}
 use Prim.Native.Nat.{_+_}
-use borrow.Author.Tests.{lt-ltb, le-ltb, le-leb, lt-leb}
+use borrow.Author.Tests.{lt-ltb, le-ltb}
 use borrow.Author.Needs.{needs}
 use Rattle.tree.proofs.insert.can_raise.Statement.{statement}
 use Rattle.tree.proofs.insert.can_raise.Tie as tie
-use Rattle.tree.proofs.insert.can_raise.Reads as reads
-use Rattle.tree.proofs.insert.can_raise.Lts as lts
 
 returns : tie.Need-returns
 returns c = let a = c .before .args in rw (le-ltb (a .next + 1) (a .limit) (omega (arith, c .if1 .taken)))

@@ -1,25 +1,16 @@
-use mathlib.Core.Path.{_≡_, refl, sym, _∙_}
-use mathlib.Core.Bool.{Bool, true, false, _&&_}
-use mathlib.Core.List.{List, [], _∷_}
+use mathlib.Core.Path.{refl, sym, _∙_}
+use mathlib.Core.Bool.{false, _&&_}
+use mathlib.Core.List.{[], _∷_}
 use Prim.Native.Nat.{_+_}
 use native.Mathlib.Omega.{arith}
-use lib.Dec.{ltb, leb}
-use lib.ListN.{drop}
+use lib.Dec.{ltb}
 use Rattle.pages.specs.declared.unit.Update.the-variants.{Insert}
 use Rattle.views.specs.Groups.{unitFor}
-use Rattle.views.specs.NodeCode.{entriesOf}
-use Rattle.tree.specs.Tree.{firstKey}
-use Rattle.tree.specs.Units.{halveUnits, raiseUnits}
 use Rattle.tree.specs.InsertCode.{able}
-use Rattle.tree.proofs.InsertLaws.{fit-test, raise-test, halve-test, written-one, went-holds, able-holds, unable-holds}
+use Rattle.tree.proofs.InsertLaws.{fit-test, written-one, went-holds, able-holds, unable-holds}
 use borrow.Author.Needs.{needs}
 use Rattle.tree.proofs.insert.fit.Statement.{statement}
 use Rattle.tree.proofs.insert.fit.Tie as tie
-use Rattle.tree.proofs.insert.fit.Reads as reads
-use Rattle.tree.proofs.insert.fit.Lts as lts
-use Rattle.tree.proofs.insert.can_fit.Reads as can-fit-reads
-use Rattle.tree.proofs.insert.refuse.Reads as refuse-reads
-use Rattle.views.proofs.buffer.push_unit.Reads as push-unit-reads
 
 can-fit-requires : tie.Need-can-fit-requires
 can-fit-requires c κs = search needs

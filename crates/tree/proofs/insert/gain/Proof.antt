@@ -1,15 +1,9 @@
-use mathlib.Core.Path.{_≡_, refl, sym, ap, _∙_}
-use native.Mathlib.Omega.{arith}
+use mathlib.Core.Path.{ap, _∙_}
 use lib.ListN.{length}
 use Rattle.tree.proofs.GainLaws.{gains-of}
 use borrow.Author.Needs.{needs}
 use Rattle.tree.proofs.insert.gain.Statement.{statement}
 use Rattle.tree.proofs.insert.gain.Tie as tie
-use Rattle.tree.proofs.insert.gain.Reads as reads
-use Rattle.tree.proofs.insert.gain.Lts as lts
-use Rattle.tree.proofs.insert.hold.Reads as hold-reads
-use Rattle.views.proofs.node.insert.Reads as insert-reads
-use Rattle.views.proofs.view.node_view.Reads as node-view-reads
 
 node-view-requires : tie.Need-node-view-requires
 node-view-requires c κs = search needs

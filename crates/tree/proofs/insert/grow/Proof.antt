@@ -1,25 +1,15 @@
-use mathlib.Core.Path.{_≡_, refl, sym, _∙_}
-use mathlib.Core.Bool.{Bool, true, false, _&&_}
-use mathlib.Core.List.{List, [], _∷_}
+use mathlib.Core.Path.{refl, sym, _∙_}
+use mathlib.Core.Bool.{false, _&&_}
 use Prim.Native.Nat.{_+_}
 use native.Mathlib.Omega.{arith}
 use lib.Dec.{ltb, leb}
-use lib.ListN.{drop}
-use Rattle.pages.specs.declared.unit.Update.the-variants.{Insert}
-use Rattle.views.specs.Groups.{unitFor}
 use Rattle.views.specs.NodeCode.{entriesOf}
-use Rattle.tree.specs.Tree.{firstKey}
-use Rattle.tree.specs.Units.{halveUnits, raiseUnits}
+use Rattle.tree.specs.Units.{raiseUnits}
 use Rattle.tree.specs.InsertCode.{able}
-use Rattle.tree.proofs.InsertLaws.{fit-test, raise-test, halve-test, written-one, went-holds, able-holds, unable-holds}
+use Rattle.tree.proofs.InsertLaws.{raise-test, went-holds, able-holds, unable-holds}
 use borrow.Author.Needs.{needs}
 use Rattle.tree.proofs.insert.grow.Statement.{statement}
 use Rattle.tree.proofs.insert.grow.Tie as tie
-use Rattle.tree.proofs.insert.grow.Reads as reads
-use Rattle.tree.proofs.insert.grow.Lts as lts
-use Rattle.tree.proofs.insert.can_raise.Reads as can-raise-reads
-use Rattle.tree.proofs.insert.raise.Reads as raise-reads
-use Rattle.tree.proofs.insert.refuse.Reads as refuse-reads
 
 can-raise-requires : tie.Need-can-raise-requires
 can-raise-requires c κs = search needs

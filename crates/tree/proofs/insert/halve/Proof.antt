@@ -1,16 +1,10 @@
-use mathlib.Core.Path.{_≡_, refl}
 use native.Mathlib.Omega.{arith}
-use lib.ListN.{length, take, drop}
+use lib.ListN.{take, drop}
 use Rattle.views.specs.NodeCode.{entriesOf}
 use Rattle.tree.proofs.InsertLaws.{written-node, written-halves}
 use borrow.Author.Needs.{needs}
 use Rattle.tree.proofs.insert.halve.Statement.{statement}
 use Rattle.tree.proofs.insert.halve.Tie as tie
-use Rattle.tree.proofs.insert.halve.Reads as reads
-use Rattle.tree.proofs.insert.halve.Lts as lts
-use Rattle.tree.proofs.insert.lower.Reads as lower-reads
-use Rattle.tree.proofs.insert.upper.Reads as upper-reads
-use Rattle.views.proofs.buffer.push_node.Reads as push-node-reads
 
 lower-requires : tie.Need-lower-requires
 lower-requires c κs = search needs

@@ -1,4 +1,3 @@
-use mathlib.Core.Path.{_≡_, refl, sym, _∙_}
 use native.Mathlib.Omega.{arith}
 use lib.ListN.{length}
 use borrow.Author.Tests.{le-leb, lt-leb, eq-eqb, ne-eqb}
@@ -6,11 +5,6 @@ use Rattle.views.specs.NodeCode.{entriesOf}
 use borrow.Author.Needs.{needs}
 use Rattle.tree.proofs.insert.hold.Statement.{statement}
 use Rattle.tree.proofs.insert.hold.Tie as tie
-use Rattle.tree.proofs.insert.hold.Reads as reads
-use Rattle.tree.proofs.insert.hold.Lts as lts
-use Rattle.tree.proofs.insert.fit.Reads as fit-reads
-use Rattle.tree.proofs.insert.grow.Reads as grow-reads
-use Rattle.tree.proofs.insert.split.Reads as split-reads
 
 fit-requires : tie.Need-fit-requires
 fit-requires c κs = search needs

@@ -4,8 +4,6 @@ use Rattle.tree.proofs.InsertLaws.{lower-shows}
 use borrow.Author.Needs.{needs}
 use Rattle.tree.proofs.insert.lower.Statement.{statement}
 use Rattle.tree.proofs.insert.lower.Tie as tie
-use Rattle.tree.proofs.insert.lower.Reads as reads
-use Rattle.tree.proofs.insert.lower.Lts as lts
 
 returns : tie.Need-returns
 returns c =

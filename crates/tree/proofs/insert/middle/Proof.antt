@@ -1,11 +1,9 @@
-use mathlib.Core.Path.{_≡_, refl}
+use mathlib.Core.Path.{_≡_}
 use lib.ListN.{length}
 use Rattle.tree.proofs.InsertLaws.{middle-is}
 use borrow.Author.Needs.{needs}
 use Rattle.tree.proofs.insert.middle.Statement.{statement}
 use Rattle.tree.proofs.insert.middle.Tie as tie
-use Rattle.tree.proofs.insert.middle.Reads as reads
-use Rattle.tree.proofs.insert.middle.Lts as lts
 
 element-copy-out-result : tie.Need-element-copy-out-result
 element-copy-out-result c = search needs

@@ -1,21 +1,13 @@
-use mathlib.Core.Path.{_≡_, refl}
-use mathlib.Core.Path.{ap}
 use native.Mathlib.Omega.{arith}
 use Prim.Native.Nat.{_+_}
-use lib.ListN.{length, take, drop}
-use Rattle.views.specs.NodeCode.{entriesOf, Shows}
+use lib.ListN.{drop}
+use Rattle.views.specs.NodeCode.{entriesOf}
 use Rattle.tree.specs.Tree.{firstKey}
 use Rattle.tree.specs.InsertCode.{two}
 use Rattle.tree.proofs.InsertLaws.{written-node, written-raise}
 use borrow.Author.Needs.{needs}
 use Rattle.tree.proofs.insert.raise.Statement.{statement}
 use Rattle.tree.proofs.insert.raise.Tie as tie
-use Rattle.tree.proofs.insert.raise.Reads as reads
-use Rattle.tree.proofs.insert.raise.Lts as lts
-use Rattle.tree.proofs.insert.halve.Reads as halve-reads
-use Rattle.tree.proofs.insert.middle.Reads as middle-reads
-use Rattle.tree.proofs.insert.pair.Reads as pair-reads
-use Rattle.views.proofs.buffer.push_node.Reads as push-node-reads
 
 add-halve : tie.Need-add-halve
 add-halve c = search needs

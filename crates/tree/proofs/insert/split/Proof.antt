@@ -1,26 +1,17 @@
-use mathlib.Core.Path.{_≡_, refl, sym, _∙_}
-use mathlib.Core.Bool.{Bool, true, false, _&&_}
-use mathlib.Core.List.{List, [], _∷_}
+use mathlib.Core.Path.{refl, sym, _∙_}
+use mathlib.Core.Bool.{true, _&&_}
 use Prim.Native.Nat.{_+_}
 use native.Mathlib.Omega.{arith}
 use lib.Dec.{ltb, leb}
 use lib.ListN.{drop}
-use Rattle.pages.specs.declared.unit.Update.the-variants.{Insert}
-use Rattle.views.specs.Groups.{unitFor}
 use Rattle.views.specs.NodeCode.{entriesOf}
 use Rattle.tree.specs.Tree.{firstKey}
-use Rattle.tree.specs.Units.{halveUnits, raiseUnits}
+use Rattle.tree.specs.Units.{halveUnits}
 use Rattle.tree.specs.InsertCode.{able}
-use Rattle.tree.proofs.InsertLaws.{fit-test, raise-test, halve-test, written-one, went-holds, able-holds, unable-holds}
+use Rattle.tree.proofs.InsertLaws.{halve-test, went-holds, able-holds, unable-holds}
 use borrow.Author.Needs.{needs}
 use Rattle.tree.proofs.insert.split.Statement.{statement}
 use Rattle.tree.proofs.insert.split.Tie as tie
-use Rattle.tree.proofs.insert.split.Reads as reads
-use Rattle.tree.proofs.insert.split.Lts as lts
-use Rattle.tree.proofs.insert.can_halve.Reads as can-halve-reads
-use Rattle.tree.proofs.insert.halve.Reads as halve-reads
-use Rattle.tree.proofs.insert.middle.Reads as middle-reads
-use Rattle.tree.proofs.insert.refuse.Reads as refuse-reads
 
 can-halve-requires : tie.Need-can-halve-requires
 can-halve-requires c κs = search needs
