@@ -250,7 +250,7 @@ module _ (t : Table) (l lo hi : ℕ) (s : Shape l) (o : Over t l lo hi s) where
       (below-or-not 16 (length (tops l s)))
 
 -- the kid's entry and a new one stand in the place of the kid's
-insert-after : (lo hi k m : ℕ) (a : List Entry) (e : Entry) (d : List Entry) → Between lo hi (a ++ (e ∷ d)) → e .key < k → k < firstKey hi d
+pub insert-after : (lo hi k m : ℕ) (a : List Entry) (e : Entry) (d : List Entry) → Between lo hi (a ++ (e ∷ d)) → e .key < k → k < firstKey hi d
     → insertEntry k m (a ++ (e ∷ d)) ≡ a ++ (e ∷ entry k m ∷ d)
 insert-after lo hi k m a e d h g₁ g₂ =
     simp append-assoc at

@@ -1,4 +1,4 @@
--- The halves of a node, the way down, and what is pushed for a node that gains an entry. Assumes nothing.
+-- The halves of a node, what is pushed for a node that gains an entry, and the entry at its leaf. Assumes nothing.
 use mathlib.Core.Path.{_≡_, refl, sym, ap, ap₂, _∙_, subst}
 use mathlib.Core.Bool.{Bool, true, false, cond, _&&_}
 use mathlib.Core.List.{List, [], _∷_, _++_, map, append-nil}
@@ -7,22 +7,22 @@ use native.Mathlib.Omega.{arith}
 use native.Mathlib.Numerals.{add-one}
 use lib.Dec.{ltb, leb}
 use lib.ListN.{length, take, drop, getD, length-append, length-map, length-drop, drop-of-length-le}
-use lib.Seq.{length-take-le, slice-cons, slice-empty, drop-cons, take-all}
-use borrow.Author.Tests.{le-leb, lt-leb, ltb-true, leb-true}
+use lib.Seq.{length-take-le, drop-cons, take-all}
+use borrow.Author.Tests.{ltb-true, leb-true, leb-false}
 use Rattle.views.specs.declared.node.Node as N
 use Rattle.lists.specs.Lists.{patch}
 use Rattle.lists.proofs.Tests.{clash, and-left, and-right}
 use Rattle.pages.specs.declared.unit.Unit as U
 use Rattle.pages.specs.Units.{encode}
-use Rattle.views.specs.Nodes.{Entry, entry, anew}
+use Rattle.views.specs.Nodes.{Entry, anew, insertEntry}
 use Rattle.views.specs.Groups.{unitFor}
 use Rattle.views.specs.Pass.{pushed, nodeUnits}
 use Rattle.views.specs.NodeCode.{pairs, entriesOf, Shows}
 use Rattle.views.proofs.NodeLaws.{length-entries}
-use Rattle.tree.specs.Tree.{below, firstKey}
+use Rattle.tree.specs.Tree.{firstKey}
 use Rattle.tree.specs.Units.{anewAt, halveUnits, raiseUnits}
 use Rattle.tree.specs.declared.insert.Rise.{Rise}
-use Rattle.tree.specs.InsertCode.{two, Written, Keeps, Move, unable, able, Stayed, Holds}
+use Rattle.tree.specs.InsertCode.{two, Written, Keeps, Move, unable, able, holdMove, Stayed, Holds, needsOf, Refused, Lands, Passes}
 use Rattle.tree.proofs.ShownLaws.{length-pushed, pushed-append, take-pushed}
 
 -- ---- the halves of a node of 17 entries
@@ -89,22 +89,6 @@ module _ (n : N.Node) (h : n .len ≡ 17) (lk : length (n .keys) ≡ 17) (lv : l
       sym (ap (λ (es : List Entry). firstKey 0 (drop 9 es)) all-entries
       ∙ ap (firstKey 0) (drop-pairs 9 (n .keys) (n .values) ∙ ap₂ pairs (eight (n .keys) lk) (eight (n .values) lv)))
 
--- ---- the loop of child: the entries from i on
-abbrev pub from : ℕ → ℕ → List ℕ → List ℕ → List Entry
-from n i ks vs = pairs (drop i (take n ks)) (drop i (take n vs))
-
-module _ (k f n i : ℕ) (ks vs : List ℕ) (h : i < n) (lk : n ≤ length ks) (lv : n ≤ length vs) where
-  -- a key that is not above k is passed
-  pub below-pass : getD ks i 0 ≤ k → below k (getD vs i 0) (from n (i + 1) ks vs) ≡ below k f (from n i ks vs)
-  below-pass q = rw (slice-cons i n ks 0 h lk, slice-cons i n vs 0 h lv, le-leb (getD ks i 0) k q, add-one)
-
-  -- a key above k ends it
-  pub below-stop : k < getD ks i 0 → below k f (from n i ks vs) ≡ f
-  below-stop q = rw (slice-cons i n ks 0 h lk, slice-cons i n vs 0 h lv, lt-leb (getD ks i 0) k q)
-
-pub below-end : (k f n : ℕ) (ks vs : List ℕ) → below k f (from n n ks vs) ≡ f
-below-end k f n ks vs = rw (slice-empty n ks)
-
 -- ---- units written one after the other
 pub written-two : (us vs : List U.Unit) (count i j : ℕ) (old mid new : List ℕ) → Written us count old mid i → Written vs i mid new j → i ≤ 960
     → Written (us ++ vs) count old new j
@@ -151,10 +135,10 @@ keeps-pushed us count used old new e q h l = record {
 }
 
 -- nothing is pushed
-pub stayed-holds : (count : ℕ) (old new : List ℕ) (r : Rise) → Stayed count old new r → r .gains ≡ false → count ≤ 960 → Holds unable count old new r
-stayed-holds count old new r s g h = record {
+pub stayed-holds : (count : ℕ) (old new : List ℕ) (r : Rise) → Stayed count old new r → count ≤ 960 → Holds unable count old new r
+stayed-holds count old new r s h = record {
   keeps = record { same = ap length (s .bytes); front = ap (take (12 * count)) (s .bytes); more = omega (arith, s .used); room = omega (arith, s .used) };
-  plain = λ e. clash e g;
+  plain = s .refused;
   is = s;
 }
 
@@ -163,7 +147,7 @@ pub went-holds : (us : List U.Unit) (g : Bool) (k m x count used : ℕ) (old new
     → r .count ≡ used → r .refused ≡ false → r .gains ≡ g → r .key ≡ k → r .number ≡ m → r .next ≡ x → Holds (able us g k m x) count old new r
 went-holds us g k m x count used old new r w h e f g′ k′ m′ x′ = record {
   keeps = keeps-pushed us count (r .count) old new (w .bytes) (e ∙ w .size) (omega arith) (w .long);
-  plain = λ _. f;
+  plain = f;
   is = record { bytes = w .bytes; used = e ∙ w .size; long = w .long; refused = f; gains = g′; key = k′; number = m′; next = x′ };
 }
 
@@ -177,9 +161,9 @@ written-one u count old new e l =
 pub able-holds : (b : Bool) (m : Move) (count : ℕ) (old new : List ℕ) (r : Rise) → b ≡ true → Holds m count old new r → Holds (cond b m unable) count old new r
 able-holds b m count old new r e h = rw e h
 
-pub unable-holds : (b : Bool) (m : Move) (count : ℕ) (old : List ℕ) (r : Rise) → b ≡ false → Stayed count old old r → r .gains ≡ false → count ≤ 960
+pub unable-holds : (b : Bool) (m : Move) (count : ℕ) (old : List ℕ) (r : Rise) → b ≡ false → Stayed count old old r → count ≤ 960
     → Holds (cond b m unable) count old old r
-unable-holds b m count old r e s g h = rw e (stayed-holds count old old r s g h)
+unable-holds b m count old r e s h = rw e (stayed-holds count old old r s h)
 
 -- ---- what the tests tell
 pub fit-test : (count n : ℕ) → (ltb count 960 && ltb n 65536) ≡ true → (count < 960) × (n < 65536)
@@ -201,3 +185,30 @@ halve-test limit x n count e =
       ltb-true n 65536 (and-left (ltb n 65536) (leb count 941) f),
       leb-true count 941 (and-right (ltb n 65536) (leb count 941) f),
     )
+
+-- ---- the entry at its leaf
+module _ (limit x need n k v count : ℕ) (es : List Entry) (l : ℕ) (y : N.Node) (S : Shows y l (insertEntry k v es)) (told : ℕ) (e : told ≡ needsOf need 0 n (y .len))
+    (old new : List ℕ) (r : Rise) where
+  told-is : told ≡ needsOf need 0 n (length (insertEntry k v es))
+  told-is = e ∙ ap (needsOf need 0 n) (sym (S .len))
+
+  pub lands-held : leb (x + told) limit ≡ true → Holds (holdMove limit x 0 n k v (entriesOf y) count) count old new r → Lands limit x need n k v count es old new r
+  lands-held b H = record {
+    held = λ _. subst (λ (ds : List Entry). Holds (holdMove limit x 0 n k v ds count) count old new r) (S .is) H;
+    refused = λ h. absurd (omega (arith, leb-true (x + told) limit b, told-is));
+  }
+
+  pub lands-refused : leb (x + told) limit ≡ false → Refused count old new r → Lands limit x need n k v count es old new r
+  lands-refused b F = record {
+    held = λ h. absurd (omega (arith, leb-false (x + told) limit b, told-is));
+    refused = λ _. F;
+  }
+
+-- ---- what a child gave up
+pub passes-gained : (limit l n : ℕ) (es : List Entry) (a : Rise) (d : ℕ) (y : N.Node) (old new : List ℕ) (r : Rise) → a .gains ≡ true
+    → Shows y d (insertEntry (a .key) (a .number) es) → Holds (holdMove limit (a .next) l n (a .key) (a .number) (entriesOf y) (a .count)) (a .count) old new r
+    → Passes limit l n es a old new r
+passes-gained limit l n es a d y old new r g S H = record {
+  gained = λ _. subst (λ (ds : List Entry). Holds (holdMove limit (a .next) l n (a .key) (a .number) ds (a .count)) (a .count) old new r) (S .is) H;
+  same = λ e. clash g e;
+}

@@ -8,6 +8,7 @@ pub mod Steps
 pub mod Step6
 pub mod Laws
 pub mod Paths
+pub mod Fresh
 pub mod Lengths
 pub mod Units
 pub mod Validity

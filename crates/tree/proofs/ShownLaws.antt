@@ -20,7 +20,7 @@ use Rattle.pages.specs.declared.unit.Decoded.{Decoded}
 use Rattle.pages.specs.declared.unit.Decoded.the-variants.{Good}
 use Rattle.pages.specs.Units.{decode, decodes, encode, Valid}
 use Rattle.pages.proofs.UnitLaws.{length-encode, length-units}
-use Rattle.views.specs.Nodes.{View, broken, view, apply, Entry}
+use Rattle.views.specs.Nodes.{View, broken, apply}
 use Rattle.views.specs.Groups.{present}
 use Rattle.views.specs.Table.{isGood}
 use Rattle.views.specs.FoldCode.{turnView, viewAfter}
@@ -106,23 +106,6 @@ module _ (g : Geometry) (limit : ℕ) (pages : List Page) (lens slots : List ℕ
   pub pushed-good : (count : ℕ) (bytes : List ℕ) (us vs : List U.Unit) → decodes limit count bytes ≡ map Good us → All (Valid limit) vs
       → count + length vs ≤ 960 → length bytes ≡ 11520 → decodes limit (count + length vs) (pushed bytes count vs) ≡ map Good (us ++ vs)
   pushed-good count bytes us vs e v h l = pushed-read limit count bytes us (omega arith) e vs v
-
--- ---- a view of the table is a node's view
-view-tab : (f : ℕ → View) (k m n l : ℕ) (es : List Entry) → at (tab k m f) n ≡ view l es → (n < m) × (f (k + n) ≡ view l es)
-view-tab f k zero n l es e = let z : _≡_ {A = ℕ} 0 1 = cc in absurd (omega arith)
-view-tab f k (suc m) zero l es e = (omega arith, ap f (let z : k + 0 ≡ k = omega arith in z) ∙ e)
-view-tab f k (suc m) (suc n) l es e =
-    let r = view-tab f (suc k) m n l es e in
-    (omega (arith, r .0), ap f (let z : k + suc n ≡ suc k + n = omega arith in z) ∙ r .1)
-
-pub view-shown : (g : Geometry) (limit : ℕ) (pages : List Page) (lens slots : List ℕ) (count : ℕ) (bytes : List ℕ) (n l : ℕ) (es : List Entry)
-    → at (shown g limit pages lens slots count bytes) n ≡ view l es
-    → (n < limit) × (nodeView g limit pages lens slots count bytes n ≡ view l es)
-unfolding shown
-view-shown g limit pages lens slots count bytes n l es e =
-    let f : ℕ → View = nodeView g limit pages lens slots count bytes in
-    let r = view-tab f 0 limit n l es e in
-    (r .0, ap f (let z : n ≡ 0 + n = omega arith in z) ∙ r .1)
 
 -- ---- pushes one after the other
 pub length-pushed : (b : List ℕ) (c : ℕ) (us : List U.Unit) → 12 * (c + length us) ≤ length b → length (pushed b c us) ≡ length b

@@ -3,7 +3,7 @@ use mathlib.Core.Path.{_≡_}
 use mathlib.Core.Logic.{_⊎_}
 use mathlib.Core.Bool.{Bool, true, false, cond, _&&_}
 use mathlib.Core.List.{List, [], _∷_, _++_, map}
-use Prim.Native.Nat.{ℕ, suc, _+_, _*_, _<_, _≤_}
+use Prim.Native.Nat.{ℕ, zero, suc, _+_, _*_, _<_, _≤_}
 use lib.Dec.{ltb, leb, eqb}
 use lib.ListN.{length, take, drop}
 use Rattle.lists.specs.Lists.{All}
@@ -13,13 +13,12 @@ use Rattle.pages.specs.declared.unit.Unit as U
 use Rattle.pages.specs.declared.unit.Update.the-variants.{Insert}
 use Rattle.pages.specs.declared.unit.Decoded.the-variants.{Good}
 use Rattle.pages.specs.Units.{decodes, Valid}
-use Rattle.views.specs.Nodes.{Entry, entry, view, insertEntry}
+use Rattle.views.specs.Nodes.{Entry, entry, insertEntry}
 use Rattle.views.specs.Groups.{unitFor}
-use Rattle.views.specs.Stored.{nodeView}
 use Rattle.views.specs.Pass.{pushed}
 use Rattle.tree.specs.declared.insert.Rise.{Rise}
 use Rattle.tree.specs.declared.insert.Inserted.{Inserted}
-use Rattle.tree.specs.Tree.{Table, entriesAt, next, rootLevel, below, firstKey, leafAt, Up, stop, gains, tableOf, insertAt, inserted, refusal, done, insert, delete}
+use Rattle.tree.specs.Tree.{Table, entriesAt, next, rootLevel, child, firstKey, leafAt, Up, stop, gains, tableOf, insertAt, inserted, refusal, done, insert, delete}
 use Rattle.tree.specs.Step6.{top, Leads, Tree}
 use Rattle.tree.specs.Units.{afterUnits, halveUnits, raiseUnits, insertUnitsAt, insertUnits, deleteUnits}
 use Rattle.tree.specs.Shown.{shown}
@@ -66,10 +65,11 @@ abbrev pub holdMove : ℕ → ℕ → ℕ → ℕ → ℕ → ℕ → List Entry
 holdMove limit x l n k v es count =
     cond (leb (length es) 16) (fitMove x n k v count) (cond (eqb n 0) (raiseMove limit x l es count) (halveMove limit x l n es count))
 
+-- nothing is pushed, and nothing is refused: no tree leads here
 pub record Stayed (count : ℕ) (old new : List ℕ) (r : Rise) : Type 0 where
   pub bytes : new ≡ old
   pub used : r .count ≡ count
-  pub refused : r .refused ≡ true
+  pub refused : r .refused ≡ false
 
 pub record Went (us : List U.Unit) (g : Bool) (k m x count : ℕ) (old new : List ℕ) (r : Rise) : Type 0 where
   pub bytes : new ≡ pushed old count us
@@ -85,42 +85,39 @@ abbrev pub Moved : Move → ℕ → List ℕ → List ℕ → Rise → Type 0
 Moved unable count old new r = Stayed count old new r
 Moved (able us g k m x) count old new r = Went us g k m x count old new r
 
--- what a function that makes a move ensures
+-- what a function that makes a move ensures: it refuses nothing
 pub record Holds (m : Move) (count : ℕ) (old new : List ℕ) (r : Rise) : Type 0 where
   pub keeps : Keeps count old (r .count) new
-  pub plain : r .gains ≡ true → r .refused ≡ false
+  pub plain : r .refused ≡ false
   pub is : Moved m count old new r
+
+-- ---- what is refused
+-- how many numbers node n of level l and those above it take, where it is to hold len entries and those above it take `need` if it splits;
+-- 257, which are more than there are, where the root would be too high
+abbrev pub needsOf : ℕ → ℕ → ℕ → ℕ → ℕ
+needsOf need l n len = cond (leb len 16) 0 (cond (eqb n 0) (cond (ltb l 3) 2 257) (need + 1))
+
+-- refused, and nothing is pushed
+pub record Refused (count : ℕ) (old new : List ℕ) (r : Rise) : Type 0 where
+  pub bytes : new ≡ old
+  pub used : r .count ≡ count
+  pub refused : r .refused ≡ true
+  pub gains : r .gains ≡ false
+
+-- (k, v) at leaf n with the entries es
+pub record Lands (limit x need n k v count : ℕ) (es : List Entry) (old new : List ℕ) (r : Rise) : Type 0 where
+  pub held : x + needsOf need 0 n (length (insertEntry k v es)) ≤ limit → Holds (holdMove limit x 0 n k v (insertEntry k v es) count) count old new r
+  pub refused : limit < x + needsOf need 0 n (length (insertEntry k v es)) → Refused count old new r
+
+-- node n of level l with the entries es after its child's answer a: it gains what the child gave up, or the answer stays
+pub record Passes (limit l n : ℕ) (es : List Entry) (a : Rise) (old new : List ℕ) (r : Rise) : Type 0 where
+  pub gained : a .gains ≡ true → Holds (holdMove limit (a .next) l n (a .key) (a .number) (insertEntry (a .key) (a .number) es) (a .count)) (a .count) old new r
+  pub same : a .gains ≡ false → (new ≡ old) × (r ≡ a)
 
 -- ---- the arrays of a state
 -- the table that they show
 abbrev pub tableIn : List ℕ → List ℕ → List ℕ → ℕ → ℕ → List ℕ → Table
 tableIn image lens slots limit count bytes = shown small limit (pagesOf small image) lens slots count bytes
-
--- a node's view gains an entry
-pub record Gains (image lens slots : List ℕ) (limit x l n k v count : ℕ) (old new : List ℕ) (r : Rise) : Type 0 where
-  pub keeps : Keeps count old (r .count) new
-  pub plain : r .gains ≡ true → r .refused ≡ false
-  pub is : (j : ℕ) (es : List Entry) → nodeView small limit (pagesOf small image) lens slots count old n ≡ view j es
-      → Moved (holdMove limit x l n k v (insertEntry k v es) count) count old new r
-
--- an entry that comes to a leaf
-abbrev pub comes : ℕ → ℕ → ℕ → ℕ → Rise
-comes count x k v = record { refused = false; gains = true; key = k; number = v; count = count; next = x }
-
--- a node after its child's answer a: it gains what the child gave up, or the answer stays
-pub record Passes (image lens slots : List ℕ) (limit l n : ℕ) (a : Rise) (old new : List ℕ) (r : Rise) : Type 0 where
-  pub gained : a .gains ≡ true → Gains image lens slots limit (a .next) l n (a .key) (a .number) (a .count) old new r
-  pub same : a .gains ≡ false → (new ≡ old) × (r ≡ a)
-
--- c is under node n on the way to the leaf of k
-abbrev pub Descends : List ℕ → List ℕ → List ℕ → ℕ → ℕ → List ℕ → ℕ → ℕ → ℕ → Type 0
-Descends image lens slots limit count bytes n k c =
-    (l : ℕ) (es : List Entry) → nodeView small limit (pagesOf small image) lens slots count bytes n ≡ view l es → c ≡ below k 0 es
-
--- l is the level of node 0
-abbrev pub RootIs : List ℕ → List ℕ → List ℕ → ℕ → ℕ → List ℕ → ℕ → Type 0
-RootIs image lens slots limit count bytes l =
-    (j : ℕ) (es : List Entry) → nodeView small limit (pagesOf small image) lens slots count bytes 0 ≡ view j es → l ≡ j
 
 -- the answer to an insert at node 0
 abbrev pub answers : Rise → ℕ → ℕ → Inserted
@@ -150,9 +147,10 @@ abbrev pub numberOf : Up → ℕ
 numberOf (stop t) = 0
 numberOf (gains k m t) = m
 
--- too many numbers, or the root too high
-abbrev pub Over : ℕ → ℕ → Up → Type 0
-Over limit n r = (limit < next (tableOf r)) ⊎ ((n ≡ 0) × (3 < rootLevel (tableOf r)))
+-- too many numbers, or the root too high, or too many numbers with the `need` that the nodes above take
+abbrev pub Over : ℕ → ℕ → ℕ → Up → Type 0
+Over limit need n r =
+    (limit < next (tableOf r)) ⊎ (((n ≡ 0) × (3 < rootLevel (tableOf r))) ⊎ ((givesOf r ≡ true) × (limit < next (tableOf r) + need)))
 
 -- the units us make the table of r from t, within the limits
 pub record Sound (limit : ℕ) (t : Table) (us : List U.Unit) (r : Up) : Type 0 where
@@ -165,23 +163,33 @@ pub record Sound (limit : ℕ) (t : Table) (us : List U.Unit) (r : Up) : Type 0 
   pub low : rootLevel (tableOf r) ≤ 3
 
 -- the code's answer r to an insert under node n of level l that makes the units us and leaves up
-pub record Outcome (limit n l : ℕ) (t : Table) (us : List U.Unit) (up : Up) (count : ℕ) (old new : List ℕ) (r : Rise) : Type 0 where
-  pub refused : r .refused ≡ true → Over limit n up
+pub record Outcome (limit need n l : ℕ) (t : Table) (us : List U.Unit) (up : Up) (count : ℕ) (old new : List ℕ) (r : Rise) : Type 0 where
+  pub refused : r .refused ≡ true → Over limit need n up
   pub sound : r .refused ≡ false → Sound limit t us up
   pub went : r .refused ≡ false → Went us (givesOf up) (keyOf up) (numberOf up) (next (tableOf up)) count old new r
+  pub room : r .refused ≡ false → givesOf up ≡ true → next (tableOf up) + need ≤ limit
   pub few : r .refused ≡ false → (n ≡ 0 → ⊥) → length us ≤ 19 * suc l
 
+-- on the way to the leaf of k, each node has one entry more with what its child gives up at an insert of (k, v)
+abbrev pub Fresh : ℕ → ℕ → ℕ → ℕ → Table → Type 0
+Fresh zero n k v t = Unit {0}
+Fresh (suc l) n k v t =
+    ((j m : ℕ) (u : Table) → insertAt l (child t n k) k v t ≡ gains j m u → length (insertEntry j m (entriesAt t n)) ≡ suc (length (entriesAt t n)))
+    × Fresh l (child t n k) k v t
+
 -- where node n of level l is on the way to the leaf of k
-pub record Way (l n k : ℕ) (t : Table) : Type 0 where
+pub record Way (l n k v : ℕ) (t : Table) : Type 0 where
   pub leads : Leads l n k t
+  pub fresh : Fresh l n k v t
   pub low : l ≤ rootLevel t
   pub root : l ≡ rootLevel t → n ≡ 0
 
-pub record Rises (image lens slots : List ℕ) (limit x l n k v count : ℕ) (old new : List ℕ) (r : Rise) : Type 0 where
+pub record Rises (image lens slots : List ℕ) (limit x l n need k v count : ℕ) (old new : List ℕ) (r : Rise) : Type 0 where
   pub keeps : Keeps count old (r .count) new
   pub plain : r .gains ≡ true → r .refused ≡ false
-  pub is : (us : List U.Unit) → Ready limit x count old us (tableIn image lens slots limit count old) → Way l n k (tableIn image lens slots limit count old)
-      → Outcome limit n l (tableIn image lens slots limit count old) (insertUnitsAt l n k v (tableIn image lens slots limit count old))
+  pub whole : r .refused ≡ true → new ≡ old
+  pub is : (us : List U.Unit) → Ready limit x count old us (tableIn image lens slots limit count old) → Way l n k v (tableIn image lens slots limit count old)
+      → Outcome limit need n l (tableIn image lens slots limit count old) (insertUnitsAt l n k v (tableIn image lens slots limit count old))
       (insertAt l n k v (tableIn image lens slots limit count old)) count old new r
 
 -- ---- an insert
@@ -193,9 +201,11 @@ pub record Done (image lens slots : List ℕ) (limit k v count : ℕ) (old : Lis
   pub units : decodes limit (r .count) new ≡ map Good (us ++ insertUnits k v t)
   pub few : r .count ≤ count + 60
 
+-- what an insert ensures; one that is refused leaves every byte of the buffer
 pub record Inserts (image lens slots : List ℕ) (limit x k v count : ℕ) (old new : List ℕ) (r : Inserted) : Type 0 where
   pub keeps : Keeps count old (r .count) new
   pub stays : r .refused ≡ true → (r .count ≡ count) × (r .next ≡ x)
+  pub whole : r .refused ≡ true → new ≡ old
   pub refused : r .refused ≡ true → (us : List U.Unit) → Ready limit x count old us (tableIn image lens slots limit count old)
       → insert limit k v (tableIn image lens slots limit count old) ≡ refusal 5
   pub done : r .refused ≡ false → (us : List U.Unit) → Ready limit x count old us (tableIn image lens slots limit count old)

@@ -1,20 +1,21 @@
-// The insert, as recursion on the level: it pushes its units to the buffer, from the leaf upward.
+// The insert, as recursion on the level: it pushes its units to the buffer, from the leaf upward. It is refused at the leaf, before anything is pushed.
 ghost use mathlib.Core.Path.{_≡_};
 ghost use mathlib.Core.Bool.{true, false, _&&_};
-ghost use Prim.Native.Nat.{_+_, _%_, _<_, _≤_};
+ghost use Prim.Native.Nat.{suc, _+_, _%_, _<_, _≤_};
 ghost use lib.Dec.{ltb, leb};
 ghost use lib.ListN.{length, take, drop};
 ghost use Rattle.views.specs.NodeCode.{entriesOf, Shows};
-ghost use Rattle.tree.specs.Tree.{below, firstKey};
+ghost use Rattle.tree.specs.Tree.{at, firstKey};
 ghost use Rattle.tree.specs.Units.{halveUnits, raiseUnits};
-ghost use Rattle.tree.specs.InsertCode.{two, Written, fitMove, raiseMove, halveMove, holdMove, Holds, Gains, comes, Passes, Descends, Rises, RootIs, answers, Inserts};
+ghost use Rattle.tree.specs.FindCode as F;
+ghost use Rattle.tree.specs.InsertCode.{two, Written, fitMove, raiseMove, halveMove, holdMove, Holds, needsOf, Lands, Passes, tableIn, Rises, answers, Inserts};
 use crate::find::child;
+use crate::find::node_at;
 use pages::unit::Unit;
 use pages::unit::Update;
 use views::buffer;
 use views::node;
 use views::node::Node;
-use views::view;
 
 // What an insert under a node leaves: whether it is refused, the entry that the parent gains, if any, and how many units and numbers there are then.
 pub struct Rise {
@@ -128,12 +129,26 @@ fn raise(buffer: &mut [u8; 11520], count: usize, n: Node, level: u32, next: u32)
     buffer::push_node(buffer, used, 0, root)
 }
 
-// No room: nothing is pushed.
+// No numbers: nothing is pushed.
 fn refuse(count: usize, next: u32) -> Rise
     ensures { λ r. ⌜ (r .refused ≡ true) × (r .gains ≡ false) × (r .count ≡ count) ⌝ }
 {
     Rise {
         refused: true,
+        gains: false,
+        key: 0,
+        number: 0,
+        count,
+        next,
+    }
+}
+
+// No room for a node's units, which no tree leads to: nothing is pushed.
+fn stay(count: usize, next: u32) -> Rise
+    ensures { λ r. ⌜ (r .refused ≡ false) × (r .gains ≡ false) × (r .count ≡ count) ⌝ }
+{
+    Rise {
+        refused: false,
         gains: false,
         key: 0,
         number: 0,
@@ -205,7 +220,7 @@ fn fit(buffer: &mut [u8; 11520], count: usize, next: u32, node: u32, key: u32, v
             next,
         }
     } else {
-        refuse(count, next)
+        stay(count, next)
     }
 }
 
@@ -225,7 +240,7 @@ fn grow(buffer: &mut [u8; 11520], count: usize, limit: u32, next: u32, level: u3
             next: next + 2,
         }
     } else {
-        refuse(count, next)
+        stay(count, next)
     }
 }
 
@@ -254,7 +269,7 @@ fn split(
             next: next + 1,
         }
     } else {
-        refuse(count, next)
+        stay(count, next)
     }
 }
 
@@ -284,100 +299,85 @@ fn hold(
     }
 }
 
-// Node `node` of `level` gains an entry.
-fn gain(
-    image: &[u8],
-    lens: &[u32; 256],
-    slots: &[u32; 1024],
+// How many numbers a node of `level` and those above it take, where it is to hold `len` entries and those above it take `need` if it splits.
+// 257, which are more than there are, where the root would be too high.
+fn needs(need: u32, level: u32, node: u32, len: usize) -> u32
+    requires { ⌜ need ≤ 1000 ⌝ }
+    ensures { λ r. ⌜ r ≡ needsOf need level node len ⌝ }
+{
+    if len <= 16 {
+        return 0;
+    }
+    if node != 0 {
+        return need + 1;
+    }
+    if level < 3 { 2 } else { 257 }
+}
+
+// How many numbers a node and those above it take, where it gains an entry.
+fn needs_above(need: u32, level: u32, node: u32, n: Node) -> u32
+    requires { ⌜ (need ≤ 1000) × (n .len ≤ 16) ⌝ }
+    ensures { λ r. ⌜ r ≡ needsOf need level node (suc (length (entriesOf n))) ⌝ }
+{
+    let len = n.len;
+    needs(need, level, node, len + 1)
+}
+
+// Whether `more` numbers from `next` on are below `limit`.
+fn has_numbers(limit: u32, next: u32, more: u32) -> bool
+    requires { ⌜ (limit ≤ 256) × (more ≤ 2000) ⌝ }
+    ensures { λ r. ⌜ r ≡ leb (next + more) limit ⌝ }
+{
+    if next > limit {
+        return false;
+    }
+    next + more <= limit
+}
+
+// The entry at its leaf. Refused before anything is pushed, where the leaf and the nodes above it would take too many numbers.
+fn land(
     buffer: &mut [u8; 11520],
     count: usize,
     limit: u32,
     next: u32,
-    level: u32,
     node: u32,
+    n: Node,
+    need: u32,
     key: u32,
     value: u32,
 ) -> Rise
-    requires { ⌜ (length (now image) % 528 ≡ 0) × (limit ≤ 256) × (count ≤ 960) ⌝ }
-    ensures { λ r. ⌜ Gains (now (image .entry)) (now (lens .entry)) (now (slots .entry)) limit next level node key value count (now (buffer .entry)) (now (buffer .exit)) r ⌝ }
+    requires { ⌜ (count ≤ 960) × (limit ≤ 256) × (n .len ≤ 16) × (need ≤ 1000) ⌝ }
+    ensures { λ r. ⌜ Lands limit next need node key value count (entriesOf n) (now (buffer .entry)) (now (buffer .exit)) r ⌝ }
 {
-    let f = view::node_view(image, lens, slots, buffer, count, node, limit);
-    let old = f.node;
-    let new = node::insert(old, key, value);
-    hold(buffer, count, limit, next, level, node, new, key, value)
-}
-
-// An entry that comes to a leaf, as if a child gave it up.
-fn coming(count: usize, next: u32, key: u32, value: u32) -> Rise
-    ensures { λ r. ⌜ r ≡ comes count next key value ⌝ }
-{
-    Rise {
-        refused: false,
-        gains: true,
-        key,
-        number: value,
-        count,
-        next,
+    let new = node::insert(n, key, value);
+    let len = new.len;
+    let more = needs(need, 0, node, len);
+    if has_numbers(limit, next, more) {
+        hold(buffer, count, limit, next, 0, node, new, key, value)
+    } else {
+        refuse(count, next)
     }
 }
 
-// Node `node` of `level` gains what its child gave up, if anything.
-fn pass_up(
-    image: &[u8],
-    lens: &[u32; 256],
-    slots: &[u32; 1024],
-    buffer: &mut [u8; 11520],
-    limit: u32,
-    level: u32,
-    node: u32,
-    r: Rise,
-) -> Rise
-    requires { ⌜ (length (now image) % 528 ≡ 0) × (limit ≤ 256) × (r .count ≤ 960) ⌝ }
-    ensures { λ a. ⌜ Passes (now (image .entry)) (now (lens .entry)) (now (slots .entry)) limit level node r (now (buffer .entry)) (now (buffer .exit)) a ⌝ }
+// Node `node` of `level` with the entries of `n` gains what its child gave up, if anything.
+fn pass_up(buffer: &mut [u8; 11520], limit: u32, level: u32, node: u32, n: Node, r: Rise) -> Rise
+    requires { ⌜ (limit ≤ 256) × (n .len ≤ 16) × (r .count ≤ 960) ⌝ }
+    ensures { λ a. ⌜ Passes limit level node (entriesOf n) r (now (buffer .entry)) (now (buffer .exit)) a ⌝ }
 {
     if r.gains {
         let k = r.key;
         let m = r.number;
         let used = r.count;
         let last = r.next;
-        gain(
-            image,
-            lens,
-            slots,
-            buffer,
-            used,
-            limit,
-            last,
-            level,
-            node,
-            k,
-            m,
-        )
+        let new = node::insert(n, k, m);
+        hold(buffer, used, limit, last, level, node, new, k, m)
     } else {
         r
     }
 }
 
-// The node under `node` on the way to the leaf of `key`.
-fn way_down(
-    image: &[u8],
-    lens: &[u32; 256],
-    slots: &[u32; 1024],
-    buffer: &[u8; 11520],
-    count: usize,
-    limit: u32,
-    node: u32,
-    key: u32,
-) -> u32
-    requires { ⌜ length (now image) % 528 ≡ 0 ⌝ }
-    ensures { λ r. ⌜ Descends (now (image .entry)) (now (lens .entry)) (now (slots .entry)) limit count (now (buffer .entry)) node key r ⌝ }
-{
-    let f = view::node_view(image, lens, slots, buffer, count, node, limit);
-    let here = f.node;
-    child(here, key)
-}
-
-// An insert under node `node` of `level`: down to the leaf, and on the way up each node gains what its child gave up.
+// An insert under node `node` of `level`, which `n` shows; the nodes above it take `need` numbers if it splits.
+// Down to the leaf, and on the way up each node gains what its child gave up.
 fn insert_at(
     image: &[u8],
     lens: &[u32; 256],
@@ -388,17 +388,21 @@ fn insert_at(
     next: u32,
     level: u32,
     node: u32,
+    n: Node,
+    need: u32,
     key: u32,
     value: u32,
 ) -> Rise
-    requires { ⌜ (length (now image) % 528 ≡ 0) × (limit ≤ 256) × (count ≤ 960) ⌝ }
-    ensures { λ r. ⌜ Rises (now (image .entry)) (now (lens .entry)) (now (slots .entry)) limit next level node key value count (now (buffer .entry)) (now (buffer .exit)) r ⌝ }
+    requires { ⌜ (length (now image) % 528 ≡ 0) × (limit ≤ 256) × (count ≤ 960) × (level ≤ 3) × (need + level ≤ 260)
+        × F.Holds (at (tableIn (now image) (now lens) (now slots) limit count (now buffer)) node) n ⌝ }
+    ensures { λ r. ⌜ Rises (now (image .entry)) (now (lens .entry)) (now (slots .entry)) limit next level node need key value count (now (buffer .entry)) (now (buffer .exit)) r ⌝ }
 {
     if level == 0 {
-        let r = coming(count, next, key, value);
-        return pass_up(image, lens, slots, buffer, limit, level, node, r);
+        return land(buffer, count, limit, next, node, n, need, key, value);
     }
-    let below = way_down(image, lens, slots, buffer, count, limit, node, key);
+    let below = child(n, key);
+    let m = node_at(image, lens, slots, buffer, count, limit, below);
+    let more = needs_above(need, level, node, n);
     let r = insert_at(
         image,
         lens,
@@ -409,27 +413,12 @@ fn insert_at(
         next,
         level - 1,
         below,
+        m,
+        more,
         key,
         value,
     );
-    pass_up(image, lens, slots, buffer, limit, level, node, r)
-}
-
-// The level of node 0.
-fn root_level(
-    image: &[u8],
-    lens: &[u32; 256],
-    slots: &[u32; 1024],
-    buffer: &[u8; 11520],
-    count: usize,
-    limit: u32,
-) -> u32
-    requires { ⌜ length (now image) % 528 ≡ 0 ⌝ }
-    ensures { λ r. ⌜ RootIs (now (image .entry)) (now (lens .entry)) (now (slots .entry)) limit count (now (buffer .entry)) r ⌝ }
-{
-    let f = view::node_view(image, lens, slots, buffer, count, 0, limit);
-    let root = f.node;
-    root.level
+    pass_up(buffer, limit, level, node, n, r)
 }
 
 // The answer to an insert at node 0. Where it is refused, the count and the next number are as they were.
@@ -466,11 +455,8 @@ pub fn insert(
     requires { ⌜ (length (now image) % 528 ≡ 0) × (limit ≤ 256) × (count ≤ 960) ⌝ }
     ensures { λ r. ⌜ Inserts (now (image .entry)) (now (lens .entry)) (now (slots .entry)) limit next key value count (now (buffer .entry)) (now (buffer .exit)) r ⌝ }
 {
-    let level = root_level(image, lens, slots, buffer, count, limit);
-    if level > 3 {
-        let r = refuse(count, next);
-        return answer(r, count, next);
-    }
+    let root = node_at(image, lens, slots, buffer, count, limit, 0);
+    let level = root.level;
     let r = insert_at(
         image,
         lens,
@@ -480,6 +466,8 @@ pub fn insert(
         limit,
         next,
         level,
+        0,
+        root,
         0,
         key,
         value,

@@ -90,7 +90,7 @@ fn note_units(
 }
 
 // The units of a page's data noted, the page at `place`.
-fn note_page(
+pub fn note_page(
     lens: &mut [u32; 256],
     slots: &mut [u32; 1024],
     page: &[u8],

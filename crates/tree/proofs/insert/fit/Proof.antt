@@ -24,8 +24,8 @@ push-unit-requires c κs =
 add-t13 : tie.Need-add-t13
 add-t13 c = search needs
 
-refuse-requires : tie.Need-refuse-requires
-refuse-requires c κs = search needs
+stay-requires : tie.Need-stay-requires
+stay-requires c κs = search needs
 
 returns : tie.Need-returns
 returns c =
@@ -43,10 +43,10 @@ returns-2 : tie.Need-returns-2
 returns-2 c =
     let t = c .before .before in
     let a = t .before .args in
-    unable-holds (ltb (a .count) 960 && ltb (a .node) 65536) (able (unitFor (a .node) (Insert (a .key) (a .value)) ∷ []) false 0 0 (a .next)) (a .count) (a .buffer .now) (c .refuse .result) (sym (t .can-fit .ensures) ∙ c .before .if1 .left)
-    (record { bytes = refl; used = c .refuse .ensures .2; refused = c .refuse .ensures .0 }) (c .refuse .ensures .1) (t .before .pre)
+    unable-holds (ltb (a .count) 960 && ltb (a .node) 65536) (able (unitFor (a .node) (Insert (a .key) (a .value)) ∷ []) false 0 0 (a .next)) (a .count) (a .buffer .now) (c .stay .result) (sym (t .can-fit .ensures) ∙ c .before .if1 .left)
+    (record { bytes = refl; used = c .stay .ensures .2; refused = c .stay .ensures .0 }) (t .before .pre)
 
 pub fit-spec : {M : Type 1} → statement M
 fit-spec =
     tie.close
-    (tie.spec can-fit-requires push-unit-requires add-t13 refuse-requires returns returns-2)
+    (tie.spec can-fit-requires push-unit-requires add-t13 stay-requires returns returns-2)

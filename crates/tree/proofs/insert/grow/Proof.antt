@@ -30,8 +30,8 @@ add-t11 c =
     let f = raise-test (a .limit) (a .next) (a .level) (a .count) (sym (t .can-raise .ensures) ∙ j .if1 .taken) in
     omega (arith, f .0, t .before .pre .1)
 
-refuse-requires : tie.Need-refuse-requires
-refuse-requires c κs = search needs
+stay-requires : tie.Need-stay-requires
+stay-requires c κs = search needs
 
 returns : tie.Need-returns
 returns c =
@@ -48,10 +48,10 @@ returns-2 : tie.Need-returns-2
 returns-2 c =
     let t = c .before .before in
     let a = t .before .args in
-    unable-holds (ltb (a .next + 1) (a .limit) && (ltb (a .level) 3 && leb (a .count) 938)) (able (raiseUnits (a .level) (a .next) (entriesOf (a .n))) false 0 0 (a .next + 2)) (a .count) (a .buffer .now) (c .refuse .result) (sym (t .can-raise .ensures) ∙ c .before .if1 .left)
-    (record { bytes = refl; used = c .refuse .ensures .2; refused = c .refuse .ensures .0 }) (c .refuse .ensures .1) (t .before .pre .0)
+    unable-holds (ltb (a .next + 1) (a .limit) && (ltb (a .level) 3 && leb (a .count) 938)) (able (raiseUnits (a .level) (a .next) (entriesOf (a .n))) false 0 0 (a .next + 2)) (a .count) (a .buffer .now) (c .stay .result) (sym (t .can-raise .ensures) ∙ c .before .if1 .left)
+    (record { bytes = refl; used = c .stay .ensures .2; refused = c .stay .ensures .0 }) (t .before .pre .0)
 
 pub grow-spec : {M : Type 1} → statement M
 grow-spec =
     tie.close
-    (tie.spec can-raise-requires raise-requires add-t11 refuse-requires returns returns-2)
+    (tie.spec can-raise-requires raise-requires add-t11 stay-requires returns returns-2)

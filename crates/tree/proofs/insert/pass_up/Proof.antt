@@ -1,16 +1,30 @@
-use mathlib.Core.Path.{refl}
+use mathlib.Core.Path.{refl, ap, _∙_}
+use lib.ListN.{length}
 use Rattle.lists.proofs.Tests.{clash}
+use Rattle.views.specs.NodeCode.{entriesOf}
+use Rattle.tree.proofs.InsertLaws.{passes-gained}
+use borrow.Author.Needs.{needs}
 use Rattle.tree.proofs.insert.pass_up.Statement.{statement}
 use Rattle.tree.proofs.insert.pass_up.Tie as tie
 
-gain-requires : tie.Need-gain-requires
-gain-requires c κs = c .before .before .before .pre
+insert-requires : tie.Need-insert-requires
+insert-requires c κs = search needs
+
+hold-requires : tie.Need-hold-requires
+hold-requires c κs =
+    let i = c .before in
+    let s = i .before .before in
+    (s .pre .2, s .pre .0, i .insert .ensures .room, ap length (i .insert .ensures .is) ∙ i .insert .ensures .len)
 
 returns : tie.Need-returns
-returns c = record { gained = λ _. c .gain .ensures; same = λ e. clash (c .before .before .if1 .taken) e }
+returns c =
+    let i = c .before .before in
+    let j = i .before in
+    let a = j .before .args in
+    passes-gained (a .limit) (a .level) (a .node) (entriesOf (a .n)) (a .r) (a .n .level) (i .insert .result) (a .buffer .now) _ (c .hold .result) (j .if1 .taken) (i .insert .ensures) (c .hold .ensures)
 
 returns-2 : tie.Need-returns-2
 returns-2 c = record { gained = λ e. clash e (c .if1 .left); same = λ _. (refl, refl) }
 
 pub pass-up-spec : {M : Type 1} → statement M
-pass-up-spec = tie.close (tie.spec gain-requires returns returns-2)
+pass-up-spec = tie.close (tie.spec insert-requires hold-requires returns returns-2)

@@ -35,8 +35,8 @@ add-t13 c =
     let f = halve-test (a .limit) (a .next) (a .node) (a .count) (sym (t .can-halve .ensures) ∙ j .if1 .taken) in
     omega (arith, f .0, t .before .pre .1)
 
-refuse-requires : tie.Need-refuse-requires
-refuse-requires c κs = search needs
+stay-requires : tie.Need-stay-requires
+stay-requires c κs = search needs
 
 returns : tie.Need-returns
 returns c =
@@ -54,8 +54,8 @@ returns-2 : tie.Need-returns-2
 returns-2 c =
     let t = c .before .before in
     let a = t .before .args in
-    unable-holds (ltb (a .next) (a .limit) && (ltb (a .node) 65536 && leb (a .count) 941)) (able (halveUnits (a .level) (a .node) (a .next) (entriesOf (a .n))) true (firstKey 0 (drop 9 (entriesOf (a .n)))) (a .next) (a .next + 1)) (a .count) (a .buffer .now) (c .refuse .result) (sym (t .can-halve .ensures) ∙ c .before .if1 .left)
-    (record { bytes = refl; used = c .refuse .ensures .2; refused = c .refuse .ensures .0 }) (c .refuse .ensures .1) (t .before .pre .0)
+    unable-holds (ltb (a .next) (a .limit) && (ltb (a .node) 65536 && leb (a .count) 941)) (able (halveUnits (a .level) (a .node) (a .next) (entriesOf (a .n))) true (firstKey 0 (drop 9 (entriesOf (a .n)))) (a .next) (a .next + 1)) (a .count) (a .buffer .now) (c .stay .result) (sym (t .can-halve .ensures) ∙ c .before .if1 .left)
+    (record { bytes = refl; used = c .stay .ensures .2; refused = c .stay .ensures .0 }) (t .before .pre .0)
 
 pub split-spec : {M : Type 1} → statement M
 split-spec =
@@ -65,6 +65,6 @@ split-spec =
     halve-requires
     middle-requires
     add-t13
-    refuse-requires
+    stay-requires
     returns
     returns-2)

@@ -1,0 +1,6 @@
+pub mod ClearLaws
+pub mod PlanCode
+pub mod PlanClear
+pub mod WriteLaws
+pub mod NoteLaws
+pub mod TurnLaws

@@ -1,0 +1,286 @@
+-- Free pages of a block, and the places and erases that follow from them. Assumes nothing.
+use mathlib.Core.Path.{_≡_, refl, sym, ap, ap₂, _∙_}
+use mathlib.Core.Bool.{Bool, true, false, cond, _&&_, not}
+use mathlib.Core.List.{List, [], _∷_, _++_, append-assoc, append-nil}
+use mathlib.Core.Logic.{⊎-elim}
+use Prim.Native.Nat.{ℕ, zero, suc, _+_, _-_, _*_, _/_, _%_, _<_, _≤_}
+use native.Mathlib.Numerals.{add-one}
+use native.Mathlib.Omega.{arith}
+use lib.Dec.{eqb, ltb}
+use lib.ListN.{length, take, drop, set, getD, length-append, drop-of-length-le, List·getD-append}
+use lib.Seq.{take-take, take-nil, take-at, take-suc, take-suc-set, drop-drop, drop-cons, length-take-le, getD-append-add, getD-take}
+use borrow.Author.Tests.{eq-eqb, ne-eqb}
+use Rattle.lists.specs.Lists.{filter, all, flat, part, count, All, more}
+use Rattle.lists.proofs.Tests.{cases, clash, below-or-not}
+use Rattle.lists.proofs.Alls.{All-head, All-tail, All-map, All-take, All-filter, all-All}
+use Rattle.lists.proofs.Flats.{length-tab, getD-tab}
+use Rattle.lists.proofs.Filters.{filter-all, count-most}
+use Rattle.lists.proofs.Parts.{length-part}
+use Rattle.lists.proofs.Places.{getD-default}
+use Rattle.chip.specs.Geometry.{Geometry, small}
+use Rattle.chip.specs.Page.{Page, isFree}
+use Rattle.chip.specs.Chip.{pagesOf}
+use Rattle.chip.proofs.ImageLaws.{length-pages, page-at}
+use Rattle.log.specs.Plan.{from, freeAt, pagesIn, places, erases}
+use Rattle.log.proofs.Sets.{Diff, mem-at, length-filter}
+use Rattle.log.proofs.PlanPlaces.{Origin, old, new, places-from, length-flat}
+use Rattle.log.proofs.PlanLoops.{places-count, erasesFrom, erases-walk}
+use Rattle.plan.specs.Ground.{freePages, firstPlaces, firstErases, Spare, Lays, LaysErases}
+use Rattle.plan.proofs.LastLaws.{page-is}
+
+-- ---- the closed names
+module _ (g : Geometry) (ps : List Page) where
+  pub free-pages-is : (b : ℕ) → freePages g ps b ≡ filter (freeAt ps) (pagesIn g b)
+  unfolding freePages
+  free-pages-is b = refl
+
+  module _ (head : ℕ) (bs : List ℕ) where
+    pub first-places-is : (n : ℕ) → firstPlaces g ps head bs n ≡ take n (places g ps head bs)
+    unfolding firstPlaces
+    first-places-is n = refl
+
+    pub first-erases-is : (n : ℕ) → firstErases g ps head bs n ≡ erases g ps (take n (places g ps head bs)) bs
+    unfolding firstErases
+    first-erases-is n = refl
+
+    -- how many places there are
+    pub places-size : length (places g ps head bs) ≡ length (freePages g ps head) + length bs * g .pages
+    unfolding freePages
+    places-size = places-count g ps head bs
+
+-- ---- the pages of a block
+part-drop : {A : Type 0} (a m n : ℕ) (xs : List A) → n ≡ a + m → drop a (take n xs) ≡ take m (drop a xs)
+part-drop zero m n xs e = ap (λ (i : ℕ). take i xs) (let q : n ≡ m = omega arith in q)
+part-drop (suc a) m zero xs e = absurd (omega arith)
+part-drop (suc a) m (suc n) [] e = sym (take-nil m)
+part-drop (suc a) m (suc n) (x ∷ xs) e = part-drop a m n xs (omega arith)
+
+-- a part of a part
+part-part : {A : Type 0} (a n b k : ℕ) (xs : List A) → b + k ≤ n → part b k (part a n xs) ≡ part (a + b) k xs
+part-part a n b k xs h =
+    let e : n ≡ b + (n - b) = omega arith in
+    ap (take k) (part-drop b (n - b) n (drop a xs) e)
+    ∙ take-take k (n - b) (drop b (drop a xs)) (omega arith)
+    ∙ ap (take k) (drop-drop b a xs)
+
+-- a count by places
+count-from : {A : Type 0} (p : A → Bool) (q : ℕ → Bool) (d : A) (xs : List A) (k : ℕ)
+    → ((i : ℕ) → i < length xs → p (getD xs i d) ≡ q (k + i)) → count p xs ≡ length (filter q (from k (length xs)))
+count-from p q d [] k h = refl
+count-from p q d (x ∷ xs) k h =
+    let a : p x ≡ q k = h 0 (omega arith) ∙ ap q (let e : k + 0 ≡ k = omega arith in e) in
+    let r : count p xs ≡ length (filter q (from (suc k) (length xs))) =
+    count-from p q d xs (suc k) (λ i l. h (suc i) (omega arith) ∙ ap q (let e : k + suc i ≡ suc k + i = omega arith in e)) in
+    cases (q k) (λ t. rw (a, t) (omega (arith, r))) (λ t. rw (a, t) (omega (arith, r)))
+
+module _ (image : List ℕ) (b : ℕ) (fits : b * 16896 + 16896 ≤ length image) where
+  abbrev blockAt : List ℕ
+  blockAt = part (b * 16896) 16896 image
+
+  block-length : length blockAt ≡ 16896
+  block-length = length-part image (b * 16896) 16896 fits
+
+  block-pages : length (pagesOf small blockAt) ≡ 32
+  block-pages = length-pages small blockAt ∙ ap (λ (n : ℕ). n / 528) block-length
+
+  page-free : (i : ℕ) → i < 32 → isFree (getD (pagesOf small blockAt) i []) ≡ freeAt (pagesOf small image) (b * 32 + i)
+  page-free i h =
+      let l : b * 32 + i < length image / 528 = omega arith in
+      let k : i < length blockAt / 528 = omega (arith, block-length) in
+      let e : b * 16896 + i * 528 ≡ (b * 32 + i) * 528 = omega arith in
+      ap isFree
+      (page-at small blockAt i k
+      ∙ part-part (b * 16896) 16896 (i * 528) 528 image (omega arith)
+      ∙ ap (λ (a : ℕ). part a 528 image) e
+      ∙ sym (page-at small image (b * 32 + i) l)
+      ∙ getD-default (pagesOf small image) (b * 32 + i) [] (0 ∷ []) (omega (arith, length-pages small image)))
+
+  -- the free pages of the block, counted in its part of the image and by place
+  pub block-free : count isFree (pagesOf small blockAt) ≡ length (freePages small (pagesOf small image) b)
+  unfolding freePages
+  block-free =
+      count-from isFree (freeAt (pagesOf small image)) [] (pagesOf small blockAt) (b * 32) (λ i l. page-free i (omega (arith, block-pages)))
+      ∙ ap (λ (n : ℕ). length (filter (freeAt (pagesOf small image)) (from (b * 32) n))) block-pages
+
+  pub free-most : count isFree (pagesOf small blockAt) ≤ 32
+  free-most = omega (arith, count-most isFree (pagesOf small blockAt), block-pages)
+
+-- ---- free pages by place
+pub free-is : (image : List ℕ) (n : ℕ) → n < length image / 528 → isFree (part (n * 528) (n * 528 + 528 - n * 528) image) ≡ freeAt (pagesOf small image) n
+free-is image n h =
+    ap isFree (page-is image n h ∙ getD-default (pagesOf small image) n [] (0 ∷ []) (omega (arith, length-pages small image)))
+
+-- ---- the pages of blocks, counted through them
+pub flat-at : (bs : List ℕ) (j : ℕ) → j < length bs * 32 → getD (flat (pagesIn small) bs) j 0 ≡ getD bs (j / 32) 0 * 32 + j % 32
+flat-at [] j h = absurd (omega arith)
+flat-at (b ∷ bs) j h =
+    let own : List ℕ = pagesIn small b in
+    let rest : List ℕ = flat (pagesIn small) bs in
+    let l : length own ≡ 32 = length-tab (λ (i : ℕ). i) (b * 32) 32 in
+    ⊎-elim
+    (λ (k : j < 32). let z : j / 32 ≡ 0 = omega arith in let y : j % 32 ≡ j = omega arith in
+    List·getD-append own rest 0 j (rw l k) ∙ getD-tab (λ (i : ℕ). i) (b * 32) 32 j 0 k ∙ rw (z, y))
+    (λ (k : 32 ≤ j). let i : ℕ = j - 32 in
+    let e : j ≡ 32 + i = omega arith in
+    let z : j / 32 ≡ suc (i / 32) = omega arith in
+    let y : j % 32 ≡ i % 32 = omega arith in
+    ap (λ (n : ℕ). getD (own ++ rest) n 0) (e ∙ ap (λ (n : ℕ). n + i) (sym l)) ∙ getD-append-add own rest i 0
+    ∙ flat-at bs i (omega arith) ∙ ap₂ (λ (a r : ℕ). getD (b ∷ bs) a 0 * 32 + r) (sym z) (sym y))
+    (below-or-not j 32)
+
+-- an element of the first w
+pub take-at-all : {P : ℕ → Type 0} (xs : List ℕ) (w k : ℕ) → w ≤ length xs → k < w → All P (take w xs) → P (getD xs k 0)
+take-at-all [] w k h l a = absurd (omega arith)
+take-at-all (x ∷ xs) zero k h l a = absurd (omega arith)
+take-at-all (x ∷ xs) (suc w) zero h l a = All-head a
+take-at-all (x ∷ xs) (suc w) (suc k) h l a = take-at-all xs w k (omega arith) (omega arith) (All-tail a)
+
+-- ---- the places behind the first n
+module _ (w n : ℕ) (ring before : List ℕ) (lr : length ring ≡ 32) (lw : w ≤ 32) (ln : n ≤ length before) where
+  abbrev bs : List ℕ
+  bs = take w ring
+
+  abbrev goal : List ℕ
+  goal = take n before ++ flat (pagesIn small) bs
+
+  front : length (take n before) ≡ n
+  front = length-take-le n before ln
+
+  width : length bs ≡ w
+  width = length-take-le w ring (omega arith)
+
+  goal-length : length goal ≡ n + w * 32
+  goal-length = length-append (take n before) (flat (pagesIn small) bs) ∙ omega (arith, front, length-flat small bs, width)
+
+  pub rest-start : take n before ≡ take n goal
+  rest-start = sym (take-at (take n before) (flat (pagesIn small) bs) n front)
+
+  -- one place more
+  pub rest-next : (i : ℕ) (after : List ℕ) (v : ℕ) → n ≤ i → i < n + w * 32 → i < length after → take i after ≡ take i goal
+      → v ≡ getD ring ((i - n) / 32) 0 * 32 + (i - n) % 32 → take (i + 1) (set after i v) ≡ take (i + 1) goal
+  rest-next i after v h k l e q =
+      let j : ℕ = i - n in
+      let m : j / 32 < w = omega arith in
+      let at : getD goal i 0 ≡ v =
+      ap (λ (a : ℕ). getD goal a 0) (let z : i ≡ length (take n before) + j = omega (arith, front) in z)
+      ∙ getD-append-add (take n before) (flat (pagesIn small) bs) j 0
+      ∙ flat-at bs j (omega (arith, width))
+      ∙ ap (λ (a : ℕ). a * 32 + j % 32) (getD-take w ring (j / 32) 0 m) ∙ sym q in
+      ap (λ (a : ℕ). take a (set after i v)) (add-one i)
+      ∙ take-suc-set after i v l
+      ∙ ap₂ (λ (a : List ℕ) (b : ℕ). a ++ (b ∷ [])) e (sym at)
+      ∙ sym (take-suc goal i 0 (omega (arith, goal-length)))
+      ∙ ap (λ (a : ℕ). take a goal) (sym (add-one i))
+
+-- enough places
+pub rest-done : (need i : ℕ) (after goal : List ℕ) → need ≤ i → take i after ≡ take i goal → take need after ≡ take need goal
+rest-done need i after goal h e = sym (take-take need i after h) ∙ ap (take need) e ∙ take-take need i goal h
+
+-- ---- every place is on the chip
+pub places-on : (B head n : ℕ) (ps : List Page) (bs : List ℕ) → head < B → Spare B head bs → All (λ (p : ℕ). p < B * 32) (firstPlaces small ps head bs n)
+unfolding firstPlaces
+places-on B head n ps bs h s = All-take n (All-map (λ p o. go p o) (places-from small ps head bs))
+  where
+    go : (p : ℕ) → Origin small ps head bs p → p < B * 32
+    go p (old i f) = omega (arith, i .1)
+    go p (new b m i) = let r = mem-at m (s .range) in omega (arith, i .1, r .0)
+
+-- ---- the blocks to erase
+-- all pass where as many pass as there are
+all-count : {A : Type 0} (p : A → Bool) (xs : List A) (n : ℕ) → length xs ≡ n → all p xs ≡ eqb (length (filter p xs)) n
+all-count p xs n e =
+    cases (all p xs)
+    (λ t. t ∙ sym (eq-eqb (length (filter p xs)) n (ap length (filter-all p (all-All p xs t)) ∙ e)))
+    (λ t. t ∙ sym (ne-eqb (length (filter p xs)) n (λ q. clash (full p xs (q ∙ sym e)) t)))
+  where
+    full : {A : Type 0} (p : A → Bool) (xs : List A) → length (filter p xs) ≡ length xs → all p xs ≡ true
+    full p [] q = refl
+    full p (x ∷ xs) q =
+        cases (p x)
+        (λ t. let r : suc (length (filter p xs)) ≡ suc (length xs) = (rw t at q) in rw t (full p xs (omega arith)))
+        (λ t. let r : length (filter p xs) ≡ suc (length xs) = (rw t at q) in absurd (omega (arith, length-filter p xs)))
+
+pub block-all : (ps : List Page) (b : ℕ) → all (freeAt ps) (pagesIn small b) ≡ eqb (length (freePages small ps b)) 32
+unfolding freePages
+block-all ps b = all-count (freeAt ps) (pagesIn small b) 32 (length-tab (λ (i : ℕ). i) (b * 32) 32)
+
+-- the next block
+module _ (ps : List Page) (w : ℕ) (ring : List ℕ) (lr : length ring ≡ 32) (lw : w ≤ 32) (j : ℕ) where
+  pub erase-next : (left n r : ℕ) (before after target : List ℕ) → j < w
+      → take n before ++ erasesFrom small ps left (drop j (take w ring)) ≡ target
+      → (keep : Bool) → keep ≡ (ltb 0 left && not (all (freeAt ps) (pagesIn small (getD ring j 0))))
+      → take r after ≡ take n before ++ cond keep (getD ring j 0 ∷ []) []
+      → take r after ++ erasesFrom small ps (left - 32) (drop (j + 1) (take w ring)) ≡ target
+  erase-next left n r before after target h e keep k is =
+      let b : ℕ = getD ring j 0 in
+      let l : List ℕ = take w ring in
+      let rest : List ℕ = erasesFrom small ps (left - 32) (drop (suc j) l) in
+      let next : drop j l ≡ b ∷ drop (suc j) l =
+      drop-cons l j 0 (rw (length-take-le w ring (omega arith)) h) ∙ ap (λ (a : ℕ). a ∷ drop (suc j) l) (getD-take w ring j 0 h) in
+      ap (λ (a : ℕ). take r after ++ erasesFrom small ps (left - 32) (drop a l)) (add-one j)
+      ∙ ap (λ (a : List ℕ). a ++ rest) is ∙ append-assoc (take n before) (cond keep (b ∷ []) []) rest
+      ∙ ap (λ (a : List ℕ). take n before ++ a) (one keep b rest ∙ ap (λ (t : Bool). cond t (b ∷ rest) rest) k)
+      ∙ ap (λ (a : List ℕ). take n before ++ erasesFrom small ps left a) (sym next) ∙ e
+    where
+      one : (t : Bool) (b : ℕ) (rest : List ℕ) → cond t (b ∷ []) [] ++ rest ≡ cond t (b ∷ rest) rest
+      one true b rest = refl
+      one false b rest = refl
+
+  pub erase-done : (left : ℕ) (list target : List ℕ) → w ≤ j → list ++ erasesFrom small ps left (drop j (take w ring)) ≡ target → list ≡ target
+  erase-done left list target h e =
+      sym (append-nil list)
+      ∙ ap (λ (a : List ℕ). list ++ erasesFrom small ps left a) (sym (drop-of-length-le (take w ring) {i = j} (omega (arith, length-take-le w ring (omega arith))))) ∙ e
+
+some-pages : 0 < small .pages
+some-pages = omega arith
+
+-- the erases of the plan
+erases-first : (head n : ℕ) (ps : List Page) (bs : List ℕ) → Diff bs → All (λ b. b ≡ head → ⊥) bs
+    → erasesFrom small ps (n - length (freePages small ps head)) bs ≡ firstErases small ps head bs n
+unfolding freePages firstErases
+erases-first head n ps bs d a = sym (erases-walk small ps some-pages head n bs d a)
+
+erases-on : (B head n : ℕ) (ps : List Page) (bs : List ℕ) → Spare B head bs → All (λ (b : ℕ). b < B) (firstErases small ps head bs n)
+unfolding firstErases
+erases-on B head n ps bs s = All-filter _ (All-map (λ b h. h .0) (s .range))
+
+pub erases-are : (B head w n free reach r : ℕ) (ps : List Page) (ring after : List ℕ) → Spare B head (take w ring) → free ≡ length (freePages small ps head)
+    → reach ≡ n - free → r ≤ w → take r after ≡ erasesFrom small ps reach (take w ring) → LaysErases B head w n ps ring after r
+erases-are B head w n free reach r ps ring after s ef er m e =
+    let bs : List ℕ = take w ring in
+    let is : take r after ≡ firstErases small ps head bs n =
+    e ∙ ap (λ (k : ℕ). erasesFrom small ps k bs) (er ∙ ap (λ (k : ℕ). n - k) ef)
+    ∙ erases-first head n ps bs (s .differ) (All-map (λ b h. h .1) (s .range)) in
+    record { most = m; list = is; on = rw is (erases-on B head n ps bs s) }
+
+-- ---- what the functions on the image ask
+-- a block of an image of B blocks
+pub block-fits : (B b len : ℕ) → len ≡ B * 16896 → b < B → b * 16896 + 16896 ≤ len
+block-fits B b len e h = omega arith
+
+pub whole-pages : (B len : ℕ) → len ≡ B * 16896 → len % 528 ≡ 0
+whole-pages B len e = omega arith
+
+pub lower : (a b d : ℕ) → a < b → b ≤ d → a < d
+lower a b d h k = omega arith
+
+pub most-places : (a : ℕ) → a ≤ 32 → a ≤ 160
+most-places a h = omega arith
+
+-- the first n of the array are the free pages of the head, and the need has places
+module _ (head w need n : ℕ) (ps : List Page) (ring after : List ℕ) (ln : n ≤ length after) (free : take n after ≡ freePages small ps head) where
+  count-is : length (freePages small ps head) ≡ n
+  count-is = sym (ap length free) ∙ length-take-le n after ln
+
+  pub need-fits : need ≤ length (freePages small ps head) + w * 32 → need ≤ n + w * 32
+  need-fits h = omega (arith, count-is)
+
+  first-is : take need (freePages small ps head ++ flat (pagesIn small) (take w ring)) ≡ firstPlaces small ps head (take w ring) need
+  unfolding freePages firstPlaces
+  first-is = refl
+
+  pub lays : (B : ℕ) (last : List ℕ) → head < B → Spare B head (take w ring)
+      → take need last ≡ take need (take n after ++ flat (pagesIn small) (take w ring)) → Lays B head w need ps ring last
+  lays B last h s e =
+      let is : take need last ≡ firstPlaces small ps head (take w ring) need = e ∙ ap (λ (a : List ℕ). take need (a ++ flat (pagesIn small) (take w ring))) free ∙ first-is in
+      record { list = is; on = rw is (places-on B head need ps (take w ring) h s) }

@@ -1,0 +1,119 @@
+use mathlib.Core.Path.{_≡_, refl, sym, ap, _∙_}
+use mathlib.Core.Bool.{Bool, cond}
+use mathlib.Core.List.{[], _∷_, _++_}
+use Prim.Native.Nat.{ℕ, _+_, _-_, _*_, _≤_}
+use native.Mathlib.Nat.{add-sub-cancel-left}
+use native.Mathlib.Omega.{arith}
+use lib.ListN.{length, take}
+use Rattle.lists.specs.Lists.{filter}
+use Rattle.chip.specs.Geometry.{small}
+use Rattle.chip.specs.Chip.{pagesOf}
+use Rattle.log.specs.Plan.{from, freeAt}
+use Rattle.plan.specs.Ground.{freePages}
+use Rattle.plan.proofs.PlaceLaws.{free-pages-is}
+use Rattle.plan.proofs.MarkLaws.{push-next, push-done}
+use borrow.Author.Needs.{needs}
+use Rattle.plan.proofs.places.put_free.Statement.{statement}
+use Rattle.plan.proofs.places.put_free.Tie as tie
+use Rattle.plan.proofs.places.put_free.Reads as reads
+use Rattle.plan.proofs.places.put_free.Lts as lts
+use Rattle.plan.proofs.ground.push_if.Reads as push-if-reads
+use Rattle.plan.proofs.places.is_free_at.Reads as is-free-at-reads
+
+abbrev Inv-loop : tie.InvT-loop
+Inv-loop image at places₀ first end n₀ p₀ places n p =
+    (at * 32 ≤ p) × (p ≤ at * 32 + 32) × (n + at * 32 ≤ p) × (length places ≡ length places₀)
+    × (take n places ++ filter (freeAt (pagesOf small image)) (from p (at * 32 + 32 - p)) ≡ freePages small (pagesOf small image) at)
+
+abbrev μ-loop : tie.MeasureT-loop
+μ-loop image at places₀ first end n₀ p₀ places n p = at * 32 + 32 - p
+
+-- src/places.rt:35:17
+mul-first : tie.Need-mul-first Inv-loop μ-loop
+mul-first c = search needs
+
+-- src/places.rt:36:15
+add-end : tie.Need-add-end Inv-loop μ-loop
+add-end c = search needs
+
+-- src/places.rt:39:5
+loop-holds : tie.Need-loop-holds Inv-loop μ-loop
+loop-holds c =
+    let a = c .before .before .args in (
+      omega arith,
+      omega arith,
+      omega arith,
+      refl,
+      ap (λ (k : ℕ). filter (freeAt (pagesOf small (a .image .now))) (from (a .at * 32) k)) (add-sub-cancel-left (a .at * 32) 32)
+          ∙ sym (free-pages-is small (pagesOf small (a .image .now)) (a .at)),
+    )
+
+-- src/places.rt:40:29
+is-free-at-requires : tie.Need-is-free-at-requires Inv-loop μ-loop
+is-free-at-requires c κs = search needs
+
+-- src/places.rt:40:51
+cast-push-if : tie.Need-cast-push-if Inv-loop μ-loop
+cast-push-if c = search needs
+
+-- src/places.rt:40:9
+push-if-requires : tie.Need-push-if-requires Inv-loop μ-loop
+push-if-requires c κs = search needs
+
+-- src/places.rt:41:9
+add-p : tie.Need-add-p Inv-loop μ-loop
+add-p c = search needs
+
+-- src/places.rt:39:5
+loop-less : tie.Need-loop-less Inv-loop μ-loop
+loop-less c = search needs
+
+-- src/places.rt:39:5
+loop-again : tie.Need-loop-again Inv-loop μ-loop
+loop-again c =
+    let p = c .before .before in
+    let f = p .before .before in
+    let i = f .before in
+    let l = i .before .loop in
+    let a = i .before .before .before .before .args in
+    let u = p .push-if .ensures in (
+      omega arith,
+      omega arith,
+      omega (arith, u .high),
+      search needs,
+      push-next (freeAt (pagesOf small (a .image .now))) (l .p) (a .at * 32 + 32) (l .n) (p .push-if .result) (l .places) _ _ (i .loop-test .taken) (l .inv .4)
+          (u .list ∙ ap (λ (t : Bool). take (l .n) (l .places) ++ cond t (l .p ∷ []) []) (f .is-free-at .ensures)),
+    )
+
+-- src/places.rt:30:1
+same-length : tie.Need-same-length Inv-loop μ-loop
+same-length c = search needs
+
+-- src/places.rt:30:1
+returns : tie.Need-returns Inv-loop μ-loop
+returns c =
+    let l = c .before .loop in
+    let k = c .before .before .before .before in
+    let a = k .args in (
+      push-done (freeAt (pagesOf small (a .image .now))) (l .p) (a .at * 32 + 32) (take (l .n) (l .places)) _ (c .loop-test .left) (l .inv .4),
+      omega arith,
+      l .inv .3 ∙ k .pre .3,
+    )
+
+pub put-free-spec : {M : Type 1} → statement M
+put-free-spec =
+    tie.close
+    (tie.spec
+    Inv-loop
+    μ-loop
+    mul-first
+    add-end
+    loop-holds
+    is-free-at-requires
+    cast-push-if
+    push-if-requires
+    add-p
+    loop-less
+    loop-again
+    same-length
+    returns)

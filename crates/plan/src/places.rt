@@ -1,0 +1,193 @@
+// The places of a commit's pages, and the blocks to erase before they are written.
+ghost use mathlib.Core.Path.{_≡_};
+ghost use mathlib.Core.Bool.{_&&_, not};
+ghost use mathlib.Core.List.{_++_};
+ghost use Prim.Native.Nat.{_+_, _-_, _*_, _/_, _%_, _<_, _≤_};
+ghost use lib.Dec.{ltb};
+ghost use lib.ListN.{length, take, getD};
+ghost use Rattle.lists.specs.Lists.{all, flat};
+ghost use Rattle.chip.specs.Geometry.{small};
+ghost use Rattle.chip.specs.Chip.{pagesOf};
+ghost use Rattle.log.specs.Plan.{freeAt, pagesIn};
+ghost use Rattle.log.proofs.PlanLoops.{erasesFrom};
+ghost use Rattle.plan.specs.Ground.{freePages, Spare, Lays, LaysErases};
+use crate::ground;
+use chip::geometry::PAGE;
+use chip::geometry::PAGES;
+use chip::page;
+
+// Is the page at this place free?
+fn is_free_at(image: &[u8], at: usize) -> bool
+    requires { ⌜ (at * 528 + 528 ≤ length (now image)) × (length (now image) % 528 ≡ 0) ⌝ }
+    ensures { λ r. ⌜ r ≡ freeAt (pagesOf small (now (image .entry))) at ⌝ }
+{
+    let a = at * PAGE;
+    let e = a + PAGE;
+    page::is_free(&image[a..e])
+}
+
+// The free pages of a block put into `places`, the lowest first; how many there are.
+fn put_free(image: &[u8], at: usize, places: &mut [u32]) -> usize
+    requires { ⌜ (at * 16896 + 16896 ≤ length (now image)) × (length (now image) % 528 ≡ 0) × (at < 32) × (length (now places) ≡ 160) ⌝ }
+    ensures { λ r. ⌜ (take r (now (places .exit)) ≡ freePages small (pagesOf small (now (image .entry))) at) × (r ≤ 32)
+        × (length (now (places .exit)) ≡ 160) ⌝ }
+{
+    let first = at * PAGES;
+    let end = first + PAGES;
+    let mut n = 0;
+    let mut p = first;
+    while p < end {
+        n = ground::push_if(is_free_at(image, p), p as u32, places, n);
+        p += 1;
+    }
+    n
+}
+
+// Page `j` of the blocks of the ring, counted through them.
+fn page_of(ring: &[u32], j: usize) -> u32
+    requires { ⌜ (length (now ring) ≡ 32) × (j < 1024) × (getD (now ring) (j / 32) 0 < 1024) ⌝ }
+    ensures { λ r. ⌜ r ≡ getD (now (ring .entry)) (j / 32) 0 * 32 + j % 32 ⌝ }
+{
+    let b = ring[j / PAGES];
+    b * 32 + (j % PAGES) as u32
+}
+
+// Places from `n` to `need` filled with the pages of the first `width` blocks of the ring.
+fn put_rest(
+    ring: &[u32],
+    blocks: usize,
+    head: usize,
+    width: usize,
+    n: usize,
+    need: usize,
+    places: &mut [u32],
+)
+    requires { ⌜ (length (now ring) ≡ 32) × (length (now places) ≡ 160) × (blocks ≤ 32) × (width ≤ 32) × (n ≤ 160) × (need ≤ 160) × (need ≤ n + width * 32)
+        × Spare blocks head (take width (now ring)) ⌝ }
+    ensures { λ _. ⌜ (take need (now (places .exit)) ≡ take need (take n (now (places .entry)) ++ flat (pagesIn small) (take width (now (ring .entry)))))
+        × (length (now (places .exit)) ≡ 160) ⌝ }
+{
+    let mut i = n;
+    while i < need {
+        places[i] = page_of(ring, i - n);
+        i += 1;
+    }
+}
+
+// The places, with the arrays as slices.
+fn lay_in(
+    image: &[u8],
+    blocks: usize,
+    head: usize,
+    ring: &[u32],
+    width: usize,
+    need: usize,
+    places: &mut [u32],
+)
+    requires { ⌜ (length (now image) ≡ blocks * 16896) × (blocks ≤ 32) × (head < blocks) × (width ≤ 32) × (need ≤ 160)
+        × (need ≤ length (freePages small (pagesOf small (now image)) head) + width * 32) × Spare blocks head (take width (now ring))
+        × (length (now ring) ≡ 32) × (length (now places) ≡ 160) ⌝ }
+    ensures { λ _. ⌜ Lays blocks head width need (pagesOf small (now (image .entry))) (now (ring .entry)) (now (places .exit)) ⌝ }
+{
+    let n = put_free(image, head, places);
+    put_rest(ring, blocks, head, width, n, need, places);
+}
+
+// The first `need` places: the free pages of the head block, then all pages of the first `width` unused blocks.
+pub fn lay_places(
+    image: &[u8],
+    blocks: usize,
+    head: usize,
+    ring: &[u32; 32],
+    width: usize,
+    need: usize,
+    places: &mut [u32; 160],
+)
+    requires { ⌜ (length (now image) ≡ blocks * 16896) × (blocks ≤ 32) × (head < blocks) × (width ≤ 32) × (need ≤ 160)
+        × (need ≤ length (freePages small (pagesOf small (now image)) head) + width * 32) × Spare blocks head (take width (now ring)) ⌝ }
+    ensures { λ _. ⌜ Lays blocks head width need (pagesOf small (now (image .entry))) (now (ring .entry)) (now (places .exit)) ⌝ }
+{
+    lay_in(image, blocks, head, ring, width, need, places);
+}
+
+// `a` less `b`, 0 where `b` is greater.
+fn less(a: usize, b: usize) -> usize
+    ensures { λ r. ⌜ r ≡ a - b ⌝ }
+{
+    if a < b { 0 } else { a - b }
+}
+
+// Is the block to be erased: `left` places are still to be reached, and not all its pages are free?
+fn is_erased(image: &[u8], at: usize, left: usize) -> bool
+    requires { ⌜ (at * 16896 + 16896 ≤ length (now image)) × (length (now image) % 528 ≡ 0) ⌝ }
+    ensures { λ r. ⌜ r ≡ (ltb 0 left && not (all (freeAt (pagesOf small (now (image .entry)))) (pagesIn small at))) ⌝ }
+{
+    if left == 0 {
+        return false;
+    }
+    ground::free_of(image, at) != 32
+}
+
+// Those of the first `width` blocks of the ring that are to be erased where `reach` places are to be reached on them.
+fn put_erased(
+    image: &[u8],
+    blocks: usize,
+    head: usize,
+    ring: &[u32],
+    width: usize,
+    reach: usize,
+    erased: &mut [u32],
+) -> usize
+    requires { ⌜ (length (now image) ≡ blocks * 16896) × (width ≤ 32) × (length (now ring) ≡ 32) × (length (now erased) ≡ 32)
+        × Spare blocks head (take width (now ring)) ⌝ }
+    ensures { λ r. ⌜ (take r (now (erased .exit)) ≡ erasesFrom small (pagesOf small (now (image .entry))) reach (take width (now (ring .entry)))) × (r ≤ width) ⌝ }
+{
+    let mut left = reach;
+    let mut n = 0;
+    let mut j = 0;
+    while j < width {
+        let b = ring[j];
+        n = ground::push_if(is_erased(image, b as usize, left), b, erased, n);
+        left = less(left, 32);
+        j += 1;
+    }
+    n
+}
+
+// The erases, with the arrays as slices.
+fn lay_erases_in(
+    image: &[u8],
+    blocks: usize,
+    head: usize,
+    ring: &[u32],
+    width: usize,
+    free: usize,
+    need: usize,
+    erased: &mut [u32],
+) -> usize
+    requires { ⌜ (length (now image) ≡ blocks * 16896) × (width ≤ 32)
+        × (free ≡ length (freePages small (pagesOf small (now image)) head)) × Spare blocks head (take width (now ring))
+        × (length (now ring) ≡ 32) × (length (now erased) ≡ 32) ⌝ }
+    ensures { λ r. ⌜ LaysErases blocks head width need (pagesOf small (now (image .entry))) (now (ring .entry)) (now (erased .exit)) r ⌝ }
+{
+    let reach = less(need, free);
+    put_erased(image, blocks, head, ring, width, reach, erased)
+}
+
+// The blocks to erase before the first `need` places are written: those of the first `width` unused blocks that they reach and that are not wholly free.
+pub fn lay_erases(
+    image: &[u8],
+    blocks: usize,
+    head: usize,
+    ring: &[u32; 32],
+    width: usize,
+    free: usize,
+    need: usize,
+    erased: &mut [u32; 32],
+) -> usize
+    requires { ⌜ (length (now image) ≡ blocks * 16896) × (width ≤ 32)
+        × (free ≡ length (freePages small (pagesOf small (now image)) head)) × Spare blocks head (take width (now ring)) ⌝ }
+    ensures { λ r. ⌜ LaysErases blocks head width need (pagesOf small (now (image .entry))) (now (ring .entry)) (now (erased .exit)) r ⌝ }
+{
+    lay_erases_in(image, blocks, head, ring, width, free, need, erased)
+}

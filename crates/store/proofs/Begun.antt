@@ -1,0 +1,236 @@
+-- A state with nothing pending whose table holds what the image means: after a finished format, mount or commit. Assumes nothing.
+use mathlib.Core.Path.{_≡_, sym, ap, ap₂, subst, _∙_}
+use mathlib.Core.Bool.{true}
+use mathlib.Core.List.{List, [], reverse, reverse-reverse}
+use Prim.Native.Nat.{ℕ, _+_, _*_, _≤_, _<_}
+use native.Mathlib.Omega.{arith}
+use lib.ListN.{length, getD}
+use Rattle.lists.specs.Lists.{all, none, tab}
+use Rattle.lists.proofs.Flats.{tab-same}
+use Rattle.chip.specs.Geometry.{small}
+use Rattle.chip.specs.Chip.{pagesOf}
+use Rattle.pages.specs.Units.{decodes}
+use Rattle.pages.specs.Steps.{liveFrom, ordered, stand, steps}
+use Rattle.views.specs.Table as Views
+use Rattle.views.specs.Nodes.{View}
+use Rattle.views.specs.Table.{Node, fresh, events, isWhole}
+use Rattle.views.specs.Stored.{nodeView, bufferView, Stores}
+use Rattle.views.proofs.Groups.{well-is}
+use Rattle.views.proofs.Meanings.{Kept, inOrder, nodeIn, opened, kept-node, kept-well}
+use Rattle.views.proofs.ViewLaws.{view-stored}
+use Rattle.tree.specs.Tree.{Table, there, at, next}
+use Rattle.tree.specs.Shown.{shown}
+use Rattle.tree.specs.Step6.{step6}
+use Rattle.log.specs.Plan.{nodeAt}
+use Rattle.log.proofs.PlanFair.{fair-kept}
+use Rattle.log.proofs.PlanNodes.{Fair, nothing}
+use Rattle.promise.specs.Image.{viewsOf, bySix, imageMeaning}
+use Rattle.promise.proofs.Images.{image-tree}
+use Rattle.promise.specs.Calls as P
+use Rattle.store.specs.declared.state.State.{State}
+use Rattle.store.specs.Admit.{ChipOf}
+use Rattle.store.specs.Fresh.{NextOf}
+use Rattle.store.specs.State.{nodeFrom, nodesOf, goods, unitsOf, presentOf, Good}
+use Rattle.store.specs.Contracts.{index}
+use Rattle.store.proofs.BegunViews.{map-tab, views-at, views-all, views-size, view-at, image-bytes, fair-entries, fair-level, some-there, none-there, next-is}
+
+-- ---- the arrays hold the lists of the nodes that the image means
+module _ (s : State) (i : List ℕ) (nodes : List Node) (k : Kept small (8 * s .blocks) (pagesOf small i) nodes (s .commit))
+    (lists : (n : ℕ) → n < 8 * s .blocks → Stores (s .lens) (s .slots) n (nodeAt nodes n .pages)) where
+  -- node n of the image
+  abbrev imageNode : ℕ → Node
+  imageNode n = nodeIn small (8 * s .blocks) (pagesOf small i) n
+
+  -- its list is the one stored, and has at most 4 pages
+  node-stores : (n : ℕ) → n < 8 * s .blocks → Stores (s .lens) (s .slots) n (imageNode n .pages)
+  node-stores n l =
+      subst (λ (x : Node). Stores (s .lens) (s .slots) n (x .pages))
+      (kept-node small (8 * s .blocks) (pagesOf small i) nodes (s .commit) k n fresh l) (lists n l)
+
+  node-rules : (n : ℕ) → n < 8 * s .blocks → (isWhole (imageNode n .now) ≡ true) × (length (imageNode n .pages) ≤ 4)
+  node-rules n l = well-is (imageNode n) (kept-well small (8 * s .blocks) (pagesOf small i) nodes (s .commit) k n l)
+
+  -- it is the node of the table
+  node-read : (n : ℕ) → n < 8 * s .blocks → nodeFrom small s i n ≡ imageNode n
+  node-read n l =
+      ap₂ (λ (w : View) (ps : List ℕ). record { now = w; pages = ps })
+      (view-stored small (8 * s .blocks) (pagesOf small i) nodes (s .commit) k n (s .lens) (s .slots) l (node-stores n l))
+      (ap reverse (node-stores n l .pages (node-rules n l .1)) ∙ reverse-reverse (imageNode n .pages))
+
+  tables : nodes ≡ tab 0 (8 * s .blocks) imageNode
+  tables = opened small (8 * s .blocks) (pagesOf small i) nodes (s .commit) k .tables
+
+  -- the nodes of the table are those that the image means
+  held-nodes : nodesOf small s i ≡ nodes
+  unfolding nodesOf
+  held-nodes = tab-same (nodeFrom small s i) imageNode 0 (8 * s .blocks) (λ n l. node-read n (omega arith)) ∙ sym tables
+
+  -- a list is empty exactly where there is no node
+  lens-some : (n : ℕ) → n < 8 * s .blocks → 0 < getD (s .lens) n 0 → there (imageNode n .now) ≡ 1
+  unfolding nodeIn
+  lens-some n l h = some-there n (events (8 * s .blocks) (inOrder small (pagesOf small i))) (node-rules n l .0) (omega (arith, node-stores n l .size))
+
+  lens-none : (n : ℕ) → n < 8 * s .blocks → getD (s .lens) n 0 ≡ 0 → there (imageNode n .now) ≡ 0
+  unfolding nodeIn
+  lens-none n l h =
+      none-there n (events (8 * s .blocks) (inOrder small (pagesOf small i))) (node-rules n l .0)
+      (omega (arith, node-stores n l .size, node-rules n l .1))
+
+  image-view : (n : ℕ) → n < 8 * s .blocks → at (viewsOf (tab 0 (8 * s .blocks) imageNode)) n ≡ imageNode n .now
+  image-view n l = view-at imageNode 0 (8 * s .blocks) n l ∙ ap (λ (j : ℕ). imageNode j .now) (let e : 0 + n ≡ n = omega arith in e)
+
+  -- the number after the last list that is not empty is the next number of the nodes
+  pub next-of : NextOf (8 * s .blocks) (s .lens) (s .next) → s .next ≡ next (viewsOf nodes)
+  next-of o =
+      let t : Table = viewsOf (tab 0 (8 * s .blocks) imageNode) in
+      let z : length t ≡ 8 * s .blocks = views-size imageNode 0 (8 * s .blocks) in
+      next-is t (s .next) (omega (arith, o .most))
+      (λ m e. let l : m < 8 * s .blocks = omega (arith, o .most) in ap there (image-view m l) ∙ lens-some m l (o .last m e))
+      (λ n h q. let l : n < 8 * s .blocks = omega arith in ap there (image-view n l) ∙ lens-none n l (o .rest n h l))
+      ∙ ap (λ (ns : List Node). next (viewsOf ns)) (sym tables)
+
+-- ---- nothing is pending, the table holds the lists of the nodes that the image means, and those are a tree
+pub record Settled (s : State) (i : List ℕ) (nodes : List Node) : Type 0 where
+  pub chip : ChipOf (s .blocks) (length i)
+  pub bytes : (j : ℕ) → getD i j 0 < 256
+  pub means : Views.meaning small (8 * s .blocks) (pagesOf small i) ≡ Views.means nodes (s .commit)
+  pub clean : steps small (pagesOf small i) ≡ stand [] (ordered (liveFrom small 0 (pagesOf small i)))
+  pub tree : step6 (viewsOf nodes) ≡ true
+  pub lists : (n : ℕ) → n < 8 * s .blocks → Stores (s .lens) (s .slots) n (nodeAt nodes n .pages)
+  pub next : s .next ≡ next (viewsOf nodes)
+  pub numbers : s .next ≤ 8 * s .blocks
+  pub pending : s .pending ≡ 0
+  pub count : s .count ≡ 0
+
+module _ (s : State) (i : List ℕ) (nodes : List Node) (b : Settled s i nodes) where
+  -- the image keeps its meaning
+  pub settled-kept : Kept small (8 * s .blocks) (pagesOf small i) nodes (s .commit)
+  settled-kept = record { is = b .means; clean = b .clean }
+
+  -- the nodes of the table are those that the image means
+  pub settled-nodes : nodesOf small s i ≡ nodes
+  settled-nodes = held-nodes s i nodes settled-kept (b .lists)
+
+  -- an empty buffer changes no view
+  none-buffered : (count : ℕ) → count ≡ 0 → (n : ℕ)
+      → nodeView small (8 * s .blocks) (pagesOf small i) (s .lens) (s .slots) count (s .buffer) n ≡ nodeFrom small s i n .now
+  unfolding bufferView
+  none-buffered count e n = rw e
+
+  -- K and P are their views
+  pub settled-present : presentOf small s i ≡ viewsOf nodes
+  unfolding presentOf shown nodesOf
+  settled-present =
+      tab-same (nodeView small (8 * s .blocks) (pagesOf small i) (s .lens) (s .slots) (s .count) (s .buffer)) (λ n. nodeFrom small s i n .now) 0
+      (8 * s .blocks) (λ n l. none-buffered (s .count) (b .count) n)
+      ∙ sym (map-tab (λ (x : Node). x .now) (nodeFrom small s i) 0 (8 * s .blocks)) ∙ ap viewsOf settled-nodes
+
+  pub settled-meaning : imageMeaning small i ≡ P.means (viewsOf nodes) (s .commit)
+  unfolding imageMeaning
+  settled-meaning =
+      ap (λ (B : ℕ). bySix (Views.meaning small (8 * B) (pagesOf small i))) (sym (b .chip .blocks)) ∙ ap bySix (b .means) ∙ rw (b .tree)
+
+  pub settled-state : P.stateOf (index small) s i
+      ≡ record { kept = viewsOf nodes; present = viewsOf nodes; pending = 0; number = s .commit; on = s .on; blocks = s .blocks }
+  unfolding P.stateOf
+  settled-state = rw (settled-meaning, settled-present, b .pending)
+
+  -- ---- P as the views of the image's nodes
+  abbrev settledNode : ℕ → Node
+  settledNode n = nodeIn small (8 * s .blocks) (pagesOf small i) n
+
+  present-is : presentOf small s i ≡ viewsOf (tab 0 (8 * s .blocks) settledNode)
+  present-is = settled-present ∙ ap viewsOf (tables s i nodes settled-kept (b .lists))
+
+  -- every view of the image is fair
+  node-fair : (n : ℕ) → n < 8 * s .blocks → Fair (settledNode n .now)
+  node-fair n l = fair-kept small (8 * s .blocks) (pagesOf small i) nodes (s .commit) settled-kept (image-bytes small i (b .bytes)) n l
+
+  present-fair : (n : ℕ) → Fair (at (presentOf small s i) n)
+  present-fair n = rw present-is (views-at Fair nothing settledNode 0 (8 * s .blocks) (λ j l. node-fair j (omega arith)) n)
+
+  present-whole : all isWhole (presentOf small s i) ≡ true
+  present-whole =
+      rw present-is
+      (views-all isWhole settledNode 0 (8 * s .blocks) (λ j l. node-rules s i nodes settled-kept (b .lists) j (omega arith) .0))
+
+  -- no unit
+  units-none : unitsOf s ≡ []
+  unfolding unitsOf
+  units-none = go (s .count) (b .count)
+    where
+      go : (count : ℕ) → count ≡ 0 → goods (decodes (8 * s .blocks) count (s .buffer)) ≡ []
+      go count e = rw e
+
+  short : (n : ℕ) → n < 8 * s .blocks → getD (s .lens) n 0 ≤ 4
+  short n l = omega (arith, node-stores s i nodes settled-kept (b .lists) n l .size, node-rules s i nodes settled-kept (b .lists) n l .1)
+
+  pub settled-good : Good small s i
+  settled-good =
+      let m = settled-meaning in
+      record {
+        blocks = b .chip .blocks;
+        chip = omega (arith, b .chip .least);
+        short = short;
+        means = rw settled-nodes (b .means);
+        clean = b .clean;
+        kept = rw settled-nodes (b .tree);
+        units = rw (units-none, b .count);
+        valid = rw units-none none;
+        few = rw (b .count) (omega arith);
+        some = λ h. absurd (omega (arith, b .pending));
+        pending = rw (b .pending) (omega arith);
+        tree = rw settled-present (image-tree small i (viewsOf nodes) (s .commit) settled-meaning .tree);
+        small = λ n. fair-entries (present-fair n);
+        whole = present-whole;
+        levels = fair-level (present-fair 0);
+        next = b .next ∙ ap next (sym settled-present);
+        numbers = b .numbers;
+      }
+
+-- ---- the same with a next number counted from the lists: what a finished format and a finished mount give
+pub record Begun (s : State) (i : List ℕ) (nodes : List Node) : Type 0 where
+  pub chip : ChipOf (s .blocks) (length i)
+  pub bytes : (j : ℕ) → getD i j 0 < 256
+  pub means : Views.meaning small (8 * s .blocks) (pagesOf small i) ≡ Views.means nodes (s .commit)
+  pub clean : steps small (pagesOf small i) ≡ stand [] (ordered (liveFrom small 0 (pagesOf small i)))
+  pub tree : step6 (viewsOf nodes) ≡ true
+  pub lists : (n : ℕ) → n < 8 * s .blocks → Stores (s .lens) (s .slots) n (nodeAt nodes n .pages)
+  pub next : NextOf (8 * s .blocks) (s .lens) (s .next)
+  pub pending : s .pending ≡ 0
+  pub count : s .count ≡ 0
+
+module _ (s : State) (i : List ℕ) (nodes : List Node) (b : Begun s i nodes) where
+  pub begun-kept : Kept small (8 * s .blocks) (pagesOf small i) nodes (s .commit)
+  begun-kept = record { is = b .means; clean = b .clean }
+
+  pub begun-settled : Settled s i nodes
+  begun-settled =
+      record {
+        chip = b .chip;
+        bytes = b .bytes;
+        means = b .means;
+        clean = b .clean;
+        tree = b .tree;
+        lists = b .lists;
+        next = next-of s i nodes begun-kept (b .lists) (b .next);
+        numbers = b .next .most;
+        pending = b .pending;
+        count = b .count;
+      }
+
+  pub begun-nodes : nodesOf small s i ≡ nodes
+  begun-nodes = settled-nodes s i nodes begun-settled
+
+  pub begun-present : presentOf small s i ≡ viewsOf nodes
+  begun-present = settled-present s i nodes begun-settled
+
+  pub begun-meaning : imageMeaning small i ≡ P.means (viewsOf nodes) (s .commit)
+  begun-meaning = settled-meaning s i nodes begun-settled
+
+  pub begun-state : P.stateOf (index small) s i
+      ≡ record { kept = viewsOf nodes; present = viewsOf nodes; pending = 0; number = s .commit; on = s .on; blocks = s .blocks }
+  begun-state = settled-state s i nodes begun-settled
+
+  pub begun-good : Good small s i
+  begun-good = settled-good s i nodes begun-settled

@@ -1,0 +1,182 @@
+-- What a commit starts from on a good state: the table and the units that its plan is made of. Assumes nothing.
+use mathlib.Core.Path.{_≡_, refl, sym, ap, subst, _∙_}
+use mathlib.Core.List.{List, reverse-reverse}
+use Prim.Native.Nat.{ℕ, zero, suc, _+_, _*_, _≤_, _<_}
+use native.Mathlib.Omega.{arith}
+use lib.Dec.{eqb}
+use lib.ListN.{length, drop, getD, length-map, length-reverse}
+use lib.Seq.{length-take-le}
+use borrow.Author.Tests.{eq-eqb, ne-eqb}
+use Rattle.lists.specs.Lists.{all, part, tab}
+use Rattle.lists.proofs.Flats.{tab-same, getD-tab, tab-all}
+use Rattle.lists.proofs.Parts.{length-part}
+use Rattle.lists.proofs.Tests.{cases}
+use Rattle.chip.specs.Geometry.{small, blocksOf}
+use Rattle.chip.specs.Page.{Page}
+use Rattle.chip.specs.Chip.{pagesOf}
+use Rattle.chip.proofs.ImageLaws.{length-pages}
+use Rattle.chip.proofs.Sizes.{chip-size}
+use Rattle.pages.specs.declared.unit.Unit as U
+use Rattle.pages.specs.declared.unit.Decoded.the-variants as D
+use Rattle.pages.specs.Units.{decodes}
+use Rattle.pages.specs.Steps.{liveFrom}
+use Rattle.views.specs.Nodes.{View}
+use Rattle.views.specs.Groups.{present}
+use Rattle.views.specs.Table as Views
+use Rattle.views.specs.Table.{Node, fresh, isWhole}
+use Rattle.views.specs.Stored.{storedList, nodeView, Stores}
+use Rattle.views.proofs.Meanings.{Kept}
+use Rattle.tree.specs.Shown.{shown}
+use Rattle.tree.proofs.ShownLaws.{buffer-good}
+use Rattle.log.specs.Plan.{nodeAt, spareBlocks}
+use Rattle.log.proofs.MountLaws.{image-sized}
+use Rattle.log.proofs.PlanBlocks.{head-below, has-room, room-has}
+use Rattle.log.proofs.PlanBlocks as Log
+use Rattle.log.proofs.PlanChoice.{Ready}
+use Rattle.log.proofs.PlanKept.{Buffer, ready}
+use Rattle.promise.specs.Image.{viewsOf, bySix, imageMeaning}
+use Rattle.promise.specs.Calls as P
+use Rattle.commit.specs.Execute.{Plannable}
+use Rattle.store.specs.declared.state.State.{State}
+use Rattle.store.specs.Admit.{ChipOf}
+use Rattle.store.specs.State.{limitOf, nodeFrom, nodesOf, unitsOf, presentOf, Good, RoomIn, Room, commitCount}
+use Rattle.store.specs.Contracts.{thePlan, theOps}
+use Rattle.store.proofs.BegunViews.{image-bytes}
+use Rattle.store.proofs.CommitPlan.{length-plan, plan-few}
+
+length-decodes : (limit n : ℕ) (b : List ℕ) → length (decodes limit n b) ≡ n
+length-decodes limit zero b = refl
+length-decodes limit (suc n) b = ap suc (length-decodes limit n (drop 12 b))
+
+-- ---- room, as the definition tests it and as the laws of the plan have it
+module _ (i : List ℕ) (B : ℕ) (nodes : List Node) (G : ℕ) (blocks : B ≡ blocksOf small (length i))
+    (means : Views.meaning small (8 * B) (pagesOf small i) ≡ Views.means nodes G) where
+  room-meaning : Views.meaning small (8 * blocksOf small (length i)) (pagesOf small i) ≡ Views.means nodes G
+  room-meaning = ap (λ (b : ℕ). Views.meaning small (8 * b) (pagesOf small i)) (sym blocks) ∙ means
+
+  pub room-of : Room small i → Log.Room small B (spareBlocks small B) nodes G (liveFrom small 0 (pagesOf small i))
+  unfolding Room
+  room-of r =
+      subst (λ (b : ℕ). Log.Room small b (spareBlocks small b) nodes G (liveFrom small 0 (pagesOf small i))) (sym blocks)
+      (room-has small (blocksOf small (length i)) (spareBlocks small (blocksOf small (length i))) nodes G (liveFrom small 0 (pagesOf small i))
+      (subst (RoomIn small i) room-meaning r))
+
+  pub room-by : Log.Room small B (spareBlocks small B) nodes G (liveFrom small 0 (pagesOf small i)) → Room small i
+  unfolding Room
+  room-by r =
+      subst (RoomIn small i) (sym room-meaning)
+      (has-room small (blocksOf small (length i)) (spareBlocks small (blocksOf small (length i))) nodes G (liveFrom small 0 (pagesOf small i))
+      (subst (λ (b : ℕ). Log.Room small b (spareBlocks small b) nodes G (liveFrom small 0 (pagesOf small i))) blocks r))
+
+-- ---- a good state
+module _ (s : State) (i : List ℕ) (g : Good small s i) where
+  -- the pages, K and the buffer's units
+  abbrev ps : List Page
+  ps = pagesOf small i
+
+  abbrev tb : List Node
+  tb = nodesOf small s i
+
+  abbrev us : List U.Unit
+  us = unitsOf s
+
+  pub good-chip : ChipOf (s .blocks) (length i)
+  good-chip =
+      let z = chip-size small (length i) (s .blocks) (g .blocks) (λ q. omega (arith, g .chip)) in
+      record { blocks = g .blocks; least = z .least; most = z .most; size = sym (z .bytes) }
+
+  pub good-kept : Kept small (limitOf s) ps tb (s .commit)
+  good-kept = record { is = g .means; clean = g .clean }
+
+  pub good-long : length ps ≡ s .blocks * 32
+  good-long = length-pages small i ∙ omega (arith, good-chip .size)
+
+  pub good-meaning : imageMeaning small i ≡ P.means (viewsOf tb) (s .commit)
+  unfolding imageMeaning
+  good-meaning =
+      ap (λ (B : ℕ). bySix (Views.meaning small (8 * B) ps)) (sym (g .blocks)) ∙ ap bySix (g .means) ∙ rw (g .kept)
+
+  pub good-room : Room small i → Log.Room small (s .blocks) (spareBlocks small (s .blocks)) tb (s .commit) (liveFrom small 0 ps)
+  good-room r = room-of i (s .blocks) tb (s .commit) (g .blocks) (g .means) r
+
+  -- ---- the lists
+  pub good-node : (n : ℕ) → n < limitOf s → nodeAt tb n ≡ nodeFrom small s i n
+  unfolding nodesOf
+  good-node n l =
+      getD-tab (nodeFrom small s i) 0 (limitOf s) n fresh l ∙ ap (nodeFrom small s i) (let e : 0 + n ≡ n = omega arith in e)
+
+  -- a list of at most 4 pages is stored as it is
+  pub good-stores : length (s .slots) ≡ 1024 → (n : ℕ) → n < limitOf s → Stores (s .lens) (s .slots) n (nodeAt tb n .pages)
+  good-stores e n l =
+      let xs : List ℕ = storedList (s .lens) (s .slots) n in
+      let p : length (part (4 * n) 4 (s .slots)) ≡ 4 = length-part (s .slots) (4 * n) 4 (omega (arith, good-chip .most)) in
+      let z : length xs ≡ getD (s .lens) n 0 = length-take-le (getD (s .lens) n 0) (part (4 * n) 4 (s .slots)) (omega (arith, g .short n l)) in
+      subst (λ (x : Node). Stores (s .lens) (s .slots) n (x .pages)) (sym (good-node n l))
+      (record {
+        size = omega (arith, length-reverse xs, g .short n l);
+        pages = λ h. sym (reverse-reverse xs);
+      })
+
+  -- ---- the buffer
+  pub good-count : length us ≡ s .count
+  good-count = sym (length-map us D.Good) ∙ ap length (sym (g .units)) ∙ length-decodes (limitOf s) (s .count) (s .buffer)
+
+  pub good-few : s .count ≤ 960
+  good-few = omega (arith, g .few, g .pending)
+
+  -- P: each node of K and then the buffer
+  pub good-present : presentOf small s i ≡ tab 0 (limitOf s) (λ n. present n (nodeAt tb n .now) us)
+  unfolding presentOf shown
+  good-present =
+      tab-same (nodeView small (limitOf s) ps (s .lens) (s .slots) (s .count) (s .buffer)) (λ n. present n (nodeAt tb n .now) us) 0 (limitOf s)
+      (λ n l. buffer-good (limitOf s) n (s .count) (s .buffer) (nodeFrom small s i n .now) us good-few (g .units)
+      ∙ ap (λ (x : Node). present n (x .now) us) (sym (good-node n (omega arith))))
+
+  pub good-buffer : 0 < s .pending → Buffer (limitOf s) tb us
+  good-buffer h =
+      record {
+        pending = omega (arith, good-count, g .some h);
+        valid = g .valid;
+        whole = λ n l.
+            let f : ℕ → View = λ n. present n (nodeAt tb n .now) us in
+            ap (λ (m : ℕ). isWhole (f m)) (let e : n ≡ 0 + n = omega arith in e)
+            ∙ tab-all isWhole f 0 (limitOf s) n (ap (all isWhole) (sym good-present) ∙ g .whole) l;
+      }
+
+  -- ---- what a plan asks
+  pub good-ready : ((j : ℕ) → getD i j 0 < 256) → 0 < s .pending → s .commit < 4294967295 → Ready small (limitOf s) (s .blocks) ps tb (s .commit) us
+  good-ready b h n =
+      ready small (limitOf s) (s .blocks) ps tb (s .commit) us good-kept (omega arith) (image-bytes small i b)
+      (image-sized i (s .blocks) (good-chip .size)) good-long (good-buffer h)
+
+  pub good-plannable : ((j : ℕ) → getD i j 0 < 256) → length (s .slots) ≡ 1024 → 0 < s .pending → s .commit < 4294967295
+      → Plannable (limitOf s) (s .blocks) (s .lens) (s .slots) (s .count) (s .buffer) ps tb (s .commit) us
+  good-plannable b e h n =
+      record {
+        ready = good-ready b h n;
+        limits = refl;
+        lists = good-stores e;
+        units = g .units;
+        few = good-few;
+        some = good-buffer h .pending;
+      }
+
+  -- ---- the number of operations
+  ops-few : length (theOps s i) ≤ 2000
+  ops-few =
+      let f = plan-few small (limitOf s) (s .blocks) ps tb (s .commit) (nodeAt tb) us
+      (head-below small (limitOf s) (s .blocks) ps tb (s .commit) good-kept (omega arith) good-long) in
+      omega (arith, length-plan small (s .commit) (thePlan s i), f .erased, f .written, good-chip .most)
+
+  pub good-ops : commitCount small s i ≤ 2000
+  unfolding commitCount
+  good-ops = cases (eqb (s .pending) 0) (λ t. rw t (omega arith)) (λ t. rw t ops-few)
+
+-- none with nothing pending, else those of the plan
+pub count-none : (s : State) (i : List ℕ) → s .pending ≡ 0 → commitCount small s i ≡ 0
+unfolding commitCount
+count-none s i h = rw (eq-eqb (s .pending) 0 h)
+
+pub count-some : (s : State) (i : List ℕ) → 0 < s .pending → commitCount small s i ≡ length (theOps s i)
+unfolding commitCount
+count-some s i h = rw (ne-eqb (s .pending) 0 (λ e. omega arith))

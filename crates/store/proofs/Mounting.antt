@@ -1,0 +1,326 @@
+-- A mount: refused for its sizes, refused for what the image means, cut, or finished. Assumes nothing.
+use mathlib.Core.Path.{_≡_, refl, sym, ap, subst, _∙_}
+use mathlib.Core.Bool.{Bool, true, false, cond}
+use mathlib.Core.List.{List, [], _∷_, _++_, append-assoc}
+use Prim.Native.Nat.{ℕ, suc, _+_, _*_, _≤_, _<_, min}
+use native.Mathlib.Omega.{arith}
+use lib.Dec.{eqb, ltb}
+use lib.ListN.{length, getD, length-append}
+use borrow.Author.Tests.{ltb-true, ltb-false}
+use Rattle.lists.specs.Lists.{All, none, more, At, filter}
+use Rattle.lists.proofs.Tests.{cases}
+use Rattle.lists.proofs.Alls.{All-filter}
+use Rattle.chip.specs.declared.power.Power as W
+use Rattle.chip.specs.declared.power.Power.the-variants.{Left}
+use Rattle.chip.specs.Geometry.{Geometry, small, blocksOf}
+use Rattle.chip.specs.Power.{done, isGone}
+use Rattle.chip.specs.Page.{Page, isLive}
+use Rattle.chip.specs.Chip.{Machine, machine, run, Ran, pagesOf}
+use Rattle.chip.proofs.Runs as R
+use Rattle.chip.proofs.Runs.{with-power}
+use Rattle.pages.specs.Steps.{Live, live, liveFrom, ofCommit, ordered, stand, steps}
+use Rattle.views.specs.Table as Views
+use Rattle.views.specs.Table.{Node}
+use Rattle.views.proofs.ViewLaws.{Apart, apart-filter, apart-live}
+use Rattle.tree.specs.Tree.{Table}
+use Rattle.log.specs.Mount.{mountOps, mounted, retireOps}
+use Rattle.log.specs.Plan.{hasRoom, spareBlocks}
+use Rattle.log.proofs.MountLaws.{mount-keeps, mount-clean, mount-gone, mount-done, image-sized}
+use Rattle.log.proofs.PlanBlocks.{has-room, room-has}
+use Rattle.log.proofs.PlanRoom.{LiveAt, obsoletes, room-marks}
+use Rattle.promise.specs.Plain.{Plain, mounts, firstRefusal, refuses}
+use Rattle.promise.specs.Calls as P
+use Rattle.promise.specs.Calls.{invalid, mountedAt}
+use Rattle.promise.specs.Image.{viewsOf, bySix, imageMeaning}
+use Rattle.store.specs.declared.answer.Answer.{Answer}
+use Rattle.store.specs.declared.answer.Answer.the-variants.{Size, Power}
+use Rattle.store.specs.declared.state.State.{State}
+use Rattle.store.specs.declared.state.Wrote.{Wrote}
+use Rattle.store.specs.Answers.{answerOf}
+use Rattle.store.specs.Admit.{ChipOf, Sized}
+use Rattle.store.specs.State.{RoomIn, Room}
+use Rattle.store.specs.Fresh.{NextOf, mountedState}
+use Rattle.store.specs.Check.{marksOf, Read}
+use Rattle.store.specs.Mount.{refusedWith, acceptedWith, Marked}
+use Rattle.store.specs.Contracts.{index, Mounts}
+use Rattle.store.proofs.SizeLaws.{admitted, not-admitted}
+use Rattle.store.proofs.MarkCount.{marks-few}
+use Rattle.store.proofs.Begun.{Begun, begun-good, begun-state}
+
+-- ---- every live page is live where it stands
+at-seam : (pre : List Page) (x : Page) (xs : List Page) → At (length pre) x (pre ++ x ∷ xs)
+at-seam [] x xs = refl
+at-seam (p ∷ pre) x xs = at-seam pre x xs
+
+live-from : (g : Geometry) (pre ps : List Page) (i : ℕ) → i ≡ length pre → All (LiveAt g (pre ++ ps)) (liveFrom g i ps)
+live-from g pre [] i e = none
+live-from g pre (x ∷ xs) i e =
+    let a : At i x (pre ++ x ∷ xs) = rw e (at-seam pre x xs) in
+    let r : All (LiveAt g ((pre ++ (x ∷ [])) ++ xs)) (liveFrom g (suc i) xs)
+    = live-from g (pre ++ (x ∷ [])) xs (suc i) (ap suc e ∙ sym (length-append pre (x ∷ []) ∙ omega arith)) in
+    let q : All (LiveAt g (pre ++ x ∷ xs)) (liveFrom g (suc i) xs) = (rw (append-assoc pre (x ∷ []) xs) at r) in
+    cases (isLive g x) (λ t. rw t (more {x = live g i x} (record { page = x; stands = a; lives = t }) q)) (λ t. rw t q)
+
+-- ---- the marks, by whether power is gone
+module _ (allowance : ℕ) (torn : List ℕ) (v : ℕ) (s m : State) (i i' : List ℕ) (left : W.Power)
+    (ran : Ran small torn (marksOf v (pagesOf small i)) (Left allowance) left i i') (n : ℕ) (told : n ≡ done allowance left) (gone : Bool) (is : gone ≡ isGone left) where
+  pub marks-cut : gone ≡ true → (r : Wrote) → r ≡ refusedWith Power n s → Marked allowance torn v s m i r i'
+  marks-cut t r e =
+      record {
+        left = left;
+        ran = ran;
+        is = e ∙ ap (λ (k : ℕ). refusedWith Power k s) told
+            ∙ ap (λ (c : Bool). cond c (refusedWith Power (done allowance left) s) (acceptedWith (done allowance left) m)) (sym t ∙ is);
+      }
+
+  pub marks-done : gone ≡ false → Marked allowance torn v s m i (acceptedWith n m) i'
+  marks-done t =
+      record {
+        left = left;
+        ran = ran;
+        is = ap (λ (k : ℕ). acceptedWith k m) told
+            ∙ ap (λ (c : Bool). cond c (refusedWith Power (done allowance left) s) (acceptedWith (done allowance left) m)) (sym t ∙ is);
+      }
+
+-- ---- room, with the meaning known
+module _ (i : List ℕ) (nodes : List Node) (G : ℕ)
+    (m : Views.meaning small (8 * blocksOf small (length i)) (pagesOf small i) ≡ Views.means nodes G) where
+  abbrev Spare : Type 0
+  Spare = hasRoom small (blocksOf small (length i)) (spareBlocks small (blocksOf small (length i))) nodes G (liveFrom small 0 (pagesOf small i)) ≡ true
+
+  room-open : Room small i → Spare
+  unfolding Room
+  room-open h = subst (λ (x : Views.Meaning). RoomIn small i x) m h
+
+  room-shut : Spare → Room small i
+  unfolding Room
+  room-shut h = subst (λ (x : Views.Meaning). RoomIn small i x) (sym m) h
+
+-- ---- a mount refused by its sizes
+module _ (allowance : ℕ) (torn : List ℕ) (s : State) (i : List ℕ) (bytes : (j : ℕ) → getD i j 0 < 256) where
+  abbrev first : ℕ
+  first = firstRefusal small (s .on) (s .blocks) (mounts allowance (length i) (length torn))
+
+  pub size-mounts : Sized (length i) (length torn) 0 → Mounts allowance torn s i (record { answer = Size; ops = 0; state = s }) i
+  size-mounts z =
+      let one : first ≡ 1 = not-admitted (length i) (length torn) z in
+      let never : first ≡ 0 → ⊥ = λ e. omega arith in
+      record {
+        says = record {
+          first = record {
+            refused = λ n e. let q : suc n ≡ 1 = omega arith in (ap refuses (sym q), refl, refl);
+            not1 = λ e q. never e;
+            not2 = λ e q. never e;
+            sameSize = refl;
+          };
+          quiet = λ n e d. refl;
+          few = marks-few i bytes;
+          refused = λ e n m. absurd (never e);
+          power = λ e K G m. absurd (never e);
+          stays = λ e K G m. absurd (never e);
+          done = λ e K G m l. absurd (never e);
+          cut = λ e K G m l. absurd (never e);
+        };
+        bytes = λ e K G m. absurd (never e);
+        off = λ e n q. absurd (never e);
+      }
+
+  -- ---- an image and a torn slice of the right sizes
+  module _ (b : ℕ) (chip : ChipOf b (length i)) (long : length torn ≡ 528) where
+    passes : first ≡ 0
+    passes = admitted b (length i) (length torn) chip long
+
+    -- refused for what the image means
+    pub invalid-mounts : (a : Answer) (n : ℕ) → answerOf a ≡ refuses n → 2 < n → imageMeaning small i ≡ invalid n → Mounts allowance torn s i (refusedWith a 0 s) i
+    invalid-mounts a n is low m =
+        let zero : first ≡ 0 = passes in
+        let no : (K : Table) (G : ℕ) → imageMeaning small i ≡ P.means K G → ⊥ = λ K G e. let u : _≡_ {A = ℕ} 0 1 = cc in omega arith in
+        record {
+          says = record {
+            first = record {
+              refused = λ k e. absurd (omega arith);
+              not1 = λ e q. let u : n ≡ 1 = cc in omega arith;
+              not2 = λ e q. let u : n ≡ 2 = cc in omega arith;
+              sameSize = refl;
+            };
+            quiet = λ k e d. refl;
+            few = marks-few i bytes;
+            refused = λ e k q. (cc, refl, refl, refl);
+            power = λ e K G q. absurd (no K G q);
+            stays = λ e K G q. absurd (no K G q);
+            done = λ e K G q l. absurd (no K G q);
+            cut = λ e K G q l. absurd (no K G q);
+          };
+          bytes = λ e K G q. absurd (no K G q);
+          off = λ e k q. refl;
+        }
+
+    -- ---- an image that means nodes and G
+    module _ (lens slots : List ℕ) (G v : ℕ) (rd : Read i lens slots G v) (i' : List ℕ) (left : W.Power)
+        (ran : Ran small torn (marksOf v (pagesOf small i)) (Left allowance) left i i') where
+      abbrev ps : List Page
+      ps = pagesOf small i
+
+      abbrev limit : ℕ
+      limit = 8 * blocksOf small (length i)
+
+      is-mounted : machine small left i' ≡ mounted small torn allowance ps
+      is-mounted = ran .is ∙ ap (run small torn (machine small (Left allowance) i)) (sym (rd .marks))
+
+      pages-are : pagesOf small i' ≡ mounted small torn allowance ps .pages
+      pages-are = ap (λ (m : Machine). m .pages) is-mounted
+
+      gone-is : isGone left ≡ ltb allowance (length (mountOps small ps))
+      gone-is = ap (λ (m : Machine). isGone (m .power)) is-mounted ∙ mount-gone small torn allowance ps
+
+      done-is : done allowance left ≡ min allowance (length (mountOps small ps))
+      done-is = ap (λ (m : Machine). done allowance (m .power)) is-mounted ∙ mount-done small torn allowance ps
+
+      sizes : All (R.Sized small) ps
+      sizes = image-sized i b (chip .size)
+
+      keeps : Views.meaning small limit (pagesOf small i') ≡ Views.meaning small limit ps
+      keeps = ap (Views.meaning small limit) pages-are ∙ mount-keeps small limit torn (omega arith) ps sizes allowance
+
+      same-size : 8 * blocksOf small (length i') ≡ limit
+      same-size = ap (λ (n : ℕ). 8 * blocksOf small n) (ran .size)
+
+      means-is : imageMeaning small i ≡ P.means (viewsOf (rd .nodes)) G
+      unfolding imageMeaning
+      means-is =
+          ap bySix (rd .means) ∙ ap (λ (t : Bool). cond t (P.means (viewsOf (rd .nodes)) G) (invalid 9)) (rd .tree)
+
+      means-same : imageMeaning small i' ≡ imageMeaning small i
+      unfolding imageMeaning
+      means-same = ap (λ (n : ℕ). bySix (Views.meaning small n (pagesOf small i'))) same-size ∙ ap bySix keeps
+
+      -- room stays
+      room-ran : (w : List Live) → marksOf v ps ≡ obsoletes w → All (LiveAt small ps) w → Apart w → Room small i → Room small i'
+      room-ran w e lives apart h =
+          let B : ℕ = blocksOf small (length i) in
+          let q : pagesOf small i' ≡ run small torn (with-power allowance ps) (obsoletes w) .pages
+          = ap (λ (m : Machine). m .pages) (ran .is ∙ ap (run small torn (with-power allowance ps)) e) in
+          let r = room-marks small B (spareBlocks small B) torn ps (rd .nodes) G w lives apart allowance
+          (room-has small B (spareBlocks small B) (rd .nodes) G (liveFrom small 0 ps) (room-open i (rd .nodes) G (rd .means) h)) in
+          let k : hasRoom small B (spareBlocks small B) (rd .nodes) G (liveFrom small 0 (pagesOf small i')) ≡ true
+          = ap (λ (l : List Page). hasRoom small B (spareBlocks small B) (rd .nodes) G (liveFrom small 0 l)) q
+          ∙ has-room small B (spareBlocks small B) (rd .nodes) G (liveFrom small 0 (run small torn (with-power allowance ps) (obsoletes w) .pages)) r in
+          room-shut i' (rd .nodes) G
+          (ap (λ (n : ℕ). Views.meaning small n (pagesOf small i')) same-size ∙ keeps ∙ rd .means)
+          (ap (λ (n : ℕ). hasRoom small (blocksOf small n) (spareBlocks small (blocksOf small n)) (rd .nodes) G (liveFrom small 0 (pagesOf small i'))) (ran .size) ∙ k)
+
+      room-stays : Room small i → Room small i'
+      room-stays h =
+          cases (eqb v 0)
+          (λ t. room-ran [] (ap (λ (c : Bool). cond c [] (retireOps small v ps)) t) none tt h)
+          (λ t. room-ran (filter (ofCommit v) (liveFrom small 0 ps)) (ap (λ (c : Bool). cond c [] (retireOps small v ps)) t)
+          (All-filter (ofCommit v) (live-from small [] ps 0 refl)) (apart-filter (ofCommit v) (liveFrom small 0 ps) (apart-live small 0 ps)) h)
+
+      -- the image after the marks
+      stays : (K : Table) (H : ℕ) → imageMeaning small i ≡ P.means K H → (imageMeaning small i' ≡ P.means K H) × (Room small i → Room small i')
+      stays K H m = (means-same ∙ m, room-stays)
+
+      never-invalid : (n : ℕ) → imageMeaning small i ≡ invalid n → ⊥
+      never-invalid n e = let m = means-is in let u : _≡_ {A = ℕ} 0 1 = cc in omega arith
+
+      -- ---- cut
+      cut-mounts : (n : ℕ) → n ≡ done allowance left → isGone left ≡ true → Mounts allowance torn s i (refusedWith Power n s) i'
+      cut-mounts n e g =
+          let zero : first ≡ 0 = passes in
+          let short : allowance < length (mountOps small ps) = ltb-true allowance (length (mountOps small ps)) (sym gone-is ∙ g) in
+          let told : n ≡ allowance = omega (arith, done-is) in
+          record {
+            says = record {
+              first = record {
+                refused = λ k q. absurd (omega arith);
+                not1 = λ q r. let u : _≡_ {A = ℕ} 10 1 = cc in omega arith;
+                not2 = λ q r. let u : _≡_ {A = ℕ} 10 2 = cc in omega arith;
+                sameSize = ran .size;
+              };
+              quiet = λ k q d. let u : 10 ≡ k = cc in absurd (d (sym u));
+              few = marks-few i bytes;
+              refused = λ q k m. absurd (never-invalid k m);
+              power = λ q K H m. record { enough = λ l. absurd (omega arith); short = λ l. (refl, told) };
+              stays = λ q K H m. stays K H m;
+              done = λ q K H m l. absurd (omega arith);
+              cut = λ q K H m l. refl;
+            };
+            bytes = λ q K H m. pages-are;
+            off = λ q k r. refl;
+          }
+
+      -- ---- finished
+      module _ (bytes' : (j : ℕ) → getD i' j 0 < 256) (next : ℕ) (nx : NextOf (8 * b) lens next) (buffer : List ℕ) (g : isGone left ≡ false) where
+        enough : length (mountOps small ps) ≤ allowance
+        enough = ltb-false allowance (length (mountOps small ps)) (sym gone-is ∙ g)
+
+        abbrev st : State
+        st = mountedState b G next buffer lens slots
+
+        begun : Begun st i' (rd .nodes)
+        begun =
+            let z = ran .size in
+            let k = mount-clean small limit torn (omega arith) ps sizes allowance (rd .nodes) G (rd .means) enough .clean in
+            record {
+              chip = rw z chip;
+              bytes = bytes';
+              means = ap (λ (n : ℕ). Views.meaning small (8 * n) (pagesOf small i')) (chip .blocks) ∙ keeps ∙ rd .means;
+              clean = subst (λ (l : List Page). steps small l ≡ stand [] (ordered (liveFrom small 0 l))) (sym pages-are) k;
+              tree = rd .tree;
+              lists = λ n l. rd .lists n (omega (arith, chip .blocks));
+              next = nx;
+              pending = refl;
+              count = refl;
+            }
+
+        plain-same : (K K' : Table) (H H' a a' : ℕ) → K ≡ K' → H ≡ H' → a ≡ a'
+            → _≡_ {A = Plain} (record { kept = K; present = K; pending = 0; number = H; on = true; blocks = a })
+            (record { kept = K'; present = K'; pending = 0; number = H'; on = true; blocks = a' })
+        plain-same K K' H H' a a' p q r = rw (p, q, r)
+
+        is-done : (K : Table) (H : ℕ) → imageMeaning small i ≡ P.means K H → P.stateOf (index small) st i' ≡ mountedAt small K H (length i)
+        unfolding mountedAt
+        is-done K H m =
+            let e = means-is in
+            let p : viewsOf (rd .nodes) ≡ K = cc in
+            let q : G ≡ H = cc in
+            begun-state st i' (rd .nodes) begun ∙ plain-same (viewsOf (rd .nodes)) K G H b (blocksOf small (length i)) p q (chip .blocks)
+
+        done-mounts : (n : ℕ) → n ≡ done allowance left → Mounts allowance torn s i (acceptedWith n st) i'
+        done-mounts n e =
+            let zero : first ≡ 0 = passes in
+            let fits = enough in
+            let told : n ≡ length (mountOps small ps) = omega (arith, done-is) in
+            record {
+              says = record {
+                first = record {
+                  refused = λ k q. absurd (omega arith);
+                  not1 = λ q r. let u : _≡_ {A = ℕ} 0 1 = cc in omega arith;
+                  not2 = λ q r. let u : _≡_ {A = ℕ} 0 1 = cc in omega arith;
+                  sameSize = ran .size;
+                };
+                quiet = λ k q d. let u : _≡_ {A = ℕ} 0 1 = cc in absurd (omega arith);
+                few = marks-few i bytes;
+                refused = λ q k m. absurd (never-invalid k m);
+                power = λ q K H m. record { enough = λ l. (refl, told); short = λ l. absurd (omega arith) };
+                stays = λ q K H m. stays K H m;
+                done = λ q K H m l. (is-done K H m, begun-good st i' (rd .nodes) begun);
+                cut = λ q K H m l. absurd (omega arith);
+              };
+              bytes = λ q K H m. pages-are;
+              off = λ q k r. let u : _≡_ {A = ℕ} 0 1 = cc in absurd (omega arith);
+            }
+
+    -- an image that means nodes and G, marked: the state is made of what was read
+    pub marked-mounts : (lens slots : List ℕ) (G v : ℕ) → Read i lens slots G v → (i' : List ℕ) → ((j : ℕ) → getD i' j 0 < 256)
+        → (next : ℕ) → NextOf (8 * b) lens next → (buffer : List ℕ) (r : Wrote)
+        → Marked allowance torn v s (mountedState b G next buffer lens slots) i r i' → Mounts allowance torn s i r i'
+    marked-mounts lens slots G v rd i' bytes' next nx buffer r k =
+        let p = k .left in
+        let n = done allowance p in
+        let m = mountedState b G next buffer lens slots in
+        cases (isGone p)
+        (λ t. let e : r ≡ refusedWith Power n s = k .is ∙ ap (λ (c : Bool). cond c (refusedWith Power n s) (acceptedWith n m)) t in
+        rw e (cut-mounts lens slots G v rd i' p (k .ran) n refl t))
+        (λ t. let e : r ≡ acceptedWith n m = k .is ∙ ap (λ (c : Bool). cond c (refusedWith Power n s) (acceptedWith n m)) t in
+        rw e (done-mounts lens slots G v rd i' p (k .ran) bytes' next nx buffer t n refl))

@@ -1,0 +1,9 @@
+pub mod Answers
+pub mod State
+pub mod Fresh
+pub mod Admit
+pub mod Check
+pub mod Contracts
+pub mod Mount
+pub mod Update
+pub mod Starred

@@ -1,0 +1,10 @@
+// The flash index: its state, and the calls on a lent image.
+pub mod admit;
+pub mod answer;
+pub mod check;
+pub mod find;
+pub mod format;
+pub mod mount;
+pub mod report;
+pub mod state;
+pub mod update;
