@@ -40,14 +40,10 @@ use Rattle.log.proofs.Voids.{Found, found}
 use Rattle.log.proofs.MountLaws.{void-pages, void-scan}
 use Rattle.promise.specs.Calls.{invalid}
 use Rattle.promise.specs.Image.{viewsOf, bySix, imageMeaning}
+use Rattle.store.proofs.BegunViews.{map-tab}
 use Rattle.store.specs.declared.check.Judged.the-variants as J
 use Rattle.store.specs.Admit.{ChipOf}
 use Rattle.store.specs.Check.{isRead, isTree, Passed, JudgesKeys, commitAt, meansBy, Numbered, refusedBy, marksOf, Checks}
-
--- ---- steps 4 to 6 from the stored lists
-views-tab : (f : ℕ → Node) (k m : ℕ) → viewsOf (tab k m f) ≡ tab k m (λ (n : ℕ). f n .now)
-views-tab f k zero = refl
-views-tab f k (suc m) = rw (views-tab f (suc k) m)
 
 module _ (image lens slots : List ℕ) (limit : ℕ) (few : limit ≤ 256) (v xs : List Live) (st : steps small (pagesOf small image) ≡ stand v xs)
     (read : isRead limit xs ≡ true) (lists : (n : ℕ) → n < 256 → Stores lens slots n (nodeOf n (events limit xs) .pages)) where
@@ -66,7 +62,7 @@ module _ (image lens slots : List ℕ) (limit : ℕ) (few : limit ≤ 256) (v xs
   unfolding shown bufferView
   views-listed =
       tab-same (nodeView small limit (pagesOf small image) lens slots 0 []) (λ (n : ℕ). nodeOf n (events limit xs) .now) 0 limit (λ n l. view-at n (omega arith))
-      ∙ sym (views-tab (λ (n : ℕ). nodeOf n (events limit xs)) 0 limit)
+      ∙ sym (map-tab (λ (s : Node). s .now) (λ (n : ℕ). nodeOf n (events limit xs)) 0 limit)
 
 module _ (image lens slots : List ℕ) (limit : ℕ) (few : limit ≤ 256) (v xs : List Live) (st : steps small (pagesOf small image) ≡ stand v xs)
     (r : Bool) (t : ReadTable limit xs lens slots r) where

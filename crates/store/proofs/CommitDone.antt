@@ -26,8 +26,8 @@ use Rattle.log.specs.Plan.{newsOf, nodeAt, spareBlocks}
 use Rattle.log.proofs.PlanLaws.{Safe, imageAfter, nodeAfter}
 use Rattle.promise.specs.Image.{viewsOf, bySix, imageMeaning}
 use Rattle.promise.specs.Calls as P
-use Rattle.commit.specs.declared.execute.Ended.{Ended}
-use Rattle.commit.specs.Execute.{Executed}
+use Rattle.commits.specs.declared.execute.Ended.{Ended}
+use Rattle.commits.specs.Execute.{Executed}
 use Rattle.store.specs.declared.state.State.{State}
 use Rattle.store.specs.Fresh.{committedState}
 use Rattle.store.specs.State.{limitOf, nodesOf, unitsOf, presentOf, Good, Room}

@@ -36,17 +36,14 @@ use Rattle.log.proofs.PlanChoice.{Ready}
 use Rattle.log.proofs.PlanKept.{Buffer, ready}
 use Rattle.promise.specs.Image.{viewsOf, bySix, imageMeaning}
 use Rattle.promise.specs.Calls as P
-use Rattle.commit.specs.Execute.{Plannable}
+use Rattle.commits.specs.Execute.{Plannable}
 use Rattle.store.specs.declared.state.State.{State}
 use Rattle.store.specs.Admit.{ChipOf}
 use Rattle.store.specs.State.{limitOf, nodeFrom, nodesOf, unitsOf, presentOf, Good, RoomIn, Room, commitCount}
 use Rattle.store.specs.Contracts.{thePlan, theOps}
 use Rattle.store.proofs.BegunViews.{image-bytes}
+use Rattle.store.proofs.UpdateLaws.{units-many}
 use Rattle.store.proofs.CommitPlan.{length-plan, plan-few}
-
-length-decodes : (limit n : ℕ) (b : List ℕ) → length (decodes limit n b) ≡ n
-length-decodes limit zero b = refl
-length-decodes limit (suc n) b = ap suc (length-decodes limit n (drop 12 b))
 
 -- ---- room, as the definition tests it and as the laws of the plan have it
 module _ (i : List ℕ) (B : ℕ) (nodes : List Node) (G : ℕ) (blocks : B ≡ blocksOf small (length i))
@@ -119,7 +116,7 @@ module _ (s : State) (i : List ℕ) (g : Good small s i) where
 
   -- ---- the buffer
   pub good-count : length us ≡ s .count
-  good-count = sym (length-map us D.Good) ∙ ap length (sym (g .units)) ∙ length-decodes (limitOf s) (s .count) (s .buffer)
+  good-count = sym (units-many (limitOf s) (s .count) (s .buffer) us (g .units))
 
   pub good-few : s .count ≤ 960
   good-few = omega (arith, g .few, g .pending)

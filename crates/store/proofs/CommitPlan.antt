@@ -30,7 +30,7 @@ use Rattle.log.proofs.PlanLaws.{Safe, imageAfter, nodeAfter, plan-nodes}
 use Rattle.log.proofs.PlanNodes.{Fits, delta-fits, snapshot-fits}
 use Rattle.log.proofs.PlanPacks.{groups-lack, length-groups, pack-some}
 use Rattle.log.proofs.Sets.{length-filter}
-use Rattle.commit.specs.Execute.{isEmpty}
+use Rattle.commits.specs.Execute.{isEmpty}
 
 -- ---- how many operations
 length-writes : (xs : List Live) → length (flat writesOf xs) ≡ 3 * length xs

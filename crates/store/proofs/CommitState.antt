@@ -28,8 +28,8 @@ use Rattle.promise.specs.Plain as Plain
 use Rattle.promise.specs.Calls as P
 use Rattle.promise.specs.Calls.{FirstTests}
 use Rattle.promise.specs.Image.{imageMeaning}
-use Rattle.commit.specs.declared.execute.Ended.{Ended}
-use Rattle.commit.specs.Execute.{Executed, Executes, isEmpty}
+use Rattle.commits.specs.declared.execute.Ended.{Ended}
+use Rattle.commits.specs.Execute.{Executed, Executes, isEmpty}
 use Rattle.store.specs.declared.answer.Answer as A
 use Rattle.store.specs.declared.answer.Answer.the-variants.{Accepted, Size, Off, Numbers, Power}
 use Rattle.store.specs.declared.state.State.{State}

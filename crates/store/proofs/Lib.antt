@@ -16,3 +16,6 @@ pub mod CommitGood
 pub mod CommitDone
 pub mod CommitState
 pub mod Starred
+pub mod IndexPromise
+pub mod StepLaws
+pub mod StateLengths

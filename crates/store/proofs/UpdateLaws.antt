@@ -34,6 +34,7 @@ use Rattle.tree.proofs.Validity.{Smalls, insert-valid, delete-valid}
 use Rattle.promise.specs.Plain.{refuses, isRefused, isAbsent, tableAfter, updated}
 use Rattle.promise.specs.Calls.{treeIn, stateOf, Stays}
 use Rattle.promise.specs.Image.{imageMeaning}
+use lib.ListN.{length-map}
 use Rattle.store.specs.declared.answer.Answer.{Answer}
 use Rattle.store.specs.declared.answer.Answer.the-variants.{Accepted, Full, Absent, Nodes}
 use Rattle.store.specs.declared.state.State.{State}
@@ -118,12 +119,8 @@ length-decodes : (limit n : ℕ) (b : List ℕ) → length (decodes limit n b) �
 length-decodes limit zero b = refl
 length-decodes limit (suc n) b = ap suc (length-decodes limit n (drop 12 b))
 
-length-map : (us : List U.Unit) → length (map D.Good us) ≡ length us
-length-map [] = refl
-length-map (u ∷ us) = ap suc (length-map us)
-
 pub units-many : (limit n : ℕ) (b : List ℕ) (us : List U.Unit) → decodes limit n b ≡ map D.Good us → n ≡ length us
-units-many limit n b us e = sym (length-decodes limit n b) ∙ ap length e ∙ length-map us
+units-many limit n b us e = sym (length-decodes limit n b) ∙ ap length e ∙ length-map us D.Good
 
 -- ---- the state after an update
 -- us behind the units of the buffer make the table t

@@ -7,3 +7,4 @@ pub mod Contracts
 pub mod Mount
 pub mod Update
 pub mod Starred
+pub mod Step

@@ -2,9 +2,12 @@
 pub mod admit;
 pub mod answer;
 pub mod check;
+pub mod commit;
 pub mod find;
 pub mod format;
 pub mod mount;
 pub mod report;
+pub mod show;
 pub mod state;
+pub mod step;
 pub mod update;

@@ -1,6 +1,0 @@
-pub mod ClearLaws
-pub mod PlanCode
-pub mod PlanClear
-pub mod WriteLaws
-pub mod NoteLaws
-pub mod TurnLaws

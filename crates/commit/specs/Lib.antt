@@ -1,2 +1,0 @@
-pub mod Write
-pub mod Execute

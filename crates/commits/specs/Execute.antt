@@ -1,0 +1,46 @@
+-- What the execution of a commit ensures: the operations of the plan, and the node table that the commit leaves.
+use mathlib.Core.Path.{_≡_}
+use mathlib.Core.Bool.{Bool, true, false}
+use mathlib.Core.List.{List, [], _∷_, map, foldl}
+use Prim.Native.Nat.{ℕ, _*_, _<_, _≤_}
+use lib.ListN.{length}
+use Rattle.chip.specs.declared.power.Power.{Power}
+use Rattle.chip.specs.Geometry.{small}
+use Rattle.chip.specs.Page.{Page}
+use Rattle.chip.specs.Chip.{pagesOf, Ran}
+use Rattle.pages.specs.declared.unit.Unit as U
+use Rattle.pages.specs.declared.unit.Decoded.the-variants.{Good}
+use Rattle.pages.specs.Units.{decodes}
+use Rattle.views.specs.Table.{Node, events, turn}
+use Rattle.views.specs.Stored.{Stores}
+use Rattle.log.specs.Commit.{Sheet}
+use Rattle.log.specs.Plan.{Plan, planOf, opsOf, newsOf, nodeAt}
+use Rattle.log.proofs.PlanChoice.{Ready}
+use Rattle.commits.specs.declared.execute.Ended.{Ended}
+
+-- nothing is written
+abbrev pub isEmpty : List Sheet → Bool
+isEmpty [] = true
+isEmpty (t ∷ ts) = false
+
+-- the arrays hold the node lists of the table tb, and the buffer the units us: what a plan is made of
+pub record Plannable (limit B : ℕ) (lens slots : List ℕ) (count : ℕ) (buffer : List ℕ) (ps : List Page) (tb : List Node) (G : ℕ) (us : List U.Unit) : Type 0 where
+  pub ready : Ready small limit B ps tb G us
+  pub limits : limit ≡ 8 * B
+  pub lists : (n : ℕ) → n < limit → Stores lens slots n (nodeAt tb n .pages)
+  pub units : decodes limit count buffer ≡ map Good us
+  pub few : count ≤ 960
+  pub some : 0 < length us
+
+-- the plan q done as far as the power goes; and the lists with the pages of the plan noted
+pub record Executed (limit G : ℕ) (tb : List Node) (q : Plan) (torn : List ℕ) (p : Power) (before after lens slots : List ℕ) (r : Ended) : Type 0 where
+  pub ran : Ran small torn (opsOf small G q) p (r .left) before after
+  pub stuck : r .stuck ≡ isEmpty (q .written)
+  pub lists : (n : ℕ) → n < limit → Stores lens slots n (foldl (turn n) (nodeAt tb n) (events limit (newsOf small G q)) .pages)
+
+-- on any arrays the image keeps its length; on arrays that hold a table and units the plan is executed. The arrays l and s become r and t
+pub record Executes (limit B : ℕ) (lens slots : List ℕ) (count : ℕ) (buffer : List ℕ) (G : ℕ) (torn : List ℕ) (p : Power)
+    (before after l s r t : List ℕ) (e : Ended) : Type 0 where
+  pub size : length after ≡ length before
+  pub is : (tb : List Node) (us : List U.Unit) → Plannable limit B lens slots count buffer (pagesOf small before) tb G us → l ≡ lens → s ≡ slots
+      → Executed limit G tb (planOf small limit B (pagesOf small before) tb G us) torn p before after r t e

@@ -1,0 +1,3 @@
+pub mod Write
+pub mod Execute
+pub mod Turn

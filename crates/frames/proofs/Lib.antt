@@ -1,0 +1,5 @@
+pub mod Digits
+pub mod LineLaws
+pub mod FrameLaws
+pub mod TextLaws
+pub mod Examples

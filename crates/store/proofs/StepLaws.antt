@@ -1,0 +1,55 @@
+-- One call of any kind: each call's contract is the step that the promise is about. Assumes nothing.
+use mathlib.Core.Path.{_≡_, refl, sym, ap, subst}
+use mathlib.Core.List.{List}
+use Prim.Native.Nat.{ℕ}
+use Rattle.chip.specs.Geometry.{small}
+use Rattle.promise.specs.Calls as P
+use Rattle.promise.specs.Plain as Plain
+use Rattle.promise.specs.Steps.{Allowed}
+use Rattle.store.specs.declared.answer.Look as L
+use Rattle.store.specs.declared.answer.Look.the-variants.{Found, Absent, Off, Size}
+use Rattle.store.specs.declared.state.State.{State}
+use Rattle.store.specs.declared.state.Wrote.{Wrote}
+use Rattle.store.specs.declared.state.Updated.{Updated}
+use Rattle.store.specs.declared.step.Call.{Call}
+use Rattle.store.specs.declared.step.Call.the-variants.{Format, Insert, Delete, LookUp, Commit, Mount}
+use Rattle.store.specs.declared.step.Stepped.{Stepped}
+use Rattle.store.specs.Answers.{answerOf, lookOf}
+use Rattle.store.specs.Contracts.{index, Formats, Mounts, Commits, Looks, Inserts, Deletes}
+use Rattle.store.specs.Step.{actOf, ofWrote, ofUpdated, answerIn, ofLook}
+
+-- what `step` ensures
+abbrev pub Steps : Call → List ℕ → State → List ℕ → Stepped → List ℕ → Type 0
+Steps call torn s i r i' = Allowed small (index small) (actOf call torn) s i (answerOf (r .answer)) (r .ops) (r .state) i'
+
+-- the answer of a look up is one of the promise's
+pub look-answer : (l : L.Look) → answerOf (answerIn l) ≡ lookOf l
+look-answer (Found v n) = refl
+look-answer (Absent n) = refl
+look-answer Off = refl
+look-answer Size = refl
+
+module _ (call : Call) (torn : List ℕ) (s : State) (i : List ℕ) (r : Stepped) where
+  -- of a call that is this one, with what is given back in this form
+  by : (k : Call) → call ≡ k → (x : Stepped) → r ≡ x → (i' : List ℕ) → Steps k torn s i x i' → Steps call torn s i r i'
+  by k e x q i' h =
+      subst (λ (c : Call). Steps c torn s i r i') (sym e) (subst (λ (y : Stepped). Steps k torn s i y i') (sym q) h)
+
+  pub step-format : (n : ℕ) → call ≡ Format n → (w : Wrote) (i' : List ℕ) → r ≡ ofWrote w → Formats n torn s i w i' → Steps call torn s i r i'
+  step-format n e w i' q h = by (Format n) e (ofWrote w) q i' (h .says)
+
+  pub step-commit : (n : ℕ) → call ≡ Commit n → (w : Wrote) (i' : List ℕ) → r ≡ ofWrote w → Commits n torn s i w i' → Steps call torn s i r i'
+  step-commit n e w i' q h = by (Commit n) e (ofWrote w) q i' (h .says)
+
+  pub step-mount : (n : ℕ) → call ≡ Mount n → (w : Wrote) (i' : List ℕ) → r ≡ ofWrote w → Mounts n torn s i w i' → Steps call torn s i r i'
+  step-mount n e w i' q h = by (Mount n) e (ofWrote w) q i' (h .says)
+
+  pub step-insert : (k v : ℕ) → call ≡ Insert k v → (u : Updated) → r ≡ ofUpdated u → Inserts k v s i u → Steps call torn s i r i
+  step-insert k v e u q h = by (Insert k v) e (ofUpdated u) q i (h .says)
+
+  pub step-delete : (k : ℕ) → call ≡ Delete k → (u : Updated) → r ≡ ofUpdated u → Deletes k s i u → Steps call torn s i r i
+  step-delete k e u q h = by (Delete k) e (ofUpdated u) q i (h .says)
+
+  pub step-look : (k : ℕ) → call ≡ LookUp k → (l : L.Look) → r ≡ ofLook l s → Looks k s i l → Steps call torn s i r i
+  step-look k e l q h =
+      by (LookUp k) e (ofLook l s) q i (subst (λ (a : Plain.Answer). P.LookUp small (index small) k s i a s i) (sym (look-answer l)) (h .says))

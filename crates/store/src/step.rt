@@ -1,0 +1,88 @@
+// One call of any kind: what a list of calls is made of.
+ghost use mathlib.Core.Path.{_≡_};
+ghost use Rattle.chip.specs.Geometry.{small};
+ghost use Rattle.promise.specs.Steps.{Allowed};
+ghost use Rattle.store.specs.Answers.{answerOf};
+ghost use Rattle.store.specs.Contracts.{index};
+ghost use Rattle.store.specs.Step.{actOf, ofWrote, ofUpdated, ofLook};
+use crate::answer::Answer;
+use crate::answer::Look;
+use crate::commit;
+use crate::find;
+use crate::format;
+use crate::mount;
+use crate::state::State;
+use crate::state::Updated;
+use crate::state::Wrote;
+use crate::update;
+
+// A call with its numbers: an allowance; a key and a value; a key.
+pub enum Call {
+    Format(u32),
+    Insert(u32, u32),
+    Delete(u32),
+    LookUp(u32),
+    Commit(u32),
+    Mount(u32),
+}
+
+// What a call gives back: the answer, the operations told, the state.
+pub struct Stepped {
+    pub answer: Answer,
+    pub ops: u32,
+    pub state: State,
+}
+
+// What format, commit and mount give back.
+fn wrote(w: Wrote) -> Stepped
+    ensures { λ r. ⌜ r ≡ ofWrote w ⌝ }
+{
+    let answer = w.answer;
+    let ops = w.ops;
+    let state = w.state;
+    Stepped { answer, ops, state }
+}
+
+// What insert and delete give back.
+fn updated(u: Updated) -> Stepped
+    ensures { λ r. ⌜ r ≡ ofUpdated u ⌝ }
+{
+    let answer = u.answer;
+    let state = u.state;
+    Stepped {
+        answer,
+        ops: 0,
+        state,
+    }
+}
+
+// What a look up gives back: the state is as it was.
+fn looked(look: Look, state: State) -> Stepped
+    ensures { λ r. ⌜ r ≡ ofLook look state ⌝ }
+{
+    let answer = match look {
+        Look::Found(value, _) => Answer::Found(value),
+        Look::Absent(_) => Answer::Absent,
+        Look::Off => Answer::Off,
+        Look::Size => Answer::Size,
+    };
+    Stepped {
+        answer,
+        ops: 0,
+        state,
+    }
+}
+
+// A call on a lent image, by its own contract.
+pub fn step(state: State, image: &mut [u8], torn: &[u8], call: Call) -> Stepped
+    ensures { λ r. ⌜ Allowed small (index small) (actOf call (now (torn .entry))) state (now (image .entry)) (answerOf (r .answer)) (r .ops) (r .state) (now (image .exit)) ⌝ }
+{
+    match call {
+        Call::Format(allowance) => wrote(format::format(state, image, torn, allowance)),
+        Call::Insert(key, value) => updated(update::insert(state, image, key, value)),
+        Call::Delete(key) => updated(update::delete(state, image, key)),
+        Call::LookUp(key) => looked(find::look_up(state, image, key), state),
+        Call::Commit(allowance) => wrote(commit::commit(state, image, torn, allowance)),
+        Call::Mount(allowance) => wrote(mount::mount(state, image, torn, allowance)),
+    }
+}
