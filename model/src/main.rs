@@ -206,7 +206,7 @@ fn script(seed: u64, lines: usize) -> (String, String) {
                 100..=139 => format!("02{key:08X}"),
                 140..=189 => format!("03{key:08X}"),
                 190..=192 => format!("05{:08X}", r.below(256)),
-                193 => String::new(),
+                193 if n + 1 < lines => String::new(),
                 194 => "06".into(),
                 195 => format!("03{key:07X}"),
                 196 => "03abcdef01".into(),
