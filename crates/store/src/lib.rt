@@ -1,10 +1,11 @@
 // The flash index: its state, and the calls on a lent image.
-pub mod admit;
+mod admit;
 pub mod answer;
-pub mod check;
+mod check;
 pub mod commit;
 pub mod find;
 pub mod format;
+mod lend;
 pub mod mount;
 pub mod report;
 pub mod show;

@@ -9,7 +9,7 @@ ghost use Rattle.store.specs.Update.{InsertsIn, DeletesIn};
 use crate::admit;
 use crate::admit::Admission;
 use crate::answer::Answer;
-use crate::find::find_in;
+use crate::lend::find_in;
 use crate::state::State;
 use crate::state::Updated;
 use tree::delete;
