@@ -1,4 +1,4 @@
-//! Document 01 as a model: what an image means, the tree steps, the plain store. Written from the document's text alone.
+//! Document 01 as a model: what an image means, the tree steps, the plain store.
 
 pub const DATA: usize = 512;
 pub const PAGE: usize = 528;

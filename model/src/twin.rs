@@ -1,4 +1,5 @@
-//! The twin: the same store with the same commit policy in plain Rust, unproved. It leaves the same image byte for byte.
+//! The twin: the same store with the same commit policy in plain Rust, unproved. It is meant to leave the same image byte for byte;
+//! so far its answers, and not its images, are compared with the program's.
 
 use crate::model::{self, blocks_of, decode, is_live, Update, BLOCK, DATA, PAGE, PAGES, UNITS};
 
