@@ -38,31 +38,22 @@ fn answer_line(state: State, image: &mut [u8], torn: &[u8], line: Line) -> State
     r.state
 }
 
-// One byte of input: a line feed ends a line.
-fn take_byte(bench: Bench, image: &mut [u8], torn: &[u8], byte: u8) -> Bench {
-    let before = bench.state;
-    let begun = bench.line;
-    if byte == 10 {
-        let state = answer_line(before, image, torn, begun);
-        let line = line::no_line();
-        return Bench { state, line };
-    }
-    let line = line::with_byte(begun, byte);
-    Bench {
-        state: before,
-        line,
-    }
-}
-
-// The bytes of one read.
+// The bytes of one read: a line feed ends a line.
 fn take_bytes(bench: Bench, image: &mut [u8], torn: &[u8], bytes: &[u8]) -> Bench {
-    let mut b = bench;
+    let mut state = bench.state;
+    let mut line = bench.line;
     let mut i = 0;
     while i < bytes.len() {
-        b = take_byte(b, image, torn, bytes[i]);
+        let byte = bytes[i];
+        if byte == 10 {
+            state = answer_line(state, image, torn, line);
+            line = line::no_line();
+        } else {
+            line = line::with_byte(line, byte);
+        }
         i += 1;
     }
-    b
+    Bench { state, line }
 }
 
 // What one read of standard input gives: the bench after its bytes, and whether there were any.

@@ -10,7 +10,7 @@ use borrow.Author.Tests.{ltb-true, ltb-false}
 use Rattle.lists.specs.Lists.{All, none, more, At}
 use Rattle.lists.proofs.Tests.{cases}
 use Rattle.lists.proofs.Alls.{All-map, All-zip, All-append, All-left, All-right, All-take}
-use Rattle.lists.proofs.Places.{At-getD}
+use Rattle.lists.proofs.Places.{At-getD, At-is}
 use Rattle.chip.specs.Geometry.{Geometry}
 use Rattle.chip.specs.Page.{Page}
 use Rattle.chip.specs.Chip.{Op, Machine, run, touches}
@@ -24,11 +24,6 @@ use Rattle.plan.specs.Group.{between, groupIn, ownIn, pagesBy}
 use Rattle.commits.specs.Write.{Clear}
 
 -- ---- a page by its index
-pub At-is : {A : Type 0} (n : ℕ) (x : A) (xs : List A) (d : A) → At n x xs → getD xs n d ≡ x
-At-is n x [] d a = absurd a
-At-is zero x (y ∷ ys) d a = sym a
-At-is (suc n) x (y ∷ ys) d a = At-is n x ys d a
-
 -- the same page, or none, in both images
 abbrev pub Alike : List Page → List Page → ℕ → Type 0
 Alike ps qs p = getD ps p [] ≡ getD qs p []

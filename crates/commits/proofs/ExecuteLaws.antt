@@ -8,8 +8,8 @@ use native.Mathlib.Numerals.{add-one}
 use native.Mathlib.Omega.{arith}
 use lib.Dec.{eqb, leb}
 use lib.ListN.{length, take, getD}
-use lib.Seq.{length-take-le, take-all}
-use borrow.Author.Tests.{leb-false, leb-true, ne-eqb}
+use lib.Seq.{length-take-le, take-all, take-take}
+use borrow.Author.Tests.{eq-eqb, leb-false, leb-true, ne-eqb}
 use Rattle.lists.specs.Lists.{All, none}
 use Rattle.lists.proofs.Alls.{All-head, All-tail}
 use Rattle.lists.proofs.Tests.{below-or-not, cases, clash}
@@ -124,7 +124,7 @@ module _ (anew : Bool) (g : Geometry) (limit : ℕ) (lens slots : List ℕ) (cou
 
   carried : take (suc r) places ≡ firstPlaces g (pagesOf g xs) head bs (suc r) → Ran g torn (map erase first) p p' xs ys
       → Advances anew g limit lens slots count bytes bounds places r (suc G) torn 0 r p' p'' ys zs l s u v
-      → Carries anew g limit lens slots count bytes head bs bounds r G torn p xs zs l s u v (record { stuck = eqb r 0; left = p'' })
+      → Carries anew g limit lens slots count bytes head bs bounds r G torn p xs zs l s u v p''
   carried laid er a =
       record {
         size = a .size ∙ er .size;
@@ -132,18 +132,18 @@ module _ (anew : Bool) (g : Geometry) (limit : ℕ) (lens slots : List ℕ) (cou
       }
     where
       done : (q : Plan) → Named anew g limit (pagesOf g xs) lens slots count bytes bounds places r first (length first) G q
-          → Done g limit G q torn p xs zs l s u v (record { stuck = eqb r 0; left = p'' })
+          → Done g limit G q torn p xs zs l s u v p''
       done q n =
           let e : take (length first) first ≡ first = take-all (length first) first (omega arith) in
           let w : Ran g torn (map erase (take (length first) first)) p p' xs ys = subst (λ (cs : List ℕ). Ran g torn (map erase cs) p p' xs ys) (sym e) er in
           let k = going-start anew g limit (pagesOf g xs) lens slots count bytes bounds places r first (length first) q (n .prepared) G torn p p' xs ys l s w in
           let m = a .is G q first (length first) p xs l s refl n k in
           let d = going-done anew g limit (pagesOf g xs) lens slots count bytes bounds places r first (length first) q (n .prepared) G torn r p p'' xs zs l s u v (omega arith) m in
-          record { ran = d .0; stuck = ap (λ (i : ℕ). eqb i 0) (sym (n .prepared .pages)) ∙ sym (empty-length (q .written)); turned = d .1 }
+          record { ran = d .0; turned = d .1 }
 
   pub carries : take (r + 1) places ≡ firstPlaces g (pagesOf g xs) head bs (r + 1) → Ran g torn (map erase (firstErases g (pagesOf g xs) head bs (r + 1))) p p' xs ys
       → Advances anew g limit lens slots count bytes bounds places r (G + 1) torn 0 r p' p'' ys zs l s u v
-      → Carries anew g limit lens slots count bytes head bs bounds r G torn p xs zs l s u v (record { stuck = eqb r 0; left = p'' })
+      → Carries anew g limit lens slots count bytes head bs bounds r G torn p xs zs l s u v p''
   carries laid er a =
       carried
       (subst (λ (n : ℕ). take n places ≡ firstPlaces g (pagesOf g xs) head bs n) (add-one r) laid)
@@ -225,6 +225,11 @@ module _ {limit B : ℕ} {lens slots : List ℕ} {ps : List Page} {G : ℕ} {rin
           list = b ∙ ap₂ (λ (h : ℕ) (cs : List ℕ). firstErases small ps h cs (suc r)) (sv .head) same ∙ first-erases-is small ps (headBlock small ps) bs (suc r);
         }
 
+-- the first places are all of them
+take-first : (ps : List Page) (head : ℕ) (bs : List ℕ) (n : ℕ) → take n (firstPlaces small ps head bs n) ≡ firstPlaces small ps head bs n
+unfolding firstPlaces
+take-first ps head bs n = take-take n n (placesOf small ps head bs) (omega arith)
+
 -- places for r pages and one more, on w blocks of 32 pages and f free pages
 room-fits : (a f w v r : ℕ) → a ≡ f + 32 * v → w ≡ v → suc r ≤ f + 32 * w → suc r ≤ a
 room-fits a f w v r e i h = omega arith
@@ -290,12 +295,11 @@ module _ {limit B : ℕ} {lens slots : List ℕ} {count : ℕ} {bytes : List ℕ
 -- ---- the execution
 -- the lists of the table, with the pages of a plan that is done noted
 done-executed : {limit B : ℕ} {lens slots : List ℕ} {count : ℕ} {bytes : List ℕ} {ps : List Page} {tb : List Node} {G : ℕ} {us : List U.Unit}
-    → Plannable limit B lens slots count bytes ps tb G us → limit ≤ 256 → (q : Plan) (torn : List ℕ) (p : Power) (xs ys l s u v : List ℕ) (r : Ended)
+    → Plannable limit B lens slots count bytes ps tb G us → limit ≤ 256 → (q : Plan) (torn : List ℕ) (p : Power) (xs ys l s u v : List ℕ) (r : Power)
     → l ≡ lens → s ≡ slots → Done small limit G q torn p xs ys l s u v r → Executed limit G tb q torn p xs ys u v r
 done-executed {limit} {B} {lens} {slots} {count} {bytes} {ps} {tb} {G} {us} pl b q torn p xs ys l s u v r el es d =
     record {
       ran = d .ran;
-      stuck = d .stuck;
       lists = stores-after limit (nodeAt tb) (newsOf small G q) l s u v b
           (λ m i. subst (λ (a : List ℕ). Stores a s m (nodeAt tb m .pages)) (sym el) (subst (λ (a : List ℕ). Stores lens a m (nodeAt tb m .pages)) (sym es) (pl .lists m i)))
           (d .turned);
@@ -310,24 +314,38 @@ module _ {limit B : ℕ} {lens slots : List ℕ} {count : ℕ} {bytes : List ℕ
       let e : spare ≡ spareBlocks small B = omega arith in
       subst (λ (n : ℕ). Chooses limit (pagesOf small xs) lens slots count bytes (gr .unused) n (gr .free) bounds k) e ch
 
-  -- nothing written
-  pub executes-none : k .found ≡ false → Executes limit B lens slots count bytes G torn p xs xs l s l s (record { stuck = true; left = p })
-  executes-none f =
-      record {
-        size = refl;
-        is = λ tb us pl el es.
-            done-executed pl (omega arith) (planOf small limit B (pagesOf small xs) tb G us) torn p xs xs l s l s (record { stuck = true; left = p }) el es
-            (subst (λ (q : Plan). Done small limit G q torn p xs xs l s l s (record { stuck = true; left = p })) (sym (none-stuck pl sv torn size many bounds k chosen f))
-            (record { ran = ran-none small torn p xs; stuck = refl; turned = turned-none l s }));
-      }
+  -- stuck: nothing is done
+  quiet : ((tb : List Node) (us : List U.Unit) → Plannable limit B lens slots count bytes (pagesOf small xs) tb G us
+      → isEmpty (planOf small limit B (pagesOf small xs) tb G us .written) ≡ true)
+      → Executes limit B lens slots count bytes G torn p xs xs l s l s (record { stuck = true; left = p })
+  quiet lack =
+      record { size = refl; still = λ t. refl; stuck = λ tb us pl. sym (lack tb us pl); is = λ tb us pl el es f. clash refl f }
 
-  pub executes-plan : k .found ≡ true → (ys u v : List ℕ) (r : Ended)
-      → Carries (k .anew) small limit lens slots count bytes (gr .head) (take (k .width) ring) bounds (k .pages) G torn p xs ys l s u v r
-      → Executes limit B lens slots count bytes G torn p xs ys l s u v r
-  executes-plan f ys u v r c =
+  pub executes-none : k .found ≡ false → Executes limit B lens slots count bytes G torn p xs xs l s l s (record { stuck = true; left = p })
+  executes-none f = quiet (λ tb us pl. ap (λ (q : Plan). isEmpty (q .written)) (none-stuck pl sv torn size many bounds k chosen f))
+
+  -- places: the pages of the plan
+  pages-found : k .found ≡ true → (tb : List Node) (us : List U.Unit) → Plannable limit B lens slots count bytes (pagesOf small xs) tb G us
+      → isEmpty (planOf small limit B (pagesOf small xs) tb G us .written) ≡ eqb (k .pages) 0
+  pages-found f tb us pl =
+      let ps = firstPlaces small (pagesOf small xs) (gr .head) (take (k .width) ring) (suc (k .pages)) in
+      let es = firstErases small (pagesOf small xs) (gr .head) (take (k .width) ring) (suc (k .pages)) in
+      let n = named pl sv torn size many bounds k chosen f ps es (length es) (take-first (pagesOf small xs) (gr .head) (take (k .width) ring) (suc (k .pages)))
+      (take-all (length es) es (omega arith)) in
+      empty-length (planOf small limit B (pagesOf small xs) tb G us .written) ∙ ap (λ (m : ℕ). eqb m 0) (n .prepared .pages)
+
+  pub executes-empty : k .found ≡ true → k .pages ≡ 0 → Executes limit B lens slots count bytes G torn p xs xs l s l s (record { stuck = true; left = p })
+  executes-empty f z = quiet (λ tb us pl. pages-found f tb us pl ∙ eq-eqb (k .pages) 0 z)
+
+  pub executes-plan : k .found ≡ true → (k .pages ≡ 0 → ⊥) → (ys u v : List ℕ) (left : Power)
+      → Carries (k .anew) small limit lens slots count bytes (gr .head) (take (k .width) ring) bounds (k .pages) G torn p xs ys l s u v left
+      → Executes limit B lens slots count bytes G torn p xs ys l s u v (record { stuck = false; left = left })
+  executes-plan f some ys u v left c =
       record {
         size = c .size;
-        is = λ tb us pl el es.
-            done-executed pl (omega arith) (planOf small limit B (pagesOf small xs) tb G us) torn p xs ys l s u v r el es
+        still = λ t. clash t refl;
+        stuck = λ tb us pl. sym (pages-found f tb us pl ∙ ne-eqb (k .pages) 0 some);
+        is = λ tb us pl el es t.
+            done-executed pl (omega arith) (planOf small limit B (pagesOf small xs) tb G us) torn p xs ys l s u v left el es
             (c .is (planOf small limit B (pagesOf small xs) tb G us) (λ places erased e laid list. named pl sv torn size many bounds k chosen f places erased e laid list));
       }

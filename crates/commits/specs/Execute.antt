@@ -33,14 +33,17 @@ pub record Plannable (limit B : ℕ) (lens slots : List ℕ) (count : ℕ) (buff
   pub some : 0 < length us
 
 -- the plan q done as far as the power goes; and the lists with the pages of the plan noted
-pub record Executed (limit G : ℕ) (tb : List Node) (q : Plan) (torn : List ℕ) (p : Power) (before after lens slots : List ℕ) (r : Ended) : Type 0 where
-  pub ran : Ran small torn (opsOf small G q) p (r .left) before after
-  pub stuck : r .stuck ≡ isEmpty (q .written)
+pub record Executed (limit G : ℕ) (tb : List Node) (q : Plan) (torn : List ℕ) (p : Power) (before after lens slots : List ℕ) (left : Power) : Type 0 where
+  pub ran : Ran small torn (opsOf small G q) p left before after
   pub lists : (n : ℕ) → n < limit → Stores lens slots n (foldl (turn n) (nodeAt tb n) (events limit (newsOf small G q)) .pages)
 
--- on any arrays the image keeps its length; on arrays that hold a table and units the plan is executed. The arrays l and s become r and t
+-- on any arrays the image keeps its length, and is as it was where the commit is stuck; on arrays that hold a table and units it is stuck where
+-- the plan has no page, and else the plan is executed. The arrays l and s become r and t
 pub record Executes (limit B : ℕ) (lens slots : List ℕ) (count : ℕ) (buffer : List ℕ) (G : ℕ) (torn : List ℕ) (p : Power)
     (before after l s r t : List ℕ) (e : Ended) : Type 0 where
   pub size : length after ≡ length before
+  pub still : e .stuck ≡ true → after ≡ before
+  pub stuck : (tb : List Node) (us : List U.Unit) → Plannable limit B lens slots count buffer (pagesOf small before) tb G us
+      → e .stuck ≡ isEmpty (planOf small limit B (pagesOf small before) tb G us .written)
   pub is : (tb : List Node) (us : List U.Unit) → Plannable limit B lens slots count buffer (pagesOf small before) tb G us → l ≡ lens → s ≡ slots
-      → Executed limit G tb (planOf small limit B (pagesOf small before) tb G us) torn p before after r t e
+      → e .stuck ≡ false → Executed limit G tb (planOf small limit B (pagesOf small before) tb G us) torn p before after r t (e .left)

@@ -18,8 +18,6 @@ use Rattle.plan.specs.Ground.{firstErases, firstPlaces}
 use Rattle.plan.specs.Group.{groupIn}
 use Rattle.plan.specs.PackCode.{Packs}
 use Rattle.commits.specs.declared.execute.Choice.{Choice}
-use Rattle.commits.specs.declared.execute.Ended.{Ended}
-use Rattle.commits.specs.Execute.{isEmpty}
 use Rattle.commits.specs.Write.{Clear, Going, Prepared}
 
 -- the bounds of r pages are at most the limit, and their places are on an image of this length
@@ -52,20 +50,19 @@ pub record Advances (anew : Bool) (g : Geometry) (limit : ℕ) (lens slots : Lis
       → Going g torn limit (suc G) q j p₀ p' first after l₀ s₀ u v
 
 -- the plan q of commit G + 1 done as far as the power goes, and its pages noted
-pub record Done (g : Geometry) (limit G : ℕ) (q : Plan) (torn : List ℕ) (p : Power) (before after l s u v : List ℕ) (r : Ended) : Type 0 where
-  pub ran : Ran g torn (opsOf g G q) p (r .left) before after
-  pub stuck : r .stuck ≡ isEmpty (q .written)
+pub record Done (g : Geometry) (limit G : ℕ) (q : Plan) (torn : List ℕ) (p : Power) (before after l s u v : List ℕ) (left : Power) : Type 0 where
+  pub ran : Ran g torn (opsOf g G q) p left before after
   pub turned : Turned (events limit (newsOf g G q)) l s u v
 
 -- the image keeps its length; and every plan is done that r pages by bounds, on the first places of the head and of the blocks bs, name
 pub record Carries (anew : Bool) (g : Geometry) (limit : ℕ) (lens slots : List ℕ) (count : ℕ) (bytes : List ℕ) (head : ℕ) (bs bounds : List ℕ) (r G : ℕ)
-    (torn : List ℕ) (p : Power) (before after l s u v : List ℕ) (e : Ended) : Type 0 where
+    (torn : List ℕ) (p : Power) (before after l s u v : List ℕ) (left : Power) : Type 0 where
   pub size : length after ≡ length before
   pub is : (q : Plan)
       → ((places erased : List ℕ) (k : ℕ) → take (suc r) places ≡ firstPlaces g (pagesOf g before) head bs (suc r)
       → take k erased ≡ firstErases g (pagesOf g before) head bs (suc r)
       → Named anew g limit (pagesOf g before) lens slots count bytes bounds places r erased k G q)
-      → Done g limit G q torn p before after l s u v e
+      → Done g limit G q torn p before after l s u v left
 
 -- the pages of a delta on all unused blocks but the spare ones, un - spare of un, where these and the free pages of the head have places; else those of a snapshot on the others
 pub record Chooses (limit : ℕ) (ps : List Page) (lens slots : List ℕ) (count : ℕ) (bytes : List ℕ) (un spare free : ℕ) (bounds : List ℕ) (r : Choice) : Type 0 where

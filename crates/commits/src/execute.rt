@@ -1,5 +1,6 @@
 // A commit: a delta where that leaves enough unused blocks, else a snapshot, else nothing.
 ghost use mathlib.Core.Path.{_≡_};
+ghost use mathlib.Core.Bool.{true};
 ghost use mathlib.Core.List.{map};
 ghost use Prim.Native.Nat.{_+_, _-_, _*_, _%_, _<_, _≤_};
 ghost use lib.ListN.{length, take};
@@ -18,10 +19,20 @@ use plan::ground::Ground;
 use plan::pack;
 use plan::places;
 
-// Whether there was no room for the commit, and the power that it left.
+// Whether the commit was stuck, for want of room or of a page to write, and the power that it left.
 pub struct Ended {
     pub stuck: bool,
     pub left: Power,
+}
+
+// A commit that does nothing: there is no room for its pages, or no page to write.
+fn nothing(power: Power) -> Ended
+    ensures { λ r. ⌜ r ≡ record { stuck = true; left = power } ⌝ }
+{
+    Ended {
+        stuck: true,
+        left: power,
+    }
 }
 
 // What a commit writes: whether there are places for it, every node anew or not, how many pages, and on how many unused blocks.
@@ -116,7 +127,7 @@ fn carry_out(
     power: Power,
     new_lens: &mut [u32; 256],
     new_slots: &mut [u32; 1024],
-) -> Ended
+) -> Power
     requires { ⌜ (length (now image) ≡ blocks * 16896) × (blocks ≤ 32) × (limit ≤ 256) × (g .head < blocks) × (k .width ≤ 32) × (length (now torn) ≡ 528)
         × (commit < 4294967295) × (g .free ≡ length (freePages small (pagesOf small (now image)) (g .head))) × (k .pages + 1 ≤ g .free + 32 * k .width)
         × Spare blocks (g .head) (take (k .width) (now ring))
@@ -134,7 +145,7 @@ fn carry_out(
     let mut places = [0; 160];
     places::lay_places(image, blocks, head, ring, width, need, &mut places);
     let cleared = clear_blocks(image, blocks, head, ring, width, free, need, torn, power);
-    let left = write::write_pages(
+    write::write_pages(
         image,
         lens,
         slots,
@@ -150,11 +161,7 @@ fn carry_out(
         cleared,
         new_lens,
         new_slots,
-    );
-    Ended {
-        stuck: pages == 0,
-        left,
-    }
+    )
 }
 
 // A commit of the units of the buffer, numbered `commit` + 1: the image, and the node table that it leaves.
@@ -195,12 +202,12 @@ pub fn execute(
         &mut bounds,
     );
     if !k.found {
-        return Ended {
-            stuck: true,
-            left: power,
-        };
+        return nothing(power);
     }
-    carry_out(
+    if k.pages == 0 {
+        return nothing(power);
+    }
+    let left = carry_out(
         image,
         lens,
         slots,
@@ -217,5 +224,6 @@ pub fn execute(
         power,
         new_lens,
         new_slots,
-    )
+    );
+    Ended { stuck: false, left }
 }

@@ -41,6 +41,12 @@ module _ {A : Type 0} where
   At-getD zero (x ∷ xs) d h = refl
   At-getD (suc n) (x ∷ xs) d h = At-getD n xs d (omega arith)
 
+  -- and is what is found there
+  pub At-is : (n : ℕ) (x : A) (xs : List A) (d : A) → At n x xs → getD xs n d ≡ x
+  At-is n x [] d h = absurd h
+  At-is zero x (y ∷ ys) d h = sym h
+  At-is (suc n) x (y ∷ ys) d h = At-is n x ys d h
+
   pub At-below : (n : ℕ) (x : A) (xs : List A) → At n x xs → n < length xs
   At-below n x [] h = absurd h
   At-below zero x (y ∷ ys) h = omega arith

@@ -14,7 +14,7 @@ use Rattle.lists.proofs.Tests.{cases}
 use Rattle.lists.proofs.Alls.{All-map, All-filter}
 use Rattle.lists.proofs.Filters.{filter-append}
 use Rattle.lists.proofs.Flats.{map-append}
-use Rattle.lists.proofs.Places.{At-getD}
+use Rattle.lists.proofs.Places.{At-getD, At-is}
 use Rattle.chip.specs.declared.page.Mark.the-variants.{Obsolete}
 use Rattle.chip.specs.declared.power.Power.{Power}
 use Rattle.chip.specs.Geometry.{Geometry}
@@ -79,18 +79,13 @@ untouched-page g torn c n m ps e h =
     let b : All (λ (x : Live). x .place < n) (liveFrom g 0 (take n ps)) = All-map (λ x q. omega (arith, l)) (places-below g 0 (take n ps)) in
     run-other g torn m (retireOps g c (take n ps)) n (getD ps n []) (low-marks g c n n (omega arith) (All-filter (ofCommit c) b)) (rw e (At-getD n ps [] h))
 
-at-is : {A : Type 0} (n : ℕ) (x d : A) (xs : List A) → At n x xs → getD xs n d ≡ x
-at-is n x d [] h = absurd h
-at-is zero x d (y ∷ ys) h = sym h
-at-is (suc n) x d (y ∷ ys) h = at-is n x d ys h
-
 -- a turn of the loop
 pub retire-more : (g : Geometry) (torn : List ℕ) (c n : ℕ) (p q r : Power) (xs ys zs : List ℕ) → n < length (pagesOf g xs)
     → Ran g torn (retireOps g c (take n (pagesOf g xs))) p q xs ys → Ran g torn (retireOne g c n (getD (pagesOf g ys) n [])) q r ys zs
     → Ran g torn (retireOps g c (take (n + 1) (pagesOf g xs))) p r xs zs
 retire-more g torn c n p q r xs ys zs h a b =
     let e : getD (pagesOf g ys) n [] ≡ getD (pagesOf g xs) n [] =
-    at-is n (getD (pagesOf g xs) n []) [] (pagesOf g ys)
+    At-is n (getD (pagesOf g xs) n []) (pagesOf g ys) []
     (let u = untouched-page g torn c n (machine g p xs) (pagesOf g xs) refl h in
     let s : pagesOf g ys ≡ run g torn (machine g p xs) (retireOps g c (take n (pagesOf g xs))) .pages = ap (λ (m : Machine). m .pages) (a .is) in
     rw s u) in

@@ -8,6 +8,7 @@ use lib.Dec.{ltb}
 use lib.ListN.{length, getD}
 use Rattle.lists.specs.Lists.{tab}
 use Rattle.lists.proofs.Flats.{tab-same, getD-tab}
+use Rattle.chip.specs.declared.power.Power.{Power}
 use Rattle.chip.specs.declared.power.Power.the-variants.{Left}
 use Rattle.chip.specs.Geometry.{small, blocksOf}
 use Rattle.chip.specs.Power.{done, isGone}
@@ -26,7 +27,6 @@ use Rattle.log.specs.Plan.{newsOf, nodeAt, spareBlocks}
 use Rattle.log.proofs.PlanLaws.{Safe, imageAfter, nodeAfter}
 use Rattle.promise.specs.Image.{viewsOf, bySix, imageMeaning}
 use Rattle.promise.specs.Calls as P
-use Rattle.commits.specs.declared.execute.Ended.{Ended}
 use Rattle.commits.specs.Execute.{Executed}
 use Rattle.store.specs.declared.state.State.{State}
 use Rattle.store.specs.Fresh.{committedState}
@@ -36,8 +36,8 @@ use Rattle.store.proofs.BegunViews.{map-tab}
 use Rattle.store.proofs.Begun.{Settled}
 use Rattle.store.proofs.CommitGood.{good-chip, good-kept, good-present, good-room, room-by}
 
-module _ (n : ℕ) (torn : List ℕ) (s : State) (i i' lens slots : List ℕ) (e : Ended) (g : Good small s i)
-    (x : Executed (limitOf s) (s .commit) (nodesOf small s i) (thePlan s i) torn (Left n) i i' lens slots e) where
+module _ (n : ℕ) (torn : List ℕ) (s : State) (i i' lens slots : List ℕ) (left : Power) (g : Good small s i)
+    (x : Executed (limitOf s) (s .commit) (nodesOf small s i) (thePlan s i) torn (Left n) i i' lens slots left) where
   abbrev ps : List Page
   ps = pagesOf small i
 
@@ -48,10 +48,10 @@ module _ (n : ℕ) (torn : List ℕ) (s : State) (i i' lens slots : List ℕ) (e
   pub after-pages : pagesOf small i' ≡ imageAfter small torn ps (s .commit) (thePlan s i) n
   after-pages = ap (λ (m : Machine). m .pages) (x .ran .is)
 
-  pub after-gone : isGone (e .left) ≡ ltb n (length (theOps s i))
+  pub after-gone : isGone left ≡ ltb n (length (theOps s i))
   after-gone = ap (λ (m : Machine). isGone (m .power)) (x .ran .is) ∙ run-gone small torn n ps (theOps s i)
 
-  pub after-done : done n (e .left) ≡ min n (length (theOps s i))
+  pub after-done : done n left ≡ min n (length (theOps s i))
   after-done = ap (λ (m : Machine). done n (m .power)) (x .ran .is) ∙ run-done small torn n ps (theOps s i)
 
   after-blocks : s .blocks ≡ blocksOf small (length i')

@@ -33,10 +33,13 @@ use Rattle.commits.specs.Execute.{Executed, Executes, isEmpty}
 use Rattle.store.specs.declared.answer.Answer as A
 use Rattle.store.specs.declared.answer.Answer.the-variants.{Accepted, Size, Off, Numbers, Power}
 use Rattle.store.specs.declared.state.State.{State}
+use Rattle.store.specs.declared.state.Wrote.{Wrote}
 use Rattle.store.specs.Answers.{answerOf}
+use Rattle.store.specs.Ending.{endedWith}
 use Rattle.store.specs.Fresh.{committedState}
 use Rattle.store.specs.State.{turnedOff, limitOf, nodesOf, unitsOf, presentOf, Good, Room, commitCount}
 use Rattle.store.specs.Contracts.{index, thePlan, theOps, Commits}
+use Rattle.store.proofs.EndingLaws.{either-end}
 use Rattle.store.proofs.Begun.{Settled, settled-good, settled-state}
 use Rattle.store.proofs.CommitPlan.{safe-some}
 use Rattle.store.proofs.CommitGood.{good-chip, good-few, good-ready, good-buffer, good-plannable, good-room, good-ops, count-none, count-some}
@@ -100,6 +103,7 @@ module _ (n : ℕ) (torn : List ℕ) (s : State) (i : List ℕ) where
         once = λ c. absurd (omega (arith, c .passes));
         choice = λ c. absurd (omega (arith, c .passes));
         stuck = λ c. absurd (omega (arith, c .passes));
+        same = λ m q e. (refl, refl);
         off = λ e. absurd (d e);
       }
 
@@ -137,6 +141,7 @@ module _ (n : ℕ) (torn : List ℕ) (s : State) (i : List ℕ) where
           once = λ c. absurd (omega (arith, c .pending));
           choice = λ c. absurd (omega (arith, c .pending));
           stuck = λ c. absurd (omega (arith, c .pending));
+          same = λ m q d. (refl, refl);
           off = λ e. let u : _≡_ {A = ℕ} 0 1 = cc in absurd (omega arith);
         }
 
@@ -162,6 +167,7 @@ module _ (n : ℕ) (torn : List ℕ) (s : State) (i : List ℕ) where
           once = λ c. absurd (omega (arith, c .number));
           choice = λ c. absurd (omega (arith, c .number));
           stuck = λ c. absurd (omega (arith, c .number));
+          same = λ m q d. (refl, refl);
           off = λ e. let u : _≡_ {A = ℕ} 0 1 = cc in absurd (omega arith);
         }
 
@@ -185,6 +191,7 @@ module _ (n : ℕ) (torn : List ℕ) (s : State) (i : List ℕ) where
           once = λ c. never (c .good);
           choice = λ c. never (c .good);
           stuck = λ c. never (c .good);
+          same = λ m q d. (refl, refl);
           off = λ e. let u : _≡_ {A = ℕ} 0 1 = cc in absurd (omega arith);
         }
       where
@@ -202,9 +209,9 @@ module _ (n : ℕ) (torn : List ℕ) (s : State) (i : List ℕ) where
       Secure q =
           Safe small (limitOf s) (s .blocks) (spareBlocks small (s .blocks)) torn (pagesOf small i) (nodesOf small s i) (s .commit) (unitsOf s) q
 
-      -- on a good state
-      by-plan : Good small s i → Executed (limitOf s) (s .commit) (nodesOf small s i) (thePlan s i) torn (Left n) i i' lens' slots' e
-      by-plan g = x .is (nodesOf small s i) (unitsOf s) (good-plannable s i g bytes slots pending number) refl refl
+      -- on a good state the commit is stuck exactly where its plan has no page
+      by-pages : Good small s i → e .stuck ≡ isEmpty (thePlan s i .written)
+      by-pages g = x .stuck (nodesOf small s i) (unitsOf s) (good-plannable s i g bytes slots pending number)
 
       stuck-or-safe : Good small s i → (thePlan s i ≡ stuck) ⊎ Secure (thePlan s i)
       stuck-or-safe g =
@@ -221,31 +228,22 @@ module _ (n : ℕ) (torn : List ℕ) (s : State) (i : List ℕ) where
           committed small (limitOf s) (s .blocks) torn (chip-small (s .blocks) torn size) (pagesOf small i) (nodesOf small s i) (s .commit) (unitsOf s)
           (good-ready s i g bytes pending number) (good-buffer s i g pending .pending) (wide-small (s .blocks) (good-chip s i g .least)) (good-room s i g r)
 
-      run-is : Good small s i → pagesOf small i' ≡ run small torn (record { power = Left n; pages = pagesOf small i }) (theOps s i) .pages
-      run-is g = after-pages n torn s i i' lens' slots' e g (by-plan g)
-
       -- ---- no room: nothing was done
       module _ (st : e .stuck ≡ true) where
         is-stuck : (g : Good small s i) → thePlan s i ≡ stuck
-        is-stuck g = ⊎-elim (λ q. q) (λ sf. clash (sym (by-plan g .stuck) ∙ st) (safe-page g sf)) (stuck-or-safe g)
+        is-stuck g = ⊎-elim (λ q. q) (λ sf. clash (sym (by-pages g) ∙ st) (safe-page g sf)) (stuck-or-safe g)
 
         no-room : {Q : Type 0} → Good small s i → Room small i → Q
-        no-room g r = clash (sym (by-plan g .stuck) ∙ st) (safe-page g (roomy g r))
+        no-room g r = clash (sym (by-pages g) ∙ st) (safe-page g (roomy g r))
 
         no-ops : (g : Good small s i) → theOps s i ≡ []
         no-ops g = ap (opsOf small (s .commit)) (is-stuck g)
 
-        same-image : Good small s i → i' ≡ i
-        same-image g =
-            let c = good-chip s i g .size in
-            let z : length i' ≡ length i = x .size in
-            let p : pagesOf small i' ≡ pagesOf small i =
-            run-is g
-            ∙ ap (λ os. run small torn (record { power = Left n; pages = pagesOf small i }) os .pages) (no-ops g)
-            ∙ ap (λ (m : Machine). m .pages) (run-parts small torn n (pagesOf small i) []) in
-            sym (pages-bytes small i' (s .blocks * 32) (omega arith) (omega arith))
-            ∙ ap (flat (λ (y : Page). y)) p
-            ∙ pages-bytes small i (s .blocks * 32) (omega arith) (omega arith)
+        run-none : (g : Good small s i) → pagesOf small i' ≡ run small torn (record { power = Left n; pages = pagesOf small i }) (theOps s i) .pages
+        run-none g =
+            ap (pagesOf small) (x .still st)
+            ∙ sym (ap (λ os. run small torn (record { power = Left n; pages = pagesOf small i }) os .pages) (no-ops g)
+            ∙ ap (λ (m : Machine). m .pages) (run-parts small torn n (pagesOf small i) []))
 
         pub commit-stuck : Commits n torn s i (record { answer = Numbers; ops = 0; state = s }) i'
         commit-stuck =
@@ -261,20 +259,27 @@ module _ (n : ℕ) (torn : List ℕ) (s : State) (i : List ℕ) where
                 done = λ g r. no-room g r;
                 cut = λ g r. no-room g r;
               };
-              bytes = λ c. run-is (c .good);
+              bytes = λ c. run-none (c .good);
               legal = λ c. subst (λ (q : Plan). Legal small (pagesOf small i) (opsOf small (s .commit) q)) (sym (is-stuck (c .good))) tt;
               once = λ c. subst (λ (q : Plan). Distinct (groupsOf (q .written))) (sym (is-stuck (c .good))) tt;
               choice = λ c r. no-room (c .good) r;
-              stuck = λ c q. (refl, refl, same-image (c .good));
+              stuck = λ c q. (refl, refl, x .still st);
+              same = λ m q d. (refl, x .still st);
               off = λ e. let u : _≡_ {A = ℕ} 0 1 = cc in absurd (omega arith);
             }
 
       -- ---- the plan has pages
       module _ (st : e .stuck ≡ false) where
+        by-plan : Good small s i → Executed (limitOf s) (s .commit) (nodesOf small s i) (thePlan s i) torn (Left n) i i' lens' slots' (e .left)
+        by-plan g = x .is (nodesOf small s i) (unitsOf s) (good-plannable s i g bytes slots pending number) refl refl st
+
+        run-is : Good small s i → pagesOf small i' ≡ run small torn (record { power = Left n; pages = pagesOf small i }) (theOps s i) .pages
+        run-is g = after-pages n torn s i i' lens' slots' (e .left) g (by-plan g)
+
         not-stuck : {Q : Type 0} (g : Good small s i) → thePlan s i ≡ stuck → Q
         not-stuck g q =
             let w : isEmpty (thePlan s i .written) ≡ true = ap (λ (p : Plan). isEmpty (p .written)) q in
-            clash w (sym (by-plan g .stuck) ∙ st)
+            clash w (sym (by-pages g) ∙ st)
 
         secure : (g : Good small s i) → Secure (thePlan s i)
         secure g = ⊎-elim (λ q. not-stuck g q) (λ sf. sf) (stuck-or-safe g)
@@ -283,17 +288,17 @@ module _ (n : ℕ) (torn : List ℕ) (s : State) (i : List ℕ) where
         need = count-some s i pending
 
         gone : Good small s i → isGone (e .left) ≡ ltb n (length (theOps s i))
-        gone g = after-gone n torn s i i' lens' slots' e g (by-plan g)
+        gone g = after-gone n torn s i i' lens' slots' (e .left) g (by-plan g)
 
         told : (g : Good small s i) → done n (e .left) ≡ min n (length (theOps s i))
-        told g = after-done n torn s i i' lens' slots' e g (by-plan g)
+        told g = after-done n torn s i i' lens' slots' (e .left) g (by-plan g)
 
         chosen : (g : Good small s i)
             → imageMeaning small i' ≡ cond (won (getD torn 0 0) n (length (theOps s i))) (P.means (presentOf small s i) (suc (s .commit))) (imageMeaning small i)
-        chosen g = after-meaning n torn s i i' lens' slots' e g (by-plan g) (secure g)
+        chosen g = after-meaning n torn s i i' lens' slots' (e .left) g (by-plan g) (secure g)
 
         room-after : (g : Good small s i) → Room small i → Room small i'
-        room-after g r = after-room n torn s i i' lens' slots' e g (by-plan g) (secure g) r
+        room-after g r = after-room n torn s i i' lens' slots' (e .left) g (by-plan g) (secure g) r
 
         -- one of two, by a test
         either : {M : Type 0} (b : Bool) (m u v : M) → m ≡ cond b u v → (m ≡ v) ⊎ (m ≡ u)
@@ -301,7 +306,7 @@ module _ (n : ℕ) (torn : List ℕ) (s : State) (i : List ℕ) where
         either false m u v q = inl q
 
         -- cut
-        pub commit-cut : isGone (e .left) ≡ true → (ops : ℕ) → ops ≡ done n (e .left) → (off : State) → off ≡ turnedOff s
+        commit-cut : isGone (e .left) ≡ true → (ops : ℕ) → ops ≡ done n (e .left) → (off : State) → off ≡ turnedOff s
             → Commits n torn s i (record { answer = Power; ops = ops; state = off }) i'
         commit-cut out ops o off f =
             subst (λ (y : State). Commits n torn s i (record { answer = Power; ops = ops; state = y }) i') (sym f)
@@ -323,6 +328,7 @@ module _ (n : ℕ) (torn : List ℕ) (s : State) (i : List ℕ) where
               once = λ c. secure (c .good) .once;
               choice = λ c r. chosen (c .good);
               stuck = λ c q. not-stuck (c .good) q;
+              same = λ m q d. other 10 m (λ u. d (sym u)) q;
               off = λ e. refl;
             })
           where
@@ -338,10 +344,10 @@ module _ (n : ℕ) (torn : List ℕ) (s : State) (i : List ℕ) where
           enough g = ltb-false n (length (theOps s i)) (sym (gone g) ∙ left)
 
           abbrev nodes : Good small s i → List Node
-          nodes g = nextNodes n torn s i i' lens' slots' e g (by-plan g)
+          nodes g = nextNodes n torn s i i' lens' slots' (e .left) g (by-plan g)
 
           settled : (g : Good small s i) → Settled after i' (nodes g)
-          settled g = after-settled n torn s i i' lens' slots' e g (by-plan g) (secure g) (enough g) bytes'
+          settled g = after-settled n torn s i i' lens' slots' (e .left) g (by-plan g) (secure g) (enough g) bytes'
 
           means-new : (g : Good small s i) → imageMeaning small i' ≡ P.means (presentOf small s i) (suc (s .commit))
           means-new g =
@@ -353,9 +359,9 @@ module _ (n : ℕ) (torn : List ℕ) (s : State) (i : List ℕ) where
           unfolding P.stateOf Plain.committed
           state-new g =
               settled-state after i' (nodes g) (settled g)
-              ∙ rw (next-views n torn s i i' lens' slots' e g (by-plan g) (secure g), let z : s .commit + 1 ≡ suc (s .commit) = omega arith in z)
+              ∙ rw (next-views n torn s i i' lens' slots' (e .left) g (by-plan g) (secure g), let z : s .commit + 1 ≡ suc (s .commit) = omega arith in z)
 
-          pub commit-done : (ops : ℕ) → ops ≡ done n (e .left) → (new : State) → new ≡ committedState s lens' slots'
+          commit-done : (ops : ℕ) → ops ≡ done n (e .left) → (new : State) → new ≡ committedState s lens' slots'
               → Commits n torn s i (record { answer = Accepted; ops = ops; state = new }) i'
           commit-done ops o new f =
               subst (λ (y : State). Commits n torn s i (record { answer = Accepted; ops = ops; state = y }) i') (sym f)
@@ -377,5 +383,13 @@ module _ (n : ℕ) (torn : List ℕ) (s : State) (i : List ℕ) where
                 once = λ c. secure (c .good) .once;
                 choice = λ c r. chosen (c .good);
                 stuck = λ c q. not-stuck (c .good) q;
+                same = λ m q d. not-refused m q;
                 off = λ e. let u : _≡_ {A = ℕ} 0 1 = cc in absurd (omega arith);
               })
+
+        -- either
+        pub commit-ended : ((j : ℕ) → getD i' j 0 < 256) → (r : Wrote) → r ≡ endedWith n (e .left) s (committedState s lens' slots') → Commits n torn s i r i'
+        commit-ended bytes' =
+            either-end n (e .left) s (committedState s lens' slots') (λ (r : Wrote). Commits n torn s i r i')
+            (λ t. commit-cut t (done n (e .left)) refl (turnedOff s) refl)
+            (λ t. commit-done t bytes' (done n (e .left)) refl (committedState s lens' slots') refl)

@@ -40,10 +40,13 @@ use Rattle.promise.proofs.Trees.{leaf-tree}
 use Rattle.store.specs.declared.answer.Answer.the-variants.{Accepted, Size}
 use Rattle.store.specs.declared.answer.Answer.the-variants as A
 use Rattle.store.specs.declared.state.State.{State}
+use Rattle.store.specs.declared.state.Wrote.{Wrote}
 use Rattle.store.specs.Admit.{Sized}
+use Rattle.store.specs.Ending.{endedWith}
 use Rattle.store.specs.Fresh.{freshState, NextOf}
 use Rattle.store.specs.State.{turnedOff, RoomIn, Room}
 use Rattle.store.specs.Contracts.{index, Formats}
+use Rattle.store.proofs.EndingLaws.{either-end}
 use Rattle.store.proofs.SizeLaws.{first-some, first-none}
 use Rattle.store.proofs.Begun.{Begun, begun-meaning, begun-good, begun-state}
 
@@ -164,7 +167,7 @@ module _ (n : ℕ) (torn : List ℕ) (s : State) (i i' : List ℕ) (b : ℕ) (z 
       record { refused = λ m e. absurd (omega (arith, passes, e)); not1 = λ p. h; not2 = λ p. k; sameSize = ran .size }
 
   -- cut
-  pub format-cut : isGone left ≡ true → (ops : ℕ) → ops ≡ done n left → (off : State) → off ≡ turnedOff s
+  format-cut : isGone left ≡ true → (ops : ℕ) → ops ≡ done n left → (off : State) → off ≡ turnedOff s
       → Formats n torn s i (record { answer = A.Power; ops = ops; state = off }) i'
   format-cut g ops o off f =
       let l : n < b + 3 = ltb-true n (b + 3) (sym gone-is ∙ g) in
@@ -183,7 +186,7 @@ module _ (n : ℕ) (torn : List ℕ) (s : State) (i i' : List ℕ) (b : ℕ) (z 
       })
 
   -- ---- finished
-  module _ (g : isGone left ≡ false) (bytes : (j : ℕ) → getD i' j 0 < 256) where
+  module _ (g : isGone left ≡ false) (bytes : (j : ℕ) → getD i' j 0 < 256) (buffer : List ℕ) where
     enough : b + 3 ≤ n
     enough = ltb-false n (b + 3) (sym gone-is ∙ g)
 
@@ -193,7 +196,7 @@ module _ (n : ℕ) (torn : List ℕ) (s : State) (i i' : List ℕ) (b : ℕ) (z 
     kept : Kept small (8 * b) (pagesOf small i') (formatTable (8 * b)) 1
     kept = rw pages-are (format-small torn b n (pagesOf small i) pos long enough)
 
-    begun : Begun (freshState b) i' (formatTable (8 * b))
+    begun : Begun (freshState b buffer) i' (formatTable (8 * b))
     begun =
         record {
           chip = rw (ran .size) (z .chip pos);
@@ -228,26 +231,33 @@ module _ (n : ℕ) (torn : List ℕ) (s : State) (i i' : List ℕ) (b : ℕ) (z 
         (sym (ap (λ (B : ℕ). Views.meaning small (8 * B) (pagesOf small i')) blocks-after ∙ kept .is))
         (room-at (blocksOf small (length i')) ((let e : suc (b - 1) ≡ b = omega arith in e) ∙ sym blocks-after))
 
-    state-is : P.stateOf (index small) (freshState b) i' ≡ fresh (blocksOf small (length i))
+    state-is : P.stateOf (index small) (freshState b buffer) i' ≡ fresh (blocksOf small (length i))
     unfolding fresh
-    state-is = begun-state (freshState b) i' (formatTable (8 * b)) begun ∙ rw (blocks-are, format-views b pos)
+    state-is = begun-state (freshState b buffer) i' (formatTable (8 * b)) begun ∙ rw (blocks-are, format-views b pos)
 
     meaning-is : imageMeaning small i' ≡ P.means (leaf (blocksOf small (length i))) 1
-    meaning-is = begun-meaning (freshState b) i' (formatTable (8 * b)) begun ∙ rw (blocks-are, format-views b pos)
+    meaning-is = begun-meaning (freshState b buffer) i' (formatTable (8 * b)) begun ∙ rw (blocks-are, format-views b pos)
 
-    pub format-finished : (ops : ℕ) → ops ≡ done n left → (new : State) → new ≡ freshState b
+    format-finished : (ops : ℕ) → ops ≡ done n left → (new : State) → new ≡ freshState b buffer
         → Formats n torn s i (record { answer = Accepted; ops = ops; state = new }) i'
     format-finished ops o new f =
         subst (λ (x : State). Formats n torn s i (record { answer = Accepted; ops = ops; state = x }) i') (sym f)
         (record {
           says = record {
-            first = tests accepted (freshState b) (λ e. let u : _≡_ {A = ℕ} 0 1 = cc in omega arith) (λ e. let u : _≡_ {A = ℕ} 0 1 = cc in omega arith);
+            first = tests accepted (freshState b buffer) (λ e. let u : _≡_ {A = ℕ} 0 1 = cc in omega arith) (λ e. let u : _≡_ {A = ℕ} 0 1 = cc in omega arith);
             quiet = λ k e d. let u : _≡_ {A = ℕ} 0 1 = cc in absurd (omega arith);
             few = λ p. few-ops;
             power = λ p. record { enough = λ m. (refl, omega (arith, done-is, enough, need-is)); short = λ m. absurd (omega (arith, need-is, enough)) };
-            done = λ p m. (state-is, meaning-is, begun-good (freshState b) i' (formatTable (8 * b)) begun, format-room);
+            done = λ p m. (state-is, meaning-is, begun-good (freshState b buffer) i' (formatTable (8 * b)) begun, format-room);
             cut = λ p m. absurd (omega (arith, need-is, enough));
           };
           bytes = λ p. format-bytes;
           off = λ e. let u : _≡_ {A = ℕ} 0 1 = cc in absurd (omega arith);
         })
+
+  -- either
+  pub format-ended : ((j : ℕ) → getD i' j 0 < 256) → (buffer : List ℕ) (r : Wrote) → r ≡ endedWith n left s (freshState b buffer) → Formats n torn s i r i'
+  format-ended bytes buffer =
+      either-end n left s (freshState b buffer) (λ (r : Wrote). Formats n torn s i r i')
+      (λ t. format-cut t (done n left) refl (turnedOff s) refl)
+      (λ t. format-finished t bytes buffer (done n left) refl (freshState b buffer) refl)

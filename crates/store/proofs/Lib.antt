@@ -1,3 +1,4 @@
+pub mod EndingLaws
 pub mod SizeLaws
 pub mod AdmitLaws
 pub mod BegunViews
@@ -18,4 +19,4 @@ pub mod CommitState
 pub mod Starred
 pub mod IndexPromise
 pub mod StepLaws
-pub mod StateLengths
+pub mod PartLaws

@@ -41,8 +41,9 @@ use Rattle.store.specs.Admit.{ChipOf, Sized}
 use Rattle.store.specs.State.{RoomIn, Room}
 use Rattle.store.specs.Fresh.{NextOf, mountedState}
 use Rattle.store.specs.Check.{marksOf, Read}
-use Rattle.store.specs.Mount.{refusedWith, acceptedWith, Marked}
+use Rattle.store.specs.Ending.{refusedWith, acceptedWith, endedWith}
 use Rattle.store.specs.Contracts.{index, Mounts}
+use Rattle.store.proofs.EndingLaws.{either-end}
 use Rattle.store.proofs.SizeLaws.{admitted, not-admitted}
 use Rattle.store.proofs.MarkCount.{marks-few}
 use Rattle.store.proofs.Begun.{Begun, begun-good, begun-state}
@@ -60,27 +61,6 @@ live-from g pre (x ∷ xs) i e =
     = live-from g (pre ++ (x ∷ [])) xs (suc i) (ap suc e ∙ sym (length-append pre (x ∷ []) ∙ omega arith)) in
     let q : All (LiveAt g (pre ++ x ∷ xs)) (liveFrom g (suc i) xs) = (rw (append-assoc pre (x ∷ []) xs) at r) in
     cases (isLive g x) (λ t. rw t (more {x = live g i x} (record { page = x; stands = a; lives = t }) q)) (λ t. rw t q)
-
--- ---- the marks, by whether power is gone
-module _ (allowance : ℕ) (torn : List ℕ) (v : ℕ) (s m : State) (i i' : List ℕ) (left : W.Power)
-    (ran : Ran small torn (marksOf v (pagesOf small i)) (Left allowance) left i i') (n : ℕ) (told : n ≡ done allowance left) (gone : Bool) (is : gone ≡ isGone left) where
-  pub marks-cut : gone ≡ true → (r : Wrote) → r ≡ refusedWith Power n s → Marked allowance torn v s m i r i'
-  marks-cut t r e =
-      record {
-        left = left;
-        ran = ran;
-        is = e ∙ ap (λ (k : ℕ). refusedWith Power k s) told
-            ∙ ap (λ (c : Bool). cond c (refusedWith Power (done allowance left) s) (acceptedWith (done allowance left) m)) (sym t ∙ is);
-      }
-
-  pub marks-done : gone ≡ false → Marked allowance torn v s m i (acceptedWith n m) i'
-  marks-done t =
-      record {
-        left = left;
-        ran = ran;
-        is = ap (λ (k : ℕ). acceptedWith k m) told
-            ∙ ap (λ (c : Bool). cond c (refusedWith Power (done allowance left) s) (acceptedWith (done allowance left) m)) (sym t ∙ is);
-      }
 
 -- ---- room, with the meaning known
 module _ (i : List ℕ) (nodes : List Node) (G : ℕ)
@@ -312,15 +292,11 @@ module _ (allowance : ℕ) (torn : List ℕ) (s : State) (i : List ℕ) (bytes :
             }
 
     -- an image that means nodes and G, marked: the state is made of what was read
-    pub marked-mounts : (lens slots : List ℕ) (G v : ℕ) → Read i lens slots G v → (i' : List ℕ) → ((j : ℕ) → getD i' j 0 < 256)
+    pub marked-mounts : (lens slots : List ℕ) (G v : ℕ) → Read i lens slots G v → (i' : List ℕ) (left : W.Power)
+        → Ran small torn (marksOf v (pagesOf small i)) (Left allowance) left i i' → ((j : ℕ) → getD i' j 0 < 256)
         → (next : ℕ) → NextOf (8 * b) lens next → (buffer : List ℕ) (r : Wrote)
-        → Marked allowance torn v s (mountedState b G next buffer lens slots) i r i' → Mounts allowance torn s i r i'
-    marked-mounts lens slots G v rd i' bytes' next nx buffer r k =
-        let p = k .left in
-        let n = done allowance p in
-        let m = mountedState b G next buffer lens slots in
-        cases (isGone p)
-        (λ t. let e : r ≡ refusedWith Power n s = k .is ∙ ap (λ (c : Bool). cond c (refusedWith Power n s) (acceptedWith n m)) t in
-        rw e (cut-mounts lens slots G v rd i' p (k .ran) n refl t))
-        (λ t. let e : r ≡ acceptedWith n m = k .is ∙ ap (λ (c : Bool). cond c (refusedWith Power n s) (acceptedWith n m)) t in
-        rw e (done-mounts lens slots G v rd i' p (k .ran) bytes' next nx buffer t n refl))
+        → r ≡ endedWith allowance left s (mountedState b G next buffer lens slots) → Mounts allowance torn s i r i'
+    marked-mounts lens slots G v rd i' left ran bytes' next nx buffer =
+        either-end allowance left s (mountedState b G next buffer lens slots) (λ (r : Wrote). Mounts allowance torn s i r i')
+        (λ t. cut-mounts lens slots G v rd i' left ran (done allowance left) refl t)
+        (λ t. done-mounts lens slots G v rd i' left ran bytes' next nx buffer t (done allowance left) refl)

@@ -17,6 +17,7 @@ use Rattle.pages.specs.declared.unit.Decoded.the-variants as D
 use Rattle.pages.specs.Units.{decodes, Valid}
 use Rattle.views.specs.Nodes.{Entry, view, insertEntry, deleteEntry}
 use Rattle.views.specs.Table.{isWhole}
+use Rattle.views.proofs.TableLaws.{length-decodes}
 use Rattle.tree.specs.declared.insert.Inserted.{Inserted}
 use Rattle.tree.specs.declared.find.Looked.{Looked}
 use Rattle.tree.specs.declared.find.Hit.the-variants.{At, Nothing}
@@ -114,10 +115,6 @@ some-units k v t = some-insert (rootLevel t) 0 k v t
 goods-good : (us : List U.Unit) → goods (map D.Good us) ≡ us
 goods-good [] = refl
 goods-good (u ∷ us) = rw (goods-good us)
-
-length-decodes : (limit n : ℕ) (b : List ℕ) → length (decodes limit n b) ≡ n
-length-decodes limit zero b = refl
-length-decodes limit (suc n) b = ap suc (length-decodes limit n (drop 12 b))
 
 pub units-many : (limit n : ℕ) (b : List ℕ) (us : List U.Unit) → decodes limit n b ≡ map D.Good us → n ≡ length us
 units-many limit n b us e = sym (length-decodes limit n b) ∙ ap length e ∙ length-map us D.Good

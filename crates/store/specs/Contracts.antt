@@ -125,4 +125,6 @@ pub record Commits (allowance : ℕ) (torn : List ℕ) (s : State) (i : List ℕ
       → imageMeaning small i' ≡ cond (won (getD torn 0 0) allowance (length (theOps s i))) (means (presentOf small s i) (suc (s .commit))) (imageMeaning small i)
   -- without room nothing is written, and the answer is 6
   pub stuck : Committing allowance torn s i → thePlan s i ≡ stuck → (r .answer ≡ Numbers) × (r .state ≡ s) × (i' ≡ i)
+  -- a refusal other than 10 changes nothing, on any state and any image
+  pub same : (m : ℕ) → answerOf (r .answer) ≡ refuses m → (m ≡ 10 → ⊥) → (r .state ≡ s) × (i' ≡ i)
   pub off : r .answer ≡ Power → r .state ≡ turnedOff s

@@ -6,25 +6,14 @@ use Prim.Native.Nat.{ℕ, suc, _+_, _≤_, _<_}
 use lib.ListN.{getD, replicate}
 use Rattle.store.specs.declared.state.State.{State}
 
--- node 0 has a list of one page, page 0; all other lists are empty
-abbrev pub freshState : ℕ → State
-freshState b =
-    record {
-      on = true;
-      blocks = b;
-      commit = 1;
-      pending = 0;
-      next = 1;
-      count = 0;
-      buffer = replicate 11520 0;
-      lens = 1 ∷ replicate 255 0;
-      slots = replicate 1024 0;
-    }
-
 -- with nothing pending, the node table read from the image
 abbrev pub mountedState : ℕ → ℕ → ℕ → List ℕ → List ℕ → List ℕ → State
 mountedState b commit next buffer lens slots =
     record { on = true; blocks = b; commit = commit; pending = 0; next = next; count = 0; buffer = buffer; lens = lens; slots = slots }
+
+-- node 0 has a list of one page, page 0; all other lists are empty
+abbrev pub freshState : ℕ → List ℕ → State
+freshState b buffer = mountedState b 1 1 buffer (1 ∷ replicate 255 0) (replicate 1024 0)
 
 -- the next commit number, nothing pending, the node table with the pages of the commit
 abbrev pub committedState : State → List ℕ → List ℕ → State

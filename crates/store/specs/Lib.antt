@@ -1,10 +1,11 @@
 pub mod Answers
 pub mod State
+pub mod Parts
 pub mod Fresh
 pub mod Admit
 pub mod Check
 pub mod Contracts
-pub mod Mount
+pub mod Ending
 pub mod Update
 pub mod Starred
 pub mod Step

@@ -1,34 +1,35 @@
 // Look up: the value of a key in P, and the pages read for it.
 ghost use mathlib.Core.Path.{_≡_};
 ghost use Rattle.store.specs.Contracts.{Looks};
+ghost use Rattle.store.specs.Parts.{joined};
 use crate::admit;
 use crate::admit::Admission;
 use crate::answer::Look;
-use crate::lend::find_in;
+use crate::state;
+use crate::state::Numbers;
 use crate::state::State;
+use tree::find;
 use tree::find::Hit;
 
-// The value of `key`, or 4 where it is absent, with the pages read on the way to its leaf.
-pub fn look_up(state: State, image: &[u8], key: u32) -> Look
-    ensures { λ r. ⌜ Looks key state (now (image .entry)) r ⌝ }
+// Look up on lent arrays: the value of `key`, or 4 where it is absent, with the pages read on the way to its leaf.
+pub fn look_up_lent<'a>(
+    numbers: Numbers,
+    lens: &'a [u32; 256],
+    slots: &'a [u32; 1024],
+    buffer: &'a [u8; 11520],
+    image: &[u8],
+    key: u32,
+) -> Look
+    ensures { λ r. ⌜ Looks key (joined numbers (now (buffer .entry)) (now (lens .entry)) (now (slots .entry))) (now (image .entry)) r ⌝ }
 {
-    let on = state.on;
-    let blocks = state.blocks;
-    match admit::admit(on, blocks, image.len()) {
+    let blocks = numbers.blocks;
+    match admit::admit(numbers.on, blocks, image.len()) {
         Admission::Off => Look::Off,
         Admission::Size => Look::Size,
         Admission::Passes => {
-            let count = state.count;
+            let count = numbers.count;
             let limit = (8 * blocks) as u32;
-            let looked = find_in(
-                image,
-                &state.lens,
-                &state.slots,
-                &state.buffer,
-                count,
-                limit,
-                key,
-            );
+            let looked = find::find(image, lens, slots, buffer, count, limit, key);
             let pages = looked.pages;
             let hit = looked.hit;
             match hit {
@@ -37,4 +38,19 @@ pub fn look_up(state: State, image: &[u8], key: u32) -> Look
             }
         }
     }
+}
+
+// Look up on a state by value.
+pub fn look_up(state: State, image: &[u8], key: u32) -> Look
+    ensures { λ r. ⌜ Looks key state (now (image .entry)) r ⌝ }
+{
+    let numbers = state::numbers_of(state);
+    look_up_lent(
+        numbers,
+        &state.lens,
+        &state.slots,
+        &state.buffer,
+        image,
+        key,
+    )
 }

@@ -1,63 +1,60 @@
 // Format: all blocks erased, lowest first, and commit 1 written into the first page of block 0.
 ghost use mathlib.Core.Path.{_≡_};
-ghost use Prim.Native.Nat.{_≤_};
+ghost use mathlib.Core.List.{List};
+ghost use Prim.Native.Nat.{ℕ, _≤_};
 ghost use lib.ListN.{length};
 ghost use Rattle.store.specs.Contracts.{Formats};
-ghost use Rattle.store.specs.Fresh.{freshState};
+ghost use Rattle.store.specs.Parts.{joined, wroteWith};
 use crate::admit;
 use crate::answer::Answer;
+use crate::ending;
 use crate::state;
+use crate::state::Numbers;
 use crate::state::State;
 use crate::state::Wrote;
-use chip::power;
+use crate::state::WroteParts;
 use chip::power::Power;
 use log;
 
-// The state after a finished format of a chip with `blocks` blocks: one empty leaf, node 0, on page 0.
-fn fresh_state(blocks: usize) -> State
-    ensures { λ r. ⌜ r ≡ freshState blocks ⌝ }
+// Format on a lent node table, with power for `allowance` operations: after it the node table has one empty leaf, node 0, on page 0. The
+// buffer's bytes stay, whatever they are.
+pub fn format_lent(
+    numbers: Numbers,
+    lens: &mut [u32; 256],
+    slots: &mut [u32; 1024],
+    image: &mut [u8],
+    torn: &[u8],
+    allowance: u32,
+) -> WroteParts
+    ensures { λ r. ⌜ ((buffer : List ℕ) → Formats allowance (now (torn .entry)) (joined numbers buffer (now (lens .entry)) (now (slots .entry)))
+        (now (image .entry)) (wroteWith r buffer (now (lens .exit)) (now (slots .exit))) (now (image .exit))) ⌝ }
 {
-    let mut lens = [0; 256];
-    lens[0] = 1;
-    State {
+    let blocks = admit::sized(image.len(), torn.len());
+    if blocks == 0 {
+        return ending::quiet(numbers, Answer::Size);
+    }
+    let left = log::format::format(image, blocks, torn, Power::Left(allowance));
+    let fresh = Numbers {
         on: true,
         blocks,
         commit: 1,
         pending: 0,
         next: 1,
         count: 0,
-        buffer: [0; 11520],
-        lens,
-        slots: [0; 1024],
-    }
+    };
+    let mut l = [0; 256];
+    l[0] = 1;
+    let s = [0; 1024];
+    ending::ended(numbers, lens, slots, fresh, &l, &s, allowance, left)
 }
 
-// The chip formatted, with power for `allowance` operations.
+// Format on a state by value.
 pub fn format(state: State, image: &mut [u8], torn: &[u8], allowance: u32) -> Wrote
     ensures { λ r. ⌜ Formats allowance (now (torn .entry)) state (now (image .entry)) r (now (image .exit)) ⌝ }
 {
-    let blocks = admit::sized(image.len(), torn.len());
-    if blocks == 0 {
-        return Wrote {
-            answer: Answer::Size,
-            ops: 0,
-            state,
-        };
-    }
-    let left = log::format::format(image, blocks, torn, Power::Left(allowance));
-    let ops = power::done_of(allowance, left);
-    if power::gone(left) {
-        let off = state::turned_off(state);
-        return Wrote {
-            answer: Answer::Power,
-            ops,
-            state: off,
-        };
-    }
-    let fresh = fresh_state(blocks);
-    Wrote {
-        answer: Answer::Accepted,
-        ops,
-        state: fresh,
-    }
+    let numbers = state::numbers_of(state);
+    let mut lens = state.lens;
+    let mut slots = state.slots;
+    let parts = format_lent(numbers, &mut lens, &mut slots, image, torn, allowance);
+    state::with_table(state, lens, slots, parts)
 }

@@ -1,21 +1,24 @@
 // Mount: the image alone is read; after all checks the void pages get their obsolete mark, lowest place first.
 ghost use mathlib.Core.Path.{_≡_};
-ghost use Prim.Native.Nat.{_%_, _≤_};
+ghost use mathlib.Core.List.{List};
+ghost use Prim.Native.Nat.{ℕ, _%_, _≤_};
 ghost use lib.ListN.{length};
 ghost use Rattle.chip.specs.Geometry.{small};
 ghost use Rattle.chip.specs.Chip.{Ran, pagesOf};
 ghost use Rattle.store.specs.Check.{marksOf};
-ghost use Rattle.store.specs.Mount.{refusedWith, Marked};
 ghost use Rattle.store.specs.Fresh.{NextOf};
 ghost use Rattle.store.specs.Contracts.{Mounts};
+ghost use Rattle.store.specs.Parts.{joined, wroteWith};
 use crate::admit;
 use crate::answer::Answer;
 use crate::check;
 use crate::check::Checked;
+use crate::ending;
 use crate::state;
+use crate::state::Numbers;
 use crate::state::State;
 use crate::state::Wrote;
-use chip::power;
+use crate::state::WroteParts;
 use chip::power::Power;
 use log;
 
@@ -53,75 +56,52 @@ fn retire(image: &mut [u8], void: u32, torn: &[u8], power: Power) -> Power
     log::mount::retire(image, void, torn, power)
 }
 
-// A mount refused: the state is off.
-fn refused(state: State, answer: Answer, ops: u32) -> Wrote
-    ensures { λ r. ⌜ r ≡ refusedWith answer ops state ⌝ }
-{
-    let off = state::turned_off(state);
-    Wrote {
-        answer,
-        ops,
-        state: off,
-    }
-}
-
-// The void pages marked, with power for `allowance` operations: done in full the state is `mounted`, and cut it is the one given, off.
-fn mark(
-    state: State,
-    mounted: State,
+// Mount on a lent node table, with power for `allowance` operations. The buffer's bytes stay, whatever they are.
+pub fn mount_lent(
+    numbers: Numbers,
+    lens: &mut [u32; 256],
+    slots: &mut [u32; 1024],
     image: &mut [u8],
-    void: u32,
     torn: &[u8],
     allowance: u32,
-) -> Wrote
-    requires { ⌜ (length (now image) % 528 ≡ 0) × (length (now torn) ≡ 528) ⌝ }
-    ensures { λ r. ⌜ Marked allowance (now (torn .entry)) void state mounted (now (image .entry)) r (now (image .exit)) ⌝ }
-{
-    let left = retire(image, void, torn, Power::Left(allowance));
-    let ops = power::done_of(allowance, left);
-    if power::gone(left) {
-        return refused(state, Answer::Power, ops);
-    }
-    Wrote {
-        answer: Answer::Accepted,
-        ops,
-        state: mounted,
-    }
-}
-
-// The image mounted, with power for `allowance` operations.
-pub fn mount(state: State, image: &mut [u8], torn: &[u8], allowance: u32) -> Wrote
-    ensures { λ r. ⌜ Mounts allowance (now (torn .entry)) state (now (image .entry)) r (now (image .exit)) ⌝ }
+) -> WroteParts
+    ensures { λ r. ⌜ ((buffer : List ℕ) → Mounts allowance (now (torn .entry)) (joined numbers buffer (now (lens .entry)) (now (slots .entry)))
+        (now (image .entry)) (wroteWith r buffer (now (lens .exit)) (now (slots .exit))) (now (image .exit))) ⌝ }
 {
     let blocks = admit::sized(image.len(), torn.len());
     if blocks == 0 {
-        return Wrote {
-            answer: Answer::Size,
-            ops: 0,
-            state,
-        };
+        return ending::quiet(numbers, Answer::Size);
     }
-    let mut lens = [0; 256];
-    let mut slots = [0; 1024];
-    match check::check(image, blocks, &mut lens, &mut slots) {
-        Checked::Blank => refused(state, Answer::Blank, 0),
-        Checked::Layout => refused(state, Answer::Layout, 0),
-        Checked::Shape => refused(state, Answer::Shape, 0),
+    let mut l = [0; 256];
+    let mut s = [0; 1024];
+    match check::check(image, blocks, &mut l, &mut s) {
+        Checked::Blank => ending::refused(numbers, Answer::Blank, 0),
+        Checked::Layout => ending::refused(numbers, Answer::Layout, 0),
+        Checked::Shape => ending::refused(numbers, Answer::Shape, 0),
         Checked::Means(commit, void) => {
             let limit = (8 * blocks) as u32;
-            let next = next_number(&lens, limit);
-            let mounted = State {
+            let next = next_number(&l, limit);
+            let mounted = Numbers {
                 on: true,
                 blocks,
                 commit,
                 pending: 0,
                 next,
                 count: 0,
-                buffer: [0; 11520],
-                lens,
-                slots,
             };
-            mark(state, mounted, image, void, torn, allowance)
+            let left = retire(image, void, torn, Power::Left(allowance));
+            ending::ended(numbers, lens, slots, mounted, &l, &s, allowance, left)
         }
     }
+}
+
+// Mount on a state by value.
+pub fn mount(state: State, image: &mut [u8], torn: &[u8], allowance: u32) -> Wrote
+    ensures { λ r. ⌜ Mounts allowance (now (torn .entry)) state (now (image .entry)) r (now (image .exit)) ⌝ }
+{
+    let numbers = state::numbers_of(state);
+    let mut lens = state.lens;
+    let mut slots = state.slots;
+    let parts = mount_lent(numbers, &mut lens, &mut slots, image, torn, allowance);
+    state::with_table(state, lens, slots, parts)
 }

@@ -1,20 +1,24 @@
 // Block report: how many pages of a block are free, and the first free one.
 ghost use mathlib.Core.Path.{_≡_};
+ghost use mathlib.Core.List.{List};
+ghost use Prim.Native.Nat.{ℕ};
 ghost use Rattle.store.specs.Contracts.{Reports};
+ghost use Rattle.store.specs.Parts.{joined};
 use crate::admit;
 use crate::admit::Admission;
 use crate::answer::Report;
+use crate::state;
+use crate::state::Numbers;
 use crate::state::State;
 use chip::block;
 use chip::geometry::BLOCK;
 
-// The free pages of block `at`; 4 where it is not on the chip.
-pub fn block_report(state: State, image: &[u8], at: u32) -> Report
-    ensures { λ r. ⌜ Reports at state (now (image .entry)) r ⌝ }
+// The free pages of block `at`, whatever the arrays of the state; 4 where it is not on the chip.
+pub fn block_report_lent(numbers: Numbers, image: &[u8], at: u32) -> Report
+    ensures { λ r. ⌜ ((buffer lens slots : List ℕ) → Reports at (joined numbers buffer lens slots) (now (image .entry)) r) ⌝ }
 {
-    let on = state.on;
-    let blocks = state.blocks;
-    match admit::admit(on, blocks, image.len()) {
+    let blocks = numbers.blocks;
+    match admit::admit(numbers.on, blocks, image.len()) {
         Admission::Off => Report::Off,
         Admission::Size => Report::Size,
         Admission::Passes => {
@@ -30,4 +34,12 @@ pub fn block_report(state: State, image: &[u8], at: u32) -> Report
             Report::Free(count, first)
         }
     }
+}
+
+// Block report on a state by value.
+pub fn block_report(state: State, image: &[u8], at: u32) -> Report
+    ensures { λ r. ⌜ Reports at state (now (image .entry)) r ⌝ }
+{
+    let numbers = state::numbers_of(state);
+    block_report_lent(numbers, image, at)
 }

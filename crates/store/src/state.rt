@@ -1,7 +1,8 @@
 // The state that each call gets by value and gives back.
 ghost use mathlib.Core.Path.{_≡_};
 ghost use lib.ListN.{length};
-ghost use Rattle.store.specs.State.{initial, turnedOff};
+ghost use Rattle.store.specs.State.{initial};
+ghost use Rattle.store.specs.Parts.{numbersOf, numbersOff, joined, updatedWith, wroteWith};
 use crate::answer::Answer;
 
 // On or off, the number of blocks (B), the greatest commit number (G), the pending updates, the next node number, the units of the
@@ -18,6 +19,16 @@ pub struct State {
     pub slots: [u32; 1024],
 }
 
+// A state but for its arrays, for a caller that lends those.
+pub struct Numbers {
+    pub on: bool,
+    pub blocks: usize,
+    pub commit: u32,
+    pub pending: u32,
+    pub next: u32,
+    pub count: usize,
+}
+
 // What format, mount and commit give back: the answer, the operations done, the state.
 pub struct Wrote {
     pub answer: Answer,
@@ -29,6 +40,19 @@ pub struct Wrote {
 pub struct Updated {
     pub answer: Answer,
     pub state: State,
+}
+
+// What insert and delete on lent arrays give back: the answer and the numbers.
+pub struct UpdatedParts {
+    pub answer: Answer,
+    pub numbers: Numbers,
+}
+
+// What format, mount and commit on lent arrays give back: the answer, the operations done, the numbers.
+pub struct WroteParts {
+    pub answer: Answer,
+    pub ops: u32,
+    pub numbers: Numbers,
 }
 
 // A state that is off, to begin with.
@@ -48,11 +72,67 @@ pub fn initial() -> State
     }
 }
 
-// The state, off.
-pub fn turned_off(state: State) -> State
-    ensures { λ r. ⌜ r ≡ turnedOff state ⌝ }
+// The numbers of a state that is off and else the same.
+pub fn turned_off(numbers: Numbers) -> Numbers
+    ensures { λ r. ⌜ r ≡ numbersOff numbers ⌝ }
+{
+    let mut n = numbers;
+    n.on = false;
+    n
+}
+
+// The numbers of a state.
+pub fn numbers_of(state: State) -> Numbers
+    ensures { λ r. ⌜ r ≡ numbersOf state ⌝ }
+{
+    Numbers {
+        on: state.on,
+        blocks: state.blocks,
+        commit: state.commit,
+        pending: state.pending,
+        next: state.next,
+        count: state.count,
+    }
+}
+
+// The state of these numbers with the arrays of the state.
+pub fn with_numbers(state: State, numbers: Numbers) -> State
+    ensures { λ r. ⌜ r ≡ joined numbers (state .buffer) (state .lens) (state .slots) ⌝ }
 {
     let mut s = state;
-    s.on = false;
+    s.on = numbers.on;
+    s.blocks = numbers.blocks;
+    s.commit = numbers.commit;
+    s.pending = numbers.pending;
+    s.next = numbers.next;
+    s.count = numbers.count;
     s
+}
+
+// What an update gives back for the state, with the buffer that it leaves.
+pub fn with_buffer(state: State, buffer: [u8; 11520], parts: UpdatedParts) -> Updated
+    ensures { λ r. ⌜ r ≡ updatedWith parts buffer (state .lens) (state .slots) ⌝ }
+{
+    let answer = parts.answer;
+    let numbers = parts.numbers;
+    let mut s = with_numbers(state, numbers);
+    s.buffer = buffer;
+    Updated { answer, state: s }
+}
+
+// What format, mount or commit gives back for the state, with the node table that it leaves.
+pub fn with_table(state: State, lens: [u32; 256], slots: [u32; 1024], parts: WroteParts) -> Wrote
+    ensures { λ r. ⌜ r ≡ wroteWith parts (state .buffer) lens slots ⌝ }
+{
+    let answer = parts.answer;
+    let ops = parts.ops;
+    let numbers = parts.numbers;
+    let mut s = with_numbers(state, numbers);
+    s.lens = lens;
+    s.slots = slots;
+    Wrote {
+        answer,
+        ops,
+        state: s,
+    }
 }

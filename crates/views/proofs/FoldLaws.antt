@@ -1,63 +1,51 @@
--- One update of a folded node, and the turns of the loop over its units. Assumes nothing.
-use mathlib.Core.Path.{_≡_, refl, sym, ap, ap₂, _∙_}
-use mathlib.Core.Bool.{Bool, true, false}
-use mathlib.Core.List.{List, [], _∷_}
+-- One update of a view that is folded in two arrays, and the turns of the loop over its units. Assumes nothing.
+use mathlib.Core.Path.{_≡_, sym, ap, ap₂, _∙_}
+use mathlib.Core.Bool.{Bool, cond}
+use mathlib.Core.List.{List, _∷_}
 use Prim.Native.Nat.{ℕ, suc, _+_, _*_, _-_, _<_, _≤_}
 use native.Mathlib.Omega.{arith}
 use lib.ListN.{length, take, drop, length-drop}
 use lib.Seq.{drop-drop, take-all}
-use borrow.Author.Tests.{eq-eqb, ne-eqb, le-leb, lt-leb}
+use borrow.Author.Tests.{le-leb, lt-leb}
 use Rattle.lists.specs.Lists.{all}
-use Rattle.pages.specs.declared.unit.Update.{Update}
-use Rattle.pages.specs.declared.unit.Update.the-variants.{Insert, Delete, Reset}
+use Rattle.pages.specs.declared.unit.Update.the-variants.{Insert, Delete}
 use Rattle.pages.specs.declared.unit.Unit as U
 use Rattle.pages.specs.declared.unit.Decoded.{Decoded}
 use Rattle.pages.specs.declared.unit.Decoded.the-variants.{Good, Bad}
 use Rattle.pages.specs.Units.{decode, decodes}
-use Rattle.views.specs.declared.node.Node.{Node}
-use Rattle.views.specs.declared.fold.Stage.the-variants.{Full}
-use Rattle.views.specs.declared.fold.Folded.{Folded}
-use Rattle.views.specs.declared.fold.Folding.{Folding}
-use Rattle.views.specs.Nodes.{View, broken, view, insertEntry, deleteEntry}
-use Rattle.views.specs.NodeCode.{entriesOf, Shows}
+use Rattle.views.specs.declared.fold.Shape.{Shape}
+use Rattle.views.specs.declared.fold.Stage.the-variants.{Broken, Full}
+use Rattle.views.specs.Nodes.{View, broken, insertEntry, deleteEntry, apply}
+use Rattle.views.specs.NodeCode.{entriesIn, Keeps}
 use Rattle.views.specs.Table.{isGood}
-use Rattle.views.specs.FoldCode.{viewOf, Stands, Applied, turnView, viewAfter, Folds}
+use Rattle.views.specs.FoldCode.{viewIn, StandsIn, turnView, viewAfter}
+use Rattle.views.specs.Stored.{viewOver}
 
--- ---- one update
-module _ (f : Folded) (n : Node) (r : Folded) where
+-- ---- one update of a view so far, its shape s over keys ks and values vs, which leaves the entries in ls and ws
+module _ (s : Shape) (ks vs ls ws : List ℕ) where
   -- an entry put in
-  pub put : (k v : ℕ) → f .stage ≡ Full → Shows n (f .node .level) (insertEntry k v (entriesOf (f .node))) → n .len ≤ 16
-      → Stands r (view (n .level) (entriesOf n)) → Applied f (Insert k v) r
-  put k v e s h t =
-      let l : length (insertEntry k v (entriesOf (f .node))) ≤ 16 = omega (arith, s .len) in
-      record { is = t .is ∙ rw (e, le-leb _ 16 l, s .same, s .is); room = t .room }
+  pub entered : (k v n : ℕ) → s .stage ≡ Full → Keeps n ls ws (insertEntry k v (entriesIn (s .len) ks vs)) → n ≤ 16
+      → StandsIn (record { stage = Full; level = s .level; len = n }) ls ws (apply (viewIn s ks vs) (Insert k v))
+  entered k v n e h l =
+      let m : length (insertEntry k v (entriesIn (s .len) ks vs)) ≤ 16 = omega (arith, h .len) in
+      record { is = rw (e, le-leb _ 16 m, h .is); room = l; keys = h .keys; values = h .values }
 
   -- a 17th entry
-  pub overfull : (k v : ℕ) → f .stage ≡ Full → Shows n (f .node .level) (insertEntry k v (entriesOf (f .node))) → 16 < n .len
-      → Stands r broken → Applied f (Insert k v) r
-  overfull k v e s h t =
-      let l : 16 < length (insertEntry k v (entriesOf (f .node))) = omega (arith, s .len) in
-      record { is = t .is ∙ rw (e, lt-leb _ 16 l); room = t .room }
+  pub overfull : (r : Shape) (k v n : ℕ) → s .stage ≡ Full → Keeps n ls ws (insertEntry k v (entriesIn (s .len) ks vs)) → 16 < n
+      → (r .stage ≡ Broken) × (r .len ≤ 16) → StandsIn r ls ws (apply (viewIn s ks vs) (Insert k v))
+  overfull r k v n e h l q =
+      let m : 16 < length (insertEntry k v (entriesIn (s .len) ks vs)) = omega (arith, h .len) in
+      record { is = rw (q .0, e, lt-leb _ 16 m); room = q .1; keys = h .keys; values = h .values }
 
   -- an entry taken out
-  pub taken : (k : ℕ) → f .stage ≡ Full → Shows n (f .node .level) (deleteEntry k (entriesOf (f .node)))
-      → Stands r (view (n .level) (entriesOf n)) → Applied f (Delete k) r
-  taken k e s t = record { is = t .is ∙ rw (e, s .same, s .is); room = t .room }
+  pub left-out : (k n : ℕ) → s .stage ≡ Full → Keeps n ls ws (deleteEntry k (entriesIn (s .len) ks vs)) × (n ≤ s .len) → s .len ≤ 16
+      → StandsIn (record { stage = Full; level = s .level; len = n }) ls ws (apply (viewIn s ks vs) (Delete k))
+  left-out k n e h l = record { is = rw (e, h .0 .is); room = omega (arith, h .1); keys = h .0 .keys; values = h .0 .values }
 
-  -- a reset
-  pub anew : (l : ℕ) → Shows n l [] → Stands r (view (n .level) (entriesOf n)) → Applied f (Reset l) r
-  anew l s t = record { is = t .is ∙ rw (s .same, s .is); room = t .room }
-
--- ---- one unit
--- of the node
-pub own : (n : ℕ) (u : U.Unit) (d : Decoded) (f r : Folded) → d ≡ Good u → u .node ≡ n → Applied f (u .update) r
-    → Stands r (turnView n (viewOf f) d)
-own n u d f r e q s = rw (e, eq-eqb (u .node) n q) s
-
--- of another node
-pub other : (n : ℕ) (u : U.Unit) (d : Decoded) (f : Folded) → d ≡ Good u → (u .node ≡ n → ⊥) → f .node .len ≤ 16
-    → Stands f (turnView n (viewOf f) d)
-other n u d f e q h = record { is = rw (e, ne-eqb (u .node) n q); room = h }
+-- a view that is broken, whatever the arrays hold
+pub spoilt : (r : Shape) (ks vs : List ℕ) (w : View) → length ks ≡ 17 → length vs ≡ 17 → (r .stage ≡ Broken) × (r .len ≤ 16) → broken ≡ w
+    → StandsIn r ks vs w
+spoilt r ks vs w lk lv q e = record { is = rw (q .0) e; room = q .1; keys = lk; values = lv }
 
 -- ---- the loop: what the units from unit i on make of view w is what all of them make of view w₀
 module _ (limit n count : ℕ) (p : List ℕ) (w₀ : View) where
@@ -82,25 +70,22 @@ module _ (limit n count : ℕ) (p : List ℕ) (w₀ : View) where
         (ap (decodes limit (count - (i + 1))) (drop-drop 12 (12 * i) p ∙ ap (λ (m : ℕ). drop m p) (sym a)))
 
     -- a unit
-    pub left-next : (u : U.Unit) (t : View) → d ≡ Good u → t ≡ turnView n w d → Left (i + 1) t
+    pub left-next : (u : U.Unit) (t : View) → d ≡ Good u → t ≡ turnView n w (Good u) → Left (i + 1) t
     left-next u t e q = record {
       good = ap (λ (x : Decoded). all isGood (x ∷ rest (i + 1))) (sym e) ∙ ap (all isGood) (sym next) ∙ left .good;
-      is = ap (λ (v : View). viewAfter n v (rest (i + 1))) q ∙ ap (viewAfter n w) (sym next) ∙ left .is;
+      is = ap (λ (v : View). viewAfter n v (rest (i + 1))) (q ∙ ap (turnView n w) (sym e)) ∙ ap (viewAfter n w) (sym next) ∙ left .is;
     }
 
     -- no unit
-    pub stopped : (g : Folded) → d ≡ Bad → g .node .len ≤ 16 → Folds n w₀ (decodes limit count p) (record { good = false; folded = g })
-    stopped g e l = record {
-      good = ap (λ (x : Decoded). all isGood (x ∷ rest (i + 1))) (sym e) ∙ ap (all isGood) (sym next) ∙ left .good;
-      is = λ q. absurd (let z : _≡_ {A = ℕ} 0 1 = cc in omega arith);
-      room = l;
-    }
+    pub stopped : d ≡ Bad → broken ≡ viewOver n w₀ (decodes limit count p)
+    stopped e =
+        ap (λ (b : Bool). cond b (viewAfter n w₀ (decodes limit count p)) broken)
+        (ap (λ (x : Decoded). all isGood (x ∷ rest (i + 1))) (sym e) ∙ ap (all isGood) (sym next) ∙ left .good)
 
   -- all units are folded
-  pub ended : (i : ℕ) (g : Folded) → Left i (viewOf g) → count ≤ i → g .node .len ≤ 16
-      → Folds n w₀ (decodes limit count p) (record { good = true; folded = g })
-  ended i g left h l =
+  pub ended : (i : ℕ) (w : View) → Left i w → count ≤ i → w ≡ viewOver n w₀ (decodes limit count p)
+  ended i w left h =
       let e : count - i ≡ 0 = omega arith in
       let a = left .good in
       let b = left .is in
-      record { good = rw e at a; is = λ q. rw e at b; room = l }
+      (rw e at b) ∙ ap (λ (t : Bool). cond t (viewAfter n w₀ (decodes limit count p)) broken) (rw e at a)

@@ -1,4 +1,4 @@
--- What the loops of a node do to its two arrays, and what a node shows after an entry is put in, replaced or taken out. Assumes nothing.
+-- What the loops of a node do to its two arrays, and what these hold after an entry is put in, replaced or taken out. Assumes nothing.
 use mathlib.Core.Path.{_≡_, refl, sym, ap, _∙_}
 use mathlib.Core.List.{List, [], _∷_}
 use Prim.Native.Nat.{ℕ, zero, suc, _+_, _-_, _<_, _≤_}
@@ -7,12 +7,12 @@ use native.Mathlib.Numerals.{add-one}
 use native.Mathlib.Omega.{arith}
 use lib.Dec.{ltb}
 use lib.ListN.{length, take, drop, getD, set}
-use lib.Seq.{slice-cons, slice-empty, take-nil, take-take, take-all, length-take-le, getD-take, take-set-lt}
+use lib.Seq.{slice-cons, slice-empty, take-nil, take-take, length-take-le, getD-take, take-set-lt}
 use borrow.Author.Tests.{lt-ltb, le-ltb, eq-eqb, ne-eqb}
 use Rattle.lists.proofs.Tests.{cases}
 use Rattle.views.specs.declared.node.Node.{Node}
 use Rattle.views.specs.Nodes.{Entry, entry, insertEntry, deleteEntry}
-use Rattle.views.specs.NodeCode.{pairs, entriesOf, rank, insertAt, removeAt, Shows, Gained, Lost}
+use Rattle.views.specs.NodeCode.{pairs, entriesIn, entriesOf, rank, insertAt, removeAt, Keeps, Pushed, Pulled}
 
 -- ---- the loop of position
 -- a key below k is passed
@@ -45,11 +45,6 @@ module _ {A : Type 0} where
   take-insert-end a (suc n) zero (x ∷ xs) g h = absurd (not-suc-le-zero g)
   take-insert-end a (suc n) (suc m) (x ∷ xs) g h = ap (λ (r : List A). x ∷ r) (take-insert-end a n m xs (le-of-suc-le-suc g) (le-of-suc-le-suc h))
 
-  -- what is inserted past the end falls off
-  pub insert-done : (n i : ℕ) (a : A) (l whole : List A) → length l ≡ n → n ≤ i → take n (insertAt i a l) ≡ whole → l ≡ whole
-  insert-done n i a l whole e h q =
-      sym (take-all n l (omega arith)) ∙ sym (take-insert-end a n i l h (omega arith)) ∙ q
-
   -- ---- the loop of remove_at
   remove-pull-suc : (i : ℕ) (d : A) (l : List A) → suc i < length l → removeAt (suc i) (set l i (getD l (suc i) d)) ≡ removeAt i l
   remove-pull-suc i d [] h = absurd (not-suc-le-zero h)
@@ -80,22 +75,35 @@ module _ {A : Type 0} where
   take-insert-suc (suc n) (suc i) a [] h = refl
   take-insert-suc (suc n) (suc i) a (x ∷ xs) h = ap (λ (r : List A). x ∷ r) (take-insert-suc n i a xs (le-of-suc-le-suc h))
 
-  -- what insert_at leaves in the first n + 1 places
-  pub take-inserted : (n i : ℕ) (a : A) (r l : List A) → i ≤ n → n ≤ 16 → r ≡ take 17 (insertAt i a l) → take (n + 1) r ≡ insertAt i a (take n l)
-  take-inserted n i a r l h g e =
-      ap (take (n + 1)) e ∙ take-take (n + 1) 17 (insertAt i a l) (omega arith) ∙ rw add-one (take-insert-suc n i a l h)
-
   take-remove : (n i : ℕ) (l : List A) → i ≤ n → take n (removeAt i l) ≡ removeAt i (take (suc n) l)
   take-remove n i [] h = take-nil n
   take-remove n zero (x ∷ xs) h = refl
   take-remove zero (suc i) (x ∷ xs) h = absurd (not-suc-le-zero h)
   take-remove (suc n) (suc i) (x ∷ xs) h = ap (λ (r : List A). x ∷ r) (take-remove n i xs (le-of-suc-le-suc h))
 
-  -- what remove_at leaves in the first n - 1 places
-  pub take-removed : (n i : ℕ) (r l : List A) → i < n → n ≤ 17 → take 16 r ≡ removeAt i l → take (n - 1) r ≡ removeAt i (take n l)
-  take-removed n i r l h g e =
-      let s : suc (n - 1) ≡ n = omega arith in
-      sym (take-take (n - 1) 16 r (omega arith)) ∙ ap (take (n - 1)) e ∙ take-remove (n - 1) i l (omega arith) ∙ ap (λ (m : ℕ). removeAt i (take m l)) s
+  take-pulled : (n i : ℕ) (xs ys : List A) → i ≤ n → n < length ys → removeAt n ys ≡ removeAt i xs → take n ys ≡ removeAt i (take (suc n) xs)
+  take-pulled n i xs ys h g q =
+      sym (take-take n (suc n) ys (omega arith)) ∙ sym (remove-last n (take (suc n) ys) (length-take-le (suc n) ys (omega arith)))
+      ∙ sym (take-remove n n ys (omega arith)) ∙ ap (take n) q ∙ take-remove n i xs h
+
+-- what the loop of insert_at leaves
+pub pushed : (n p x i carry : ℕ) (xs ys : List ℕ) → p ≤ n → n < length xs → length ys ≡ length xs → n < i
+    → take (n + 1) (insertAt i carry ys) ≡ take (n + 1) (insertAt p x xs) → Pushed n p x xs ys
+pushed n p x i carry xs ys h g e j q = record {
+  is = sym (take-insert-end carry (n + 1) i ys (omega arith) (omega arith)) ∙ q ∙ rw add-one (take-insert-suc n p x xs h);
+  size = e;
+}
+
+-- what the loop of remove_at leaves
+pub pulled : (n p i : ℕ) (xs ys : List ℕ) → p < n → n ≤ length xs → length ys ≡ length xs → i ≡ n → removeAt (i - 1) ys ≡ removeAt p xs
+    → Pulled n p xs ys
+pulled n p i xs ys h g e j q =
+    let s : suc (n - 1) ≡ n = omega arith in
+    let t : i - 1 ≡ n - 1 = omega arith in
+    record {
+      is = take-pulled (n - 1) p xs ys (omega arith) (omega arith) (ap (λ (m : ℕ). removeAt m ys) (sym t) ∙ q) ∙ ap (λ (m : ℕ). removeAt p (take m xs)) s;
+      size = e;
+    }
 
 -- ---- insertEntry and deleteEntry on the two lists, by the place of the key
 -- the key stands at its place
@@ -143,60 +151,61 @@ length-pairs [] vs e = refl
 length-pairs (k ∷ ks) [] e = absurd (omega arith)
 length-pairs (k ∷ ks) (v ∷ vs) e = ap suc (length-pairs ks vs (omega arith))
 
+length-in : (n : ℕ) (ks vs : List ℕ) → length ks ≡ 17 → length vs ≡ 17 → n ≤ 17 → length (entriesIn n ks vs) ≡ n
+length-in n ks vs lk lv h =
+    let ek = length-take-le n ks (omega arith) in
+    let ev = length-take-le n vs (omega arith) in
+    length-pairs (take n ks) (take n vs) (ek ∙ sym ev) ∙ ek
+
 pub length-entries : (n : Node) → length (n .keys) ≡ 17 → length (n .values) ≡ 17 → n .len ≤ 17 → length (entriesOf n) ≡ n .len
-length-entries n lk lv h =
-    let ek = length-take-le (n .len) (n .keys) (omega arith) in
-    let ev = length-take-le (n .len) (n .values) (omega arith) in
-    length-pairs (take (n .len) (n .keys)) (take (n .len) (n .values)) (ek ∙ sym ev) ∙ ek
+length-entries n lk lv h = length-in (n .len) (n .keys) (n .values) lk lv h
 
--- a node whose level and entries are known
-pub shows : (r : Node) (l : ℕ) (es : List Entry) → length (r .keys) ≡ 17 → length (r .values) ≡ 17 → r .len ≤ 17 → r .level ≡ l → entriesOf r ≡ es → Shows r l es
-shows r l es lk lv h e q = record { same = e; is = q; len = ap length (sym q) ∙ length-entries r lk lv h; room = h }
+-- arrays whose entries are known
+keeps : (n : ℕ) (ks vs : List ℕ) (es : List Entry) → length ks ≡ 17 → length vs ≡ 17 → n ≤ 17 → entriesIn n ks vs ≡ es → Keeps n ks vs es
+keeps n ks vs es lk lv h q = record { is = q; len = ap length (sym q) ∙ length-in n ks vs lk lv h; keys = lk; values = lv; room = h }
 
--- ---- what a node shows, by the place i of key k
-module _ (n : Node) (k : ℕ) (lk : length (n .keys) ≡ 17) (lv : length (n .values) ≡ 17) (le : n .len ≤ 17) where
-  same : length (take (n .len) (n .keys)) ≡ length (take (n .len) (n .values))
-  same = length-take-le (n .len) (n .keys) (omega arith) ∙ sym (length-take-le (n .len) (n .values) (omega arith))
+-- ---- the first n entries, by the place i of key k
+module _ (n : ℕ) (ks vs : List ℕ) (k : ℕ) (lk : length ks ≡ 17) (lv : length vs ≡ 17) (le : n ≤ 17) where
+  same : length (take n ks) ≡ length (take n vs)
+  same = length-take-le n ks (omega arith) ∙ sym (length-take-le n vs (omega arith))
 
-  module _ (i : ℕ) (at : i ≡ rank k (take (n .len) (n .keys))) where
-    there : i < n .len → getD (n .keys) i 0 ≡ k → getD (take (n .len) (n .keys)) (rank k (take (n .len) (n .keys))) 0 ≡ k
-    there h q = rw (← at, getD-take (n .len) (n .keys) i 0 h) q
+  module _ (i : ℕ) (at : i ≡ rank k (take n ks)) where
+    within : i < n → rank k (take n ks) < length (take n ks)
+    within h = omega (arith, length-take-le n ks (omega arith))
 
-    missing : (i < n .len → getD (n .keys) i 0 ≡ k → ⊥)
-        → rank k (take (n .len) (n .keys)) < length (take (n .len) (n .keys)) → getD (take (n .len) (n .keys)) (rank k (take (n .len) (n .keys))) 0 ≡ k → ⊥
+    there : i < n → getD ks i 0 ≡ k → getD (take n ks) (rank k (take n ks)) 0 ≡ k
+    there h q = rw (← at, getD-take n ks i 0 h) q
+
+    missing : (i < n → getD ks i 0 ≡ k → ⊥) → rank k (take n ks) < length (take n ks) → getD (take n ks) (rank k (take n ks)) 0 ≡ k → ⊥
     missing f h q =
-        let g : i < n .len = omega (arith, length-take-le (n .len) (n .keys) (omega arith)) in
-        f g (sym (getD-take (n .len) (n .keys) i 0 g) ∙ (rw (← at) at q))
+        let g : i < n = omega (arith, length-take-le n ks (omega arith)) in
+        f g (sym (getD-take n ks i 0 g) ∙ (rw (← at) at q))
 
     -- an entry is put in at i
-    pub gained : (v : ℕ) (r : Node) → length (r .keys) ≡ 17 → length (r .values) ≡ 17 → n .len ≤ 16 → (i < n .len → getD (n .keys) i 0 ≡ k → ⊥) → Gained n i k v r
-        → Shows r (n .level) (insertEntry k v (entriesOf n))
-    gained v r rk rv h f g =
-        shows r (n .level) (insertEntry k v (entriesOf n)) rk rv (omega (arith, g .len)) (g .level)
-        (rw (g .keys, g .values, at, insert-miss k v (take (n .len) (n .keys)) (take (n .len) (n .values)) same (missing f)))
+    pub gained : (v r : ℕ) (ls ws : List ℕ) → n ≤ 16 → (i < n → getD ks i 0 ≡ k → ⊥) → Pushed n i k ks ls → Pushed n i v vs ws → r ≡ n + 1
+        → Keeps r ls ws (insertEntry k v (entriesIn n ks vs))
+    gained v r ls ws h f a b e =
+        keeps r ls ws (insertEntry k v (entriesIn n ks vs)) (a .size ∙ lk) (b .size ∙ lv) (omega arith)
+        (rw (e, a .is, b .is, at, insert-miss k v (take n ks) (take n vs) same (missing f)))
 
     -- the value at i is written anew
-    pub replaced : (v : ℕ) (r : Node) → length (r .values) ≡ 17 → i < n .len → getD (n .keys) i 0 ≡ k → r .level ≡ n .level → r .len ≡ n .len → r .keys ≡ n .keys
-        → r .values ≡ set (n .values) i v → Shows r (n .level) (insertEntry k v (entriesOf n))
-    replaced v r rv h q e₁ e₂ e₃ e₄ =
-        let g : rank k (take (n .len) (n .keys)) < length (take (n .len) (n .keys)) = omega (arith, length-take-le (n .len) (n .keys) (omega arith)) in
-        shows r (n .level) (insertEntry k v (entriesOf n)) (rw e₃ lk) rv (omega arith) e₁
-        (rw (e₂, e₃, e₄, take-set-lt (n .len) (n .values) i v h, at, insert-hit k v (take (n .len) (n .keys)) (take (n .len) (n .values)) same g (there h q)))
+    pub replaced : (v : ℕ) (ws : List ℕ) → length ws ≡ 17 → i < n → getD ks i 0 ≡ k → ws ≡ set vs i v → Keeps n ks ws (insertEntry k v (entriesIn n ks vs))
+    replaced v ws rv h q e =
+        keeps n ks ws (insertEntry k v (entriesIn n ks vs)) lk rv le
+        (rw (e, take-set-lt n vs i v h, at, insert-hit k v (take n ks) (take n vs) same (within h) (there h q)))
 
     -- the entry at i is taken out
-    pub lost : (r : Node) → length (r .keys) ≡ 17 → length (r .values) ≡ 17 → i < n .len → getD (n .keys) i 0 ≡ k → Lost n i r
-        → Shows r (n .level) (deleteEntry k (entriesOf n)) × (r .len ≤ n .len)
-    lost r rk rv h q g =
-        let s : rank k (take (n .len) (n .keys)) < length (take (n .len) (n .keys)) = omega (arith, length-take-le (n .len) (n .keys) (omega arith)) in (
-          shows r (n .level) (deleteEntry k (entriesOf n)) rk rv (omega (arith, g .len)) (g .level)
-              (rw (g .keys, g .values, at, delete-hit k (take (n .len) (n .keys)) (take (n .len) (n .values)) same s (there h q))),
-          omega (arith, g .len),
-        )
+    pub lost : (r : ℕ) (ls ws : List ℕ) → i < n → getD ks i 0 ≡ k → Pulled n i ks ls → Pulled n i vs ws → r ≡ n - 1
+        → Keeps r ls ws (deleteEntry k (entriesIn n ks vs)) × (r ≤ n)
+    lost r ls ws h q a b e = (
+      keeps r ls ws (deleteEntry k (entriesIn n ks vs)) (a .size ∙ lk) (b .size ∙ lv) (omega arith)
+          (rw (e, a .is, b .is, at, delete-hit k (take n ks) (take n vs) same (within h) (there h q))),
+      omega arith,
+    )
 
     -- the key is not there
-    pub unchanged : (i < n .len → getD (n .keys) i 0 ≡ k → ⊥) → Shows n (n .level) (deleteEntry k (entriesOf n)) × (n .len ≤ n .len)
+    pub unchanged : (i < n → getD ks i 0 ≡ k → ⊥) → Keeps n ks vs (deleteEntry k (entriesIn n ks vs)) × (n ≤ n)
     unchanged f = (
-      shows n (n .level) (deleteEntry k (entriesOf n)) lk lv le refl
-          (sym (delete-miss k (take (n .len) (n .keys)) (take (n .len) (n .values)) same (missing f))),
+      keeps n ks vs (deleteEntry k (entriesIn n ks vs)) lk lv le (sym (delete-miss k (take n ks) (take n vs) same (missing f))),
       omega arith,
     )

@@ -62,7 +62,8 @@ pub unit-below : (limit : ℕ) (b : List ℕ) (u : U.Unit) (d : Decoded) → d �
 unit-below limit b u d e q = below-unit u (subst (Below limit) (sym e ∙ q) (decode-below limit b))
 
 -- ---- the units of a page
-length-decodes : (limit n : ℕ) (b : List ℕ) → length (decodes limit n b) ≡ n
+-- as many as are read
+pub length-decodes : (limit n : ℕ) (b : List ℕ) → length (decodes limit n b) ≡ n
 length-decodes limit zero b = refl
 length-decodes limit (suc n) b = ap suc (length-decodes limit n (drop 12 b))
 

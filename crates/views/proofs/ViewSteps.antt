@@ -1,6 +1,5 @@
--- The steps of reading a node's view again: a run of units, a page, a slot of the node's list, the buffer. Assumes nothing.
+-- The steps of reading a node's view again: a page, a slot of the node's list, the buffer. Assumes nothing.
 use mathlib.Core.Path.{_≡_, sym, ap, ap₂, _∙_}
-use mathlib.Core.Bool.{true, false}
 use mathlib.Core.List.{List, [], _∷_, foldl}
 use Prim.Native.Nat.{ℕ, suc, _+_, _*_, _-_, _/_, _<_, _≤_}
 use native.Mathlib.Nat.{add-sub-cancel-left}
@@ -16,23 +15,12 @@ use Rattle.chip.specs.Geometry.{small}
 use Rattle.chip.specs.Page.{Page}
 use Rattle.chip.specs.Chip.{pagesOf}
 use Rattle.chip.proofs.ImageLaws.{length-pages, page-at}
-use Rattle.pages.specs.declared.unit.Decoded.{Decoded}
 use Rattle.pages.specs.Units.{half, decodes}
 use Rattle.views.specs.declared.fold.Folded.{Folded}
-use Rattle.views.specs.declared.fold.Folding.{Folding}
+use Rattle.views.specs.declared.fold.Shape.{Shape}
 use Rattle.views.specs.Nodes.{View, broken}
-use Rattle.views.specs.FoldCode.{Stands, Folds}
+use Rattle.views.specs.FoldCode.{foldedIn, Stands, StandsIn}
 use Rattle.views.specs.Stored.{storedList, viewOver, pageView, listView, bufferView}
-
--- ---- a run of units
-module _ (n : ℕ) (w : View) (ds : List Decoded) (f : Folding) (h : Folds n w ds f) where
-  -- all are units
-  pub all-units : f .good ≡ true → Stands (f .folded) (viewOver n w ds)
-  all-units e = record { is = h .is e ∙ rw (sym (h .good) ∙ e); room = h .room }
-
-  -- some 12 bytes are no unit
-  pub no-units : (r : Folded) → f .good ≡ false → Stands r broken → Stands r (viewOver n w ds)
-  no-units r e s = record { is = s .is ∙ rw (sym (h .good) ∙ e); room = s .room }
 
 -- ---- a page
 -- the units of a page from its data area, and from the page
@@ -43,26 +31,25 @@ page-body x h = ap (drop 8) (take-add 8 504 x) ∙ drop-at (take 8 x) (take 504 
 page-units : (x : Page) → half (take 512 x) 6 ≡ half x 6
 page-units x = ap₂ (λ (a b : ℕ). a + 256 * b) (getD-take 512 x 6 0 (omega arith)) (getD-take 512 x 7 0 (omega arith))
 
-module _ (limit n : ℕ) (w : View) (x : Page) (u : ℕ) (r : Folded) (eu : u ≡ half x 6) where
+module _ (limit n : ℕ) (w : View) (x : Page) (u : ℕ) (eu : u ≡ half x 6) where
   -- at most 42 units
-  pub page-few : length x ≡ 528 → u ≤ 42 → Stands r (viewOver n w (decodes limit u (take 504 (drop 8 x)))) → Stands r (pageView small limit n w x)
+  pub page-few : length x ≡ 528 → u ≤ 42 → viewOver n w (decodes limit u (take 504 (drop 8 x))) ≡ pageView small limit n w x
   unfolding pageView
-  page-few h l s = rw (page-units x ∙ sym eu, le-leb u 42 l, page-body x h) s
+  page-few h l = rw (page-units x ∙ sym eu, le-leb u 42 l, page-body x h)
 
   -- more
-  pub page-many : 42 < u → Stands r broken → Stands r (pageView small limit n w x)
+  pub page-many : 42 < u → broken ≡ pageView small limit n w x
   unfolding pageView
-  page-many l s = rw (page-units x ∙ sym eu, lt-leb u 42 l) s
+  page-many l = rw (page-units x ∙ sym eu, lt-leb u 42 l)
 
 -- ---- a page of the image
 module _ (limit n : ℕ) (w : View) (image : List ℕ) (p : ℕ) where
   -- on the chip
-  pub place-on : (r : Folded) → p < length image / 528 → Stands r (pageView small limit n w (part (p * 528) (p * 528 + 528 - p * 528) image))
-      → Stands r (pageView small limit n w (getD (pagesOf small image) p []))
-  place-on r h s =
-      let e : getD (pagesOf small image) p [] ≡ part (p * 528) (p * 528 + 528 - p * 528) image =
-      page-at small image p h ∙ ap (λ (k : ℕ). part (p * 528) k image) (sym (add-sub-cancel-left (p * 528) 528)) in
-      record { is = s .is ∙ ap (pageView small limit n w) (sym e); room = s .room }
+  pub place-on : p < length image / 528
+      → pageView small limit n w (part (p * 528) (p * 528 + 528 - p * 528) image) ≡ pageView small limit n w (getD (pagesOf small image) p [])
+  place-on h =
+      ap (pageView small limit n w)
+      (sym (page-at small image p h ∙ ap (λ (k : ℕ). part (p * 528) k image) (sym (add-sub-cancel-left (p * 528) 528))))
 
   -- past its end
   pub place-off : length image / 528 ≤ p → pageView small limit n w (getD (pagesOf small image) p []) ≡ w
@@ -110,17 +97,22 @@ module _ (lens slots : List ℕ) (n used : ℕ) (most : used ≤ 4) (low : used 
         ap (after limit pages n w) (sym (drop-of-length-le (storedList lens slots n) {i = i} (omega (arith, list-size)))) ∙ left
 
 -- ---- the buffer
-module _ (limit n count : ℕ) (bytes : List ℕ) (w : View) (r : Folded) where
+module _ (limit n count : ℕ) (bytes : List ℕ) (w : View) where
   -- at most 960 units
-  pub buffer-few : count ≤ 960 → Stands r (viewOver n w (decodes limit count bytes)) → Stands r (bufferView limit n count bytes w)
+  pub buffer-few : count ≤ 960 → viewOver n w (decodes limit count bytes) ≡ bufferView limit n count bytes w
   unfolding bufferView
-  buffer-few h s = rw (le-leb count 960 h) s
+  buffer-few h = rw (le-leb count 960 h)
 
   -- more
-  pub buffer-many : 960 < count → Stands r broken → Stands r (bufferView limit n count bytes w)
+  pub buffer-many : 960 < count → broken ≡ bufferView limit n count bytes w
   unfolding bufferView
-  buffer-many h s = rw (lt-leb count 960 h) s
+  buffer-many h = rw (lt-leb count 960 h)
 
-  -- the buffer after the pages
-  pub buffer-after : (v : View) → w ≡ v → Stands r (bufferView limit n count bytes w) → Stands r (bufferView limit n count bytes v)
-  buffer-after v e s = record { is = s .is ∙ ap (bufferView limit n count bytes) e; room = s .room }
+-- ---- a view in two arrays
+-- the same view by another name
+pub renamed : (r : Shape) (ks vs : List ℕ) (w v : View) → StandsIn r ks vs w → w ≡ v → StandsIn r ks vs v
+renamed r ks vs w v s e = record { is = s .is ∙ e; room = s .room; keys = s .keys; values = s .values }
+
+-- it is handed back with its entries
+pub handed : (r : Shape) (ks vs : List ℕ) (w : View) (f : Folded) → StandsIn r ks vs w → f ≡ foldedIn r ks vs → Stands f w
+handed r ks vs w f s e = rw e (record { is = s .is; room = s .room })

@@ -1,10 +1,10 @@
 -- How the code folds the units of one node: the view that its state shows, and what a run of units makes of that view.
 use mathlib.Core.Path.{_≡_}
-use mathlib.Core.Bool.{true, cond}
+use mathlib.Core.Bool.{cond}
 use mathlib.Core.List.{List, foldl}
 use Prim.Native.Nat.{ℕ, _≤_}
 use lib.Dec.{eqb}
-use Rattle.lists.specs.Lists.{all}
+use lib.ListN.{length}
 use Rattle.pages.specs.declared.unit.Update.{Update}
 use Rattle.pages.specs.declared.unit.Decoded.{Decoded}
 use Rattle.pages.specs.declared.unit.Decoded.the-variants.{Good, Bad}
@@ -12,10 +12,9 @@ use Rattle.views.specs.declared.node.Node.{Node}
 use Rattle.views.specs.declared.fold.Stage.{Stage}
 use Rattle.views.specs.declared.fold.Stage.the-variants.{Untouched, Broken, Full}
 use Rattle.views.specs.declared.fold.Folded.{Folded}
-use Rattle.views.specs.declared.fold.Folding.{Folding}
+use Rattle.views.specs.declared.fold.Shape.{Shape}
 use Rattle.views.specs.Nodes.{View, untouched, broken, view, apply}
 use Rattle.views.specs.NodeCode.{entriesOf}
-use Rattle.views.specs.Table.{isGood}
 
 -- the view that a stage and a node show
 abbrev pub viewAt : Stage → Node → View
@@ -31,9 +30,19 @@ pub record Stands (r : Folded) (w : View) : Type 0 where
   pub is : viewOf r ≡ w
   pub room : r .node .len ≤ 16
 
--- f after an update
-abbrev pub Applied : Folded → Update → Folded → Type 0
-Applied f u r = Stands r (apply (viewOf f) u)
+-- the view so far as one struct, from its shape and the arrays that hold its entries
+abbrev pub foldedIn : Shape → List ℕ → List ℕ → Folded
+foldedIn s ks vs = record { stage = s .stage; node = record { level = s .level; len = s .len; keys = ks; values = vs } }
+
+abbrev pub viewIn : Shape → List ℕ → List ℕ → View
+viewIn s ks vs = viewOf (foldedIn s ks vs)
+
+-- what a function that folds in two lent arrays ensures: the view, room for one entry more, and the arrays' lengths
+pub record StandsIn (r : Shape) (ks vs : List ℕ) (w : View) : Type 0 where
+  pub is : viewIn r ks vs ≡ w
+  pub room : r .len ≤ 16
+  pub keys : length ks ≡ 17
+  pub values : length vs ≡ 17
 
 -- what 12 bytes do to the view of node n: nothing where they are for another node, or no unit
 abbrev pub turnView : ℕ → View → Decoded → View
@@ -43,9 +52,3 @@ turnView n w Bad = w
 -- the view of node n after these
 abbrev pub viewAfter : ℕ → View → List Decoded → View
 viewAfter n w ds = foldl (turnView n) w ds
-
--- what a function that folds the units of node n from view w on ensures: whether all are units, and the view where they are
-pub record Folds (n : ℕ) (w : View) (ds : List Decoded) (r : Folding) : Type 0 where
-  pub good : r .good ≡ all isGood ds
-  pub is : r .good ≡ true → viewOf (r .folded) ≡ viewAfter n w ds
-  pub room : r .folded .node .len ≤ 16

@@ -2,7 +2,7 @@
 use mathlib.Core.Path.{_≡_}
 use mathlib.Core.Bool.{cond}
 use mathlib.Core.List.{List, [], _∷_}
-use Prim.Native.Nat.{ℕ, zero, suc, _+_, _≤_}
+use Prim.Native.Nat.{ℕ, zero, suc, _+_, _-_, _≤_}
 use lib.Dec.{ltb}
 use lib.ListN.{length, take}
 use Rattle.views.specs.declared.node.Node.{Node}
@@ -14,9 +14,13 @@ pairs [] vs = []
 pairs (k ∷ ks) [] = []
 pairs (k ∷ ks) (v ∷ vs) = entry k v ∷ pairs ks vs
 
+-- the entries of the first n keys and values
+abbrev pub entriesIn : ℕ → List ℕ → List ℕ → List Entry
+entriesIn n ks vs = pairs (take n ks) (take n vs)
+
 -- the entries of a node
 abbrev pub entriesOf : Node → List Entry
-entriesOf n = pairs (take (n .len) (n .keys)) (take (n .len) (n .values))
+entriesOf n = entriesIn (n .len) (n .keys) (n .values)
 
 -- the first index whose key is not below k, or the length
 abbrev pub rank : ℕ → List ℕ → ℕ
@@ -42,16 +46,20 @@ pub record Shows (r : Node) (level : ℕ) (es : List Entry) : Type 0 where
   pub len : length es ≡ r .len
   pub room : r .len ≤ 17
 
--- n with one entry more, at i
-pub record Gained (n : Node) (i k v : ℕ) (r : Node) : Type 0 where
-  pub level : r .level ≡ n .level
-  pub len : r .len ≡ n .len + 1
-  pub keys : take (r .len) (r .keys) ≡ insertAt i k (take (n .len) (n .keys))
-  pub values : take (r .len) (r .values) ≡ insertAt i v (take (n .len) (n .values))
+-- what a function that changes the entries in two lent arrays ensures: the entries, how many they are, and the arrays' lengths
+pub record Keeps (n : ℕ) (ks vs : List ℕ) (es : List Entry) : Type 0 where
+  pub is : entriesIn n ks vs ≡ es
+  pub len : length es ≡ n
+  pub keys : length ks ≡ 17
+  pub values : length vs ≡ 17
+  pub room : n ≤ 17
 
--- n with one entry less, that at i
-pub record Lost (n : Node) (i : ℕ) (r : Node) : Type 0 where
-  pub level : r .level ≡ n .level
-  pub len : r .len + 1 ≡ n .len
-  pub keys : take (r .len) (r .keys) ≡ removeAt i (take (n .len) (n .keys))
-  pub values : take (r .len) (r .values) ≡ removeAt i (take (n .len) (n .values))
+-- an array ys whose first n + 1 places hold the first n of xs with a at i
+pub record Pushed (n i a : ℕ) (xs ys : List ℕ) : Type 0 where
+  pub is : take (n + 1) ys ≡ insertAt i a (take n xs)
+  pub size : length ys ≡ length xs
+
+-- an array ys whose first n - 1 places hold the first n of xs without that at i
+pub record Pulled (n i : ℕ) (xs ys : List ℕ) : Type 0 where
+  pub is : take (n - 1) ys ≡ removeAt i (take n xs)
+  pub size : length ys ≡ length xs

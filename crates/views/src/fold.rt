@@ -1,15 +1,17 @@
-// One node while its units are folded.
+// One node while its units are folded: its entries stand in two lent arrays, and all else of its view is a small struct.
 ghost use mathlib.Core.Path.{_≡_};
 ghost use Prim.Native.Nat.{_*_, _≤_};
 ghost use lib.ListN.{length};
 ghost use Rattle.pages.specs.Units.{decodes};
 ghost use Rattle.pages.specs.declared.unit.Update.the-variants.{Insert, Delete};
-ghost use Rattle.views.specs.Nodes.{untouched, broken, view};
-ghost use Rattle.views.specs.NodeCode.{entriesOf};
-ghost use Rattle.views.specs.FoldCode.{viewOf, Stands, Applied, Folds};
+ghost use Rattle.pages.specs.declared.unit.Decoded.the-variants.{Good};
+ghost use Rattle.views.specs.Nodes.{broken, apply};
+ghost use Rattle.views.specs.FoldCode.{viewIn, StandsIn, turnView};
+ghost use Rattle.views.specs.Stored.{viewOver};
 use crate::node;
 use crate::node::Node;
 use pages::unit::Decoded;
+use pages::unit::Unit;
 use pages::unit::Update;
 use pages::unit::decode_unit;
 
@@ -26,119 +28,127 @@ pub struct Folded {
     pub node: Node,
 }
 
-// Whether all bytes were units, and what these made of the node.
-pub struct Folding {
-    pub good: bool,
-    pub folded: Folded,
+// A node's view so far, but for its entries: its stage, and where that is full its level and how many entries it has.
+pub struct Shape {
+    pub stage: Stage,
+    pub level: u32,
+    pub len: usize,
 }
 
-// A broken view; what the node holds does not count.
-fn broken(node: Node) -> Folded
-    requires { ⌜ node .len ≤ 16 ⌝ }
-    ensures { λ r. ⌜ Stands r broken ⌝ }
+// A broken view; what the arrays hold does not count.
+pub fn spoil(s: Shape) -> Shape
+    requires { ⌜ s .len ≤ 16 ⌝ }
+    ensures { λ r. ⌜ (r .stage ≡ Stage.Broken) × (r .len ≤ 16) ⌝ }
 {
-    Folded {
+    Shape {
         stage: Stage::Broken,
-        node,
-    }
-}
-
-// A view with the level and the entries of `node`.
-fn full(node: Node) -> Folded
-    requires { ⌜ node .len ≤ 16 ⌝ }
-    ensures { λ r. ⌜ Stands r (view (node .level) (entriesOf node)) ⌝ }
-{
-    Folded {
-        stage: Stage::Full,
-        node,
-    }
-}
-
-// A node before its first unit.
-pub fn start() -> Folded
-    ensures { λ r. ⌜ Stands r untouched × (r .node .len ≡ 0) ⌝ }
-{
-    let node = node::reset(0);
-    Folded {
-        stage: Stage::Untouched,
-        node,
+        level: s.level,
+        len: s.len,
     }
 }
 
 // An entry put in: a 17th entry breaks the view.
-fn insert(f: Folded, key: u32, value: u32) -> Folded
-    requires { ⌜ f .node .len ≤ 16 ⌝ }
-    ensures { λ r. ⌜ Applied f (Insert key value) r ⌝ }
+fn insert(s: Shape, keys: &mut [u32], values: &mut [u32], key: u32, value: u32) -> Shape
+    requires { ⌜ (length (now keys) ≡ 17) × (length (now values) ≡ 17) × (s .len ≤ 16) ⌝ }
+    ensures { λ r. ⌜ StandsIn r (now (keys .exit)) (now (values .exit)) (apply (viewIn s (now (keys .entry)) (now (values .entry))) (Insert key value)) ⌝ }
 {
-    let stage = f.stage;
-    let old = f.node;
+    let stage = s.stage;
     match stage {
-        Stage::Untouched => broken(old),
-        Stage::Broken => broken(old),
+        Stage::Untouched => spoil(s),
+        Stage::Broken => spoil(s),
         Stage::Full => {
-            let node = node::insert(old, key, value);
-            let len = node.len;
-            if len <= 16 { full(node) } else { broken(old) }
+            let len = node::put(keys, values, s.len, key, value);
+            if len <= 16 {
+                Shape {
+                    stage: Stage::Full,
+                    level: s.level,
+                    len,
+                }
+            } else {
+                spoil(s)
+            }
         }
     }
 }
 
 // An entry taken out.
-fn delete(f: Folded, key: u32) -> Folded
-    requires { ⌜ f .node .len ≤ 16 ⌝ }
-    ensures { λ r. ⌜ Applied f (Delete key) r ⌝ }
+fn delete(s: Shape, keys: &mut [u32], values: &mut [u32], key: u32) -> Shape
+    requires { ⌜ (length (now keys) ≡ 17) × (length (now values) ≡ 17) × (s .len ≤ 16) ⌝ }
+    ensures { λ r. ⌜ StandsIn r (now (keys .exit)) (now (values .exit)) (apply (viewIn s (now (keys .entry)) (now (values .entry))) (Delete key)) ⌝ }
 {
-    let stage = f.stage;
-    let old = f.node;
+    let stage = s.stage;
     match stage {
-        Stage::Untouched => broken(old),
-        Stage::Broken => broken(old),
+        Stage::Untouched => spoil(s),
+        Stage::Broken => spoil(s),
         Stage::Full => {
-            let node = node::delete(old, key);
-            full(node)
+            let len = node::take_out(keys, values, s.len, key);
+            Shape {
+                stage: Stage::Full,
+                level: s.level,
+                len,
+            }
         }
     }
 }
 
 // A node after one more of its units.
-pub fn apply(f: Folded, u: Update) -> Folded
-    requires { ⌜ f .node .len ≤ 16 ⌝ }
-    ensures { λ r. ⌜ Applied f u r ⌝ }
+fn apply(s: Shape, keys: &mut [u32], values: &mut [u32], u: Update) -> Shape
+    requires { ⌜ (length (now keys) ≡ 17) × (length (now values) ≡ 17) × (s .len ≤ 16) ⌝ }
+    ensures { λ r. ⌜ StandsIn r (now (keys .exit)) (now (values .exit)) (apply (viewIn s (now (keys .entry)) (now (values .entry))) u) ⌝ }
 {
     match u {
-        Update::Insert(key, value) => insert(f, key, value),
-        Update::Delete(key) => delete(f, key),
-        Update::Reset(level) => {
-            let node = node::reset(level);
-            full(node)
+        Update::Insert(key, value) => insert(s, keys, values, key, value),
+        Update::Delete(key) => delete(s, keys, values, key),
+        Update::Reset(level) => Shape {
+            stage: Stage::Full,
+            level,
+            len: 0,
+        },
+    }
+}
+
+// A node after one more unit, which counts where it is of `node`. Another node's unit gives the shape back field by field, without its padding.
+fn turn(s: Shape, keys: &mut [u32], values: &mut [u32], u: Unit, node: u32) -> Shape
+    requires { ⌜ (length (now keys) ≡ 17) × (length (now values) ≡ 17) × (s .len ≤ 16) ⌝ }
+    ensures { λ r. ⌜ StandsIn r (now (keys .exit)) (now (values .exit)) (turnView node (viewIn s (now (keys .entry)) (now (values .entry))) (Good u)) ⌝ }
+{
+    let n = u.node;
+    if n == node {
+        let update = u.update;
+        apply(s, keys, values, update)
+    } else {
+        let stage = s.stage;
+        Shape {
+            stage,
+            level: s.level,
+            len: s.len,
         }
     }
 }
 
-// The first `count` units, of which those of `node` count; it stops at the first 12 bytes that are no unit.
-pub fn fold_units(f: Folded, units: &[u8], count: usize, node: u32, limit: u32) -> Folding
-    requires { ⌜ (f .node .len ≤ 16) × (12 * count ≤ length (now units)) ⌝ }
-    ensures { λ r. ⌜ Folds node (viewOf f) (decodes limit count (now (units .entry))) r ⌝ }
+// A node after the first `count` units, of which those of `node` count; broken where 12 bytes are no unit.
+pub fn fold_units(
+    s: Shape,
+    keys: &mut [u32],
+    values: &mut [u32],
+    units: &[u8],
+    count: usize,
+    node: u32,
+    limit: u32,
+) -> Shape
+    requires { ⌜ (length (now keys) ≡ 17) × (length (now values) ≡ 17) × (s .len ≤ 16) × (12 * count ≤ length (now units)) ⌝ }
+    ensures { λ r. ⌜ StandsIn r (now (keys .exit)) (now (values .exit))
+        (viewOver node (viewIn s (now (keys .entry)) (now (values .entry))) (decodes limit count (now (units .entry)))) ⌝ }
 {
-    let mut g = f;
+    let mut g = s;
     let mut i: usize = 0;
     while i < count {
         let d = decode_unit(&units[12 * i..], limit);
         let Decoded::Good(u) = d else {
-            return Folding {
-                good: false,
-                folded: g,
-            };
+            return spoil(g);
         };
-        let n = u.node;
-        if n == node {
-            let update = u.update;
-            g = apply(g, update);
-        }
+        g = turn(g, keys, values, u, node);
         i += 1;
     }
-    Folding {
-        good: true,
-        folded: g,
-    }
+    g
 }

@@ -1,10 +1,10 @@
 // A node: its level and its entries in key order, with room for one entry more than a view holds.
 ghost use mathlib.Core.Path.{_≡_};
 ghost use mathlib.Core.List.{[]};
-ghost use Prim.Native.Nat.{_<_, _≤_};
-ghost use lib.ListN.{take};
+ghost use Prim.Native.Nat.{_+_, _-_, _<_, _≤_};
+ghost use lib.ListN.{length, take};
 ghost use Rattle.views.specs.Nodes.{insertEntry, deleteEntry};
-ghost use Rattle.views.specs.NodeCode.{entriesOf, rank, insertAt, removeAt, Shows, Gained, Lost};
+ghost use Rattle.views.specs.NodeCode.{entriesIn, entriesOf, rank, Pushed, Pulled, Keeps, Shows};
 
 // The entries are the first `len` keys, each with the value at its index.
 pub struct Node {
@@ -15,14 +15,13 @@ pub struct Node {
 }
 
 // The first index whose key is not below `key`, or the length.
-pub fn position(n: Node, key: u32) -> usize
-    requires { ⌜ n .len ≤ 17 ⌝ }
-    ensures { λ r. ⌜ (r ≡ rank key (take (n .len) (n .keys))) × (r ≤ n .len) ⌝ }
+fn position(keys: &[u32], len: usize, key: u32) -> usize
+    requires { ⌜ len ≤ length (now keys) ⌝ }
+    ensures { λ r. ⌜ (r ≡ rank key (take len (now (keys .entry)))) × (r ≤ len) ⌝ }
 {
-    let len = n.len;
     let mut i: usize = 0;
     while i < len {
-        if key <= n.keys[i] {
+        if key <= keys[i] {
             return i;
         }
         i += 1;
@@ -30,103 +29,101 @@ pub fn position(n: Node, key: u32) -> usize
     i
 }
 
-// `x` at `p`, and what stood from there on one place further; the last one falls off.
-fn insert_at(a: [u32; 17], p: usize, x: u32) -> [u32; 17]
-    ensures { λ r. ⌜ r ≡ take 17 (insertAt p x a) ⌝ }
+// `x` at `p`, and what stood from there on among the first `len` one place further.
+fn insert_at(a: &mut [u32], len: usize, p: usize, x: u32)
+    requires { ⌜ (p ≤ len) × (len < length (now a)) ⌝ }
+    ensures { λ _. ⌜ Pushed len p x (now (a .entry)) (now (a .exit)) ⌝ }
 {
-    let mut b = a;
     let mut carry = x;
     let mut i = p;
-    while i < 17 {
-        let t = b[i];
-        b[i] = carry;
+    while i <= len {
+        let t = a[i];
+        a[i] = carry;
         carry = t;
         i += 1;
     }
-    b
 }
 
-// Without what stands at `p`: what follows moves down, and the last place keeps what it had.
-fn remove_at(a: [u32; 17], p: usize) -> [u32; 17]
-    requires { ⌜ p < 17 ⌝ }
-    ensures { λ r. ⌜ take 16 r ≡ removeAt p a ⌝ }
+// Without what stands at `p`: what follows among the first `len` moves down.
+fn remove_at(a: &mut [u32], len: usize, p: usize)
+    requires { ⌜ (p < len) × (len ≤ length (now a)) ⌝ }
+    ensures { λ _. ⌜ Pulled len p (now (a .entry)) (now (a .exit)) ⌝ }
 {
-    let mut b = a;
     let mut i = p + 1;
-    while i < 17 {
-        b[i - 1] = b[i];
+    while i < len {
+        a[i - 1] = a[i];
         i += 1;
     }
-    b
 }
 
-// A new entry at `p`.
-fn gain(n: Node, p: usize, key: u32, value: u32) -> Node
-    requires { ⌜ (n .len ≤ 16) × (p ≤ n .len) ⌝ }
-    ensures { λ r. ⌜ Gained n p key value r ⌝ }
+// An entry more, at `p`. Returns how many there are then.
+fn gain(keys: &mut [u32], values: &mut [u32], len: usize, p: usize, key: u32, value: u32) -> usize
+    requires { ⌜ (length (now keys) ≡ 17) × (length (now values) ≡ 17) × (len ≤ 16) × (p ≤ len) ⌝ }
+    ensures { λ r. ⌜ Pushed len p key (now (keys .entry)) (now (keys .exit)) × Pushed len p value (now (values .entry)) (now (values .exit)) × (r ≡ len + 1) ⌝ }
 {
-    let len = n.len;
-    let ks = n.keys;
-    let vs = n.values;
-    let keys = insert_at(ks, p, key);
-    let values = insert_at(vs, p, value);
-    Node {
-        level: n.level,
-        len: len + 1,
-        keys,
-        values,
+    insert_at(keys, len, p, key);
+    insert_at(values, len, p, value);
+    len + 1
+}
+
+// The entry at `p` taken out. Returns how many are left.
+fn lose(keys: &mut [u32], values: &mut [u32], len: usize, p: usize) -> usize
+    requires { ⌜ (length (now keys) ≡ 17) × (length (now values) ≡ 17) × (len ≤ 17) × (p < len) ⌝ }
+    ensures { λ r. ⌜ Pulled len p (now (keys .entry)) (now (keys .exit)) × Pulled len p (now (values .entry)) (now (values .exit)) × (r ≡ len - 1) ⌝ }
+{
+    remove_at(keys, len, p);
+    remove_at(values, len, p);
+    len - 1
+}
+
+// `key` with `value` among the first `len` entries, in the place of an equal key if there is one. Returns how many there are then.
+pub fn put(keys: &mut [u32], values: &mut [u32], len: usize, key: u32, value: u32) -> usize
+    requires { ⌜ (length (now keys) ≡ 17) × (length (now values) ≡ 17) × (len ≤ 16) ⌝ }
+    ensures { λ r. ⌜ Keeps r (now (keys .exit)) (now (values .exit)) (insertEntry key value (entriesIn len (now (keys .entry)) (now (values .entry)))) ⌝ }
+{
+    let p = position(keys, len, key);
+    if p < len {
+        if keys[p] == key {
+            values[p] = value;
+            len
+        } else {
+            gain(keys, values, len, p, key, value)
+        }
+    } else {
+        gain(keys, values, len, p, key, value)
     }
 }
 
-// The entry at `p` taken out.
-fn lose(n: Node, p: usize) -> Node
-    requires { ⌜ (n .len ≤ 17) × (p < n .len) ⌝ }
-    ensures { λ r. ⌜ Lost n p r ⌝ }
+// The first `len` entries without `key`, if it is there. Returns how many are left.
+pub fn take_out(keys: &mut [u32], values: &mut [u32], len: usize, key: u32) -> usize
+    requires { ⌜ (length (now keys) ≡ 17) × (length (now values) ≡ 17) × (len ≤ 17) ⌝ }
+    ensures { λ r. ⌜ Keeps r (now (keys .exit)) (now (values .exit)) (deleteEntry key (entriesIn len (now (keys .entry)) (now (values .entry)))) × (r ≤ len) ⌝ }
 {
-    let len = n.len;
-    let ks = n.keys;
-    let vs = n.values;
-    let keys = remove_at(ks, p);
-    let values = remove_at(vs, p);
-    Node {
-        level: n.level,
-        len: len - 1,
-        keys,
-        values,
+    let p = position(keys, len, key);
+    if p < len {
+        if keys[p] == key {
+            lose(keys, values, len, p)
+        } else {
+            len
+        }
+    } else {
+        len
     }
 }
 
-// `key` with `value`, in the place of an equal key if there is one.
+// A node with `key` and `value`, in the place of an equal key if there is one.
 pub fn insert(n: Node, key: u32, value: u32) -> Node
     requires { ⌜ n .len ≤ 16 ⌝ }
     ensures { λ r. ⌜ Shows r (n .level) (insertEntry key value (entriesOf n)) ⌝ }
 {
-    let p = position(n, key);
-    let len = n.len;
-    if p < len {
-        if n.keys[p] == key {
-            let mut r = n;
-            r.values[p] = value;
-            r
-        } else {
-            gain(n, p, key, value)
-        }
-    } else {
-        gain(n, p, key, value)
-    }
-}
-
-// Without `key`, if it is there.
-pub fn delete(n: Node, key: u32) -> Node
-    requires { ⌜ n .len ≤ 17 ⌝ }
-    ensures { λ r. ⌜ Shows r (n .level) (deleteEntry key (entriesOf n)) × (r .len ≤ n .len) ⌝ }
-{
-    let p = position(n, key);
-    let len = n.len;
-    if p < len {
-        if n.keys[p] == key { lose(n, p) } else { n }
-    } else {
-        n
+    let mut keys = n.keys;
+    let mut values = n.values;
+    let len = put(&mut keys, &mut values, n.len, key, value);
+    Node {
+        level: n.level,
+        len,
+        keys,
+        values,
     }
 }
 

@@ -5,65 +5,60 @@ ghost use Prim.Native.Nat.{_+_, _*_, _%_, _<_, _≤_};
 ghost use lib.ListN.{length, getD};
 ghost use Rattle.chip.specs.Geometry.{small};
 ghost use Rattle.chip.specs.Chip.{pagesOf};
-ghost use Rattle.pages.specs.Units.{decodes};
-ghost use Rattle.views.specs.Nodes.{broken};
-ghost use Rattle.views.specs.FoldCode.{viewOf, Stands};
-ghost use Rattle.views.specs.Stored.{storedList, viewOver, pageView, listView, bufferView, nodeView};
+ghost use Rattle.views.specs.FoldCode.{viewIn, foldedIn, Stands, StandsIn};
+ghost use Rattle.views.specs.Stored.{storedList, pageView, listView, bufferView, nodeView};
 use crate::fold;
 use crate::fold::Folded;
+use crate::fold::Shape;
 use crate::fold::Stage;
+use crate::node::Node;
 use chip::geometry::DATA;
 use chip::geometry::PAGE;
 use chip::geometry::UNITS;
 use pages::unit;
 
-// A broken view in the place of `f`.
-fn spoil(f: Folded) -> Folded
-    requires { ⌜ f .node .len ≤ 16 ⌝ }
-    ensures { λ r. ⌜ Stands r broken ⌝ }
-{
-    let node = f.node;
-    Folded {
-        stage: Stage::Broken,
-        node,
-    }
-}
-
-// `f` after the first `count` units; broken where 12 bytes are no unit.
-fn units_view(f: Folded, units: &[u8], count: usize, node: u32, limit: u32) -> Folded
-    requires { ⌜ (f .node .len ≤ 16) × (12 * count ≤ length (now units)) ⌝ }
-    ensures { λ r. ⌜ Stands r (viewOver node (viewOf f) (decodes limit count (now (units .entry)))) ⌝ }
-{
-    let folding = fold::fold_units(f, units, count, node, limit);
-    let folded = folding.folded;
-    if folding.good { folded } else { spoil(folded) }
-}
-
-// `f` after the units of a page; broken where the page claims more units than it holds.
-fn page_view(f: Folded, page: &[u8], node: u32, limit: u32) -> Folded
-    requires { ⌜ (f .node .len ≤ 16) × (length (now page) ≡ 528) ⌝ }
-    ensures { λ r. ⌜ Stands r (pageView small limit node (viewOf f) (now (page .entry))) ⌝ }
+// A node after the units of a page; broken where the page claims more units than it holds.
+fn page_view(
+    s: Shape,
+    keys: &mut [u32],
+    values: &mut [u32],
+    page: &[u8],
+    node: u32,
+    limit: u32,
+) -> Shape
+    requires { ⌜ (length (now keys) ≡ 17) × (length (now values) ≡ 17) × (s .len ≤ 16) × (length (now page) ≡ 528) ⌝ }
+    ensures { λ r. ⌜ StandsIn r (now (keys .exit)) (now (values .exit))
+        (pageView small limit node (viewIn s (now (keys .entry)) (now (values .entry))) (now (page .entry))) ⌝ }
 {
     let units = unit::read_half(page, 6) as usize;
     if units <= UNITS {
-        units_view(f, &page[8..DATA], units, node, limit)
+        fold::fold_units(s, keys, values, &page[8..DATA], units, node, limit)
     } else {
-        spoil(f)
+        fold::spoil(s)
     }
 }
 
-// `f` after the units of page `at`; a page that is not on the chip adds nothing.
-fn place_view(f: Folded, image: &[u8], at: u32, node: u32, limit: u32) -> Folded
-    requires { ⌜ (f .node .len ≤ 16) × (length (now image) % 528 ≡ 0) ⌝ }
-    ensures { λ r. ⌜ Stands r (pageView small limit node (viewOf f) (getD (pagesOf small (now (image .entry))) at [])) ⌝ }
+// A node after the units of page `at`; a page that is not on the chip adds nothing.
+fn place_view(
+    s: Shape,
+    keys: &mut [u32],
+    values: &mut [u32],
+    image: &[u8],
+    at: u32,
+    node: u32,
+    limit: u32,
+) -> Shape
+    requires { ⌜ (length (now keys) ≡ 17) × (length (now values) ≡ 17) × (s .len ≤ 16) × (length (now image) % 528 ≡ 0) ⌝ }
+    ensures { λ r. ⌜ StandsIn r (now (keys .exit)) (now (values .exit))
+        (pageView small limit node (viewIn s (now (keys .entry)) (now (values .entry))) (getD (pagesOf small (now (image .entry))) at [])) ⌝ }
 {
     let p = at as usize;
     if p < image.len() / PAGE {
         let a = p * PAGE;
         let e = a + PAGE;
-        page_view(f, &image[a..e], node, limit)
+        page_view(s, keys, values, &image[a..e], node, limit)
     } else {
-        f
+        s
     }
 }
 
@@ -90,20 +85,48 @@ fn slot(slots: &[u32], node: u32, i: usize) -> u32
     slots[base + i]
 }
 
-// The view of `node` from the pages of its list, with the arrays as slices.
-fn slots_view(image: &[u8], lens: &[u32], slots: &[u32], node: u32, limit: u32) -> Folded
-    requires { ⌜ (length (now image) % 528 ≡ 0) × (length (now lens) ≡ 256) × (length (now slots) ≡ 1024) ⌝ }
-    ensures { λ r. ⌜ Stands r (listView small limit (pagesOf small (now (image .entry))) node (storedList (now (lens .entry)) (now (slots .entry)) node)) ⌝ }
+// The view of `node` from the pages of its list, its entries put into `keys` and `values`.
+fn slots_view(
+    keys: &mut [u32],
+    values: &mut [u32],
+    image: &[u8],
+    lens: &[u32],
+    slots: &[u32],
+    node: u32,
+    limit: u32,
+) -> Shape
+    requires { ⌜ (length (now keys) ≡ 17) × (length (now values) ≡ 17)
+        × (length (now image) % 528 ≡ 0) × (length (now lens) ≡ 256) × (length (now slots) ≡ 1024) ⌝ }
+    ensures { λ r. ⌜ StandsIn r (now (keys .exit)) (now (values .exit))
+        (listView small limit (pagesOf small (now (image .entry))) node (storedList (now (lens .entry)) (now (slots .entry)) node)) ⌝ }
 {
     let used = used_slots(lens, node);
-    let mut f = fold::start();
+    let mut s = Shape {
+        stage: Stage::Untouched,
+        level: 0,
+        len: 0,
+    };
     let mut i: usize = 0;
     while i < used {
         let at = slot(slots, node, i);
-        f = place_view(f, image, at, node, limit);
+        s = place_view(s, keys, values, image, at, node, limit);
         i += 1;
     }
-    f
+    s
+}
+
+// A view with its entries.
+fn whole(s: Shape, keys: [u32; 17], values: [u32; 17]) -> Folded
+    ensures { λ r. ⌜ r ≡ foldedIn s keys values ⌝ }
+{
+    let stage = s.stage;
+    let node = Node {
+        level: s.level,
+        len: s.len,
+        keys,
+        values,
+    };
+    Folded { stage, node }
 }
 
 // The view of `node` from the pages of its list, the oldest first.
@@ -117,18 +140,30 @@ pub fn list_view(
     requires { ⌜ length (now image) % 528 ≡ 0 ⌝ }
     ensures { λ r. ⌜ Stands r (listView small limit (pagesOf small (now (image .entry))) node (storedList (now (lens .entry)) (now (slots .entry)) node)) ⌝ }
 {
-    slots_view(image, lens, slots, node, limit)
+    let mut keys: [u32; 17] = [0; 17];
+    let mut values: [u32; 17] = [0; 17];
+    let s = slots_view(&mut keys, &mut values, image, lens, slots, node, limit);
+    whole(s, keys, values)
 }
 
-// `f` after the units of the buffer; broken where the buffer claims more than 960.
-fn buffer_view(f: Folded, buffer: &[u8; 11520], count: usize, node: u32, limit: u32) -> Folded
-    requires { ⌜ f .node .len ≤ 16 ⌝ }
-    ensures { λ r. ⌜ Stands r (bufferView limit node count (now (buffer .entry)) (viewOf f)) ⌝ }
+// A node after the units of the buffer; broken where the buffer claims more than 960.
+fn buffer_view(
+    s: Shape,
+    keys: &mut [u32],
+    values: &mut [u32],
+    buffer: &[u8; 11520],
+    count: usize,
+    node: u32,
+    limit: u32,
+) -> Shape
+    requires { ⌜ (length (now keys) ≡ 17) × (length (now values) ≡ 17) × (s .len ≤ 16) ⌝ }
+    ensures { λ r. ⌜ StandsIn r (now (keys .exit)) (now (values .exit))
+        (bufferView limit node count (now (buffer .entry)) (viewIn s (now (keys .entry)) (now (values .entry)))) ⌝ }
 {
     if count <= 960 {
-        units_view(f, buffer, count, node, limit)
+        fold::fold_units(s, keys, values, buffer, count, node, limit)
     } else {
-        spoil(f)
+        fold::spoil(s)
     }
 }
 
@@ -145,6 +180,9 @@ pub fn node_view(
     requires { ⌜ length (now image) % 528 ≡ 0 ⌝ }
     ensures { λ r. ⌜ Stands r (nodeView small limit (pagesOf small (now (image .entry))) (now (lens .entry)) (now (slots .entry)) count (now (buffer .entry)) node) ⌝ }
 {
-    let f = list_view(image, lens, slots, node, limit);
-    buffer_view(f, buffer, count, node, limit)
+    let mut keys: [u32; 17] = [0; 17];
+    let mut values: [u32; 17] = [0; 17];
+    let s = slots_view(&mut keys, &mut values, image, lens, slots, node, limit);
+    let t = buffer_view(s, &mut keys, &mut values, buffer, count, node, limit);
+    whole(t, keys, values)
 }

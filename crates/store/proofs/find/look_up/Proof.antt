@@ -1,93 +1,27 @@
-use mathlib.Core.Path.{refl, sym, ap, _∙_}
-use native.Mathlib.Omega.{arith}
-use Rattle.tree.specs.Tree.{absent, found}
-use Rattle.tree.specs.FindCode.{hitOf}
-use Rattle.store.specs.Admit.{admitNumber}
-use Rattle.store.specs.declared.answer.Look.the-variants as L
-use Rattle.store.proofs.CallLaws.{look-refused, looked}
+use mathlib.Core.Path.{refl}
+use Rattle.store.specs.declared.answer.Look.{Look}
+use Rattle.store.specs.declared.state.State.{State}
+use Rattle.store.specs.Contracts.{Looks}
+use Rattle.store.proofs.PartLaws.{of-parts}
 use borrow.Author.Needs.{needs}
 use Rattle.store.proofs.find.look_up.Statement.{statement}
 use Rattle.store.proofs.find.look_up.Tie as tie
+use Rattle.store.proofs.find.look_up.Reads as reads
+use Rattle.store.proofs.find.look_up.Lts as lts
+use Rattle.store.proofs.find.look_up_lent.Reads as look-up-lent-reads
+use Rattle.store.proofs.state.numbers_of.Reads as numbers-of-reads
 
-admit-requires : tie.Need-admit-requires
-admit-requires c κs = search needs
+numbers-of-requires : tie.Need-numbers-of-requires
+numbers-of-requires c κs = search needs
 
-enum-told : tie.Need-enum-told
-enum-told c = search needs
-
-enum-told-2 : tie.Need-enum-told-2
-enum-told-2 c = search needs
-
-enum-told-3 : tie.Need-enum-told-3
-enum-told-3 c = search needs
-
-mul-limit : tie.Need-mul-limit
-mul-limit c =
-    let m = c .before .before in
-    let h = m .admit .ensures .chip (c .enum-told3 .given .1) in
-    record { fits = omega (arith, h .most) }
-
-cast-limit : tie.Need-cast-limit
-cast-limit c =
-    let m = c .before .before in
-    let h = m .admit .ensures .chip (c .enum-told3 .given .1) in
-    record { fits = omega (arith, h .most) }
-
-find-in-requires : tie.Need-find-in-requires
-find-in-requires c κs =
-    let k = c .before .before .before .before in
-    let m = k .before .before in
-    let h = m .admit .ensures .chip (k .enum-told3 .given .1) in
-    omega (arith, h .size)
-
-enum-known-hit : tie.Need-enum-known-hit
-enum-known-hit c = search needs
-
-enum-told-4 : tie.Need-enum-told-4
-enum-told-4 c = search needs
+look-up-lent-requires : tie.Need-look-up-lent-requires
+look-up-lent-requires c κs = search needs
 
 returns : tie.Need-returns
 returns c =
-    let m = c .before .before in
-    let a = m .before .before .args in
-    look-refused (a .key) (a .t1) (a .image .now) L.Off 1 refl refl (sym (ap admitNumber (c .enum-told .given .1)) ∙ m .admit .ensures .number)
-
-returns-2 : tie.Need-returns-2
-returns-2 c =
-    let m = c .before .before in
-    let a = m .before .before .args in
-    look-refused (a .key) (a .t1) (a .image .now) L.Size 0 refl refl (sym (ap admitNumber (c .enum-told2 .given .1)) ∙ m .admit .ensures .number)
-
-returns-3 : tie.Need-returns-3
-returns-3 c =
-    let f = c .before .before .before in
-    let k = f .before .before .before .before .before in
-    let m = k .before .before in
-    let a = m .before .before .args in
-    looked (a .key) (a .t1) (a .image .now) (sym (ap admitNumber (k .enum-told3 .given .1)) ∙ m .admit .ensures .number) (f .find-in .result) (f .find-in .ensures) (found _) (ap hitOf (c .before .hit .given .1))
-
-returns-4 : tie.Need-returns-4
-returns-4 c =
-    let f = c .before .before in
-    let k = f .before .before .before .before .before in
-    let m = k .before .before in
-    let a = m .before .before .args in
-    looked (a .key) (a .t1) (a .image .now) (sym (ap admitNumber (k .enum-told3 .given .1)) ∙ m .admit .ensures .number) (f .find-in .result) (f .find-in .ensures) absent (ap hitOf (c .enum-told4 .given .1))
+    let n = c .before .before .before .before .before in
+    let a = n .before .before .args in
+    of-parts (a .t1) (n .numbers-of .result) (n .numbers-of .ensures) (λ (s : State) (r : Look). Looks (a .key) s (a .image .now) r) _ _ refl (c .look-up-lent .ensures)
 
 pub look-up-spec : {M : Type 1} → statement M
-look-up-spec =
-    tie.close
-    (tie.spec
-    admit-requires
-    enum-told
-    enum-told-2
-    enum-told-3
-    mul-limit
-    cast-limit
-    find-in-requires
-    enum-known-hit
-    enum-told-4
-    returns
-    returns-2
-    returns-3
-    returns-4)
+look-up-spec = tie.close (tie.spec numbers-of-requires look-up-lent-requires returns)

@@ -1,93 +1,28 @@
-use mathlib.Core.Path.{sym, ap, _∙_}
-use Prim.Native.Nat.{_+_, _*_, _-_}
-use native.Mathlib.Nat.{add-sub-cancel-left}
-use native.Mathlib.Omega.{arith}
-use Rattle.store.specs.Admit.{admitNumber}
-use Rattle.store.specs.declared.answer.Report.the-variants as R
-use Rattle.store.proofs.ReportLaws.{report-first, report-absent, report-free}
+use mathlib.Core.Path.{refl}
+use Rattle.store.specs.declared.answer.Report.{Report}
+use Rattle.store.specs.declared.state.State.{State}
+use Rattle.store.specs.Contracts.{Reports}
+use Rattle.store.proofs.PartLaws.{of-parts}
 use borrow.Author.Needs.{needs}
 use Rattle.store.proofs.report.block_report.Statement.{statement}
 use Rattle.store.proofs.report.block_report.Tie as tie
+use Rattle.store.proofs.report.block_report.Reads as reads
+use Rattle.store.proofs.report.block_report.Lts as lts
+use Rattle.store.proofs.report.block_report_lent.Reads as block-report-lent-reads
+use Rattle.store.proofs.state.numbers_of.Reads as numbers-of-reads
 
-admit-requires : tie.Need-admit-requires
-admit-requires c κs = search needs
+numbers-of-requires : tie.Need-numbers-of-requires
+numbers-of-requires c κs = search needs
 
-enum-told : tie.Need-enum-told
-enum-told c = search needs
-
-enum-told-2 : tie.Need-enum-told-2
-enum-told-2 c = search needs
-
-enum-told-3 : tie.Need-enum-told-3
-enum-told-3 c = search needs
+block-report-lent-requires : tie.Need-block-report-lent-requires
+block-report-lent-requires c κs = search needs
 
 returns : tie.Need-returns
 returns c =
-    let k = c .before in
-    let m = k .before .before in
-    let a = m .before .before .args in
-    report-absent (a .at) (a .state) (a .image .now) (sym (ap admitNumber (k .enum-told3 .given .1)) ∙ m .admit .ensures .number) (omega (arith, c .if1 .taken))
-
-mul-a : tie.Need-mul-a
-mul-a c = search needs
-
-add-e : tie.Need-add-e
-add-e c = search needs
-
-sub-free-pages : tie.Need-sub-free-pages
-sub-free-pages c = search needs
-
-part-free-pages-start : tie.Need-part-free-pages-start
-part-free-pages-start c = search needs
-
-part-free-pages-end : tie.Need-part-free-pages-end
-part-free-pages-end c =
-    let k = c .before in
-    let m = k .before .before in
-    let h = m .admit .ensures .chip (k .enum-told3 .given .1) in
-    omega (arith, h .size, c .if1 .left)
-
-free-pages-requires : tie.Need-free-pages-requires
-free-pages-requires c κs = search needs
-
-returns-2 : tie.Need-returns-2
-returns-2 c =
-    let m = c .before .before in
-    let a = m .before .before .args in
-    report-first (a .at) (a .state) (a .image .now) R.Off (omega arith) (sym (ap admitNumber (c .enum-told .given .1)) ∙ m .admit .ensures .number)
-
-returns-3 : tie.Need-returns-3
-returns-3 c =
-    let m = c .before .before in
-    let a = m .before .before .args in
-    report-first (a .at) (a .state) (a .image .now) R.Size (omega arith) (sym (ap admitNumber (c .enum-told2 .given .1)) ∙ m .admit .ensures .number)
-
-returns-4 : tie.Need-returns-4
-returns-4 c =
-    let e = c .before .before in
-    let k = e .before in
-    let m = k .before .before in
-    let a = m .before .before .args in
-    let h = m .admit .ensures .chip (k .enum-told3 .given .1) in
-    report-free (a .at) (a .state) (a .image .now) (sym (ap admitNumber (k .enum-told3 .given .1)) ∙ m .admit .ensures .number)
-    (omega (arith, e .if1 .left)) (h .size) _ _ (a .at * 16896 + 16896 - a .at * 16896) (add-sub-cancel-left (a .at * 16896) 16896)
-    (c .free-pages .ensures .0) (c .free-pages .ensures .1)
+    let n = c .before in
+    let a = n .before .before .args in
+    of-parts (a .state) (n .numbers-of .result) (n .numbers-of .ensures) (λ (s : State) (r : Report). Reports (a .at) s (a .image .now) r) _ _ refl
+    (c .block-report-lent .ensures (a .state .buffer) (a .state .lens) (a .state .slots))
 
 pub block-report-spec : {M : Type 1} → statement M
-block-report-spec =
-    tie.close
-    (tie.spec
-    admit-requires
-    enum-told
-    enum-told-2
-    enum-told-3
-    returns
-    mul-a
-    add-e
-    sub-free-pages
-    part-free-pages-start
-    part-free-pages-end
-    free-pages-requires
-    returns-2
-    returns-3
-    returns-4)
+block-report-spec = tie.close (tie.spec numbers-of-requires block-report-lent-requires returns)

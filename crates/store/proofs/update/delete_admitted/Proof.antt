@@ -1,5 +1,6 @@
 use Prim.Native.Nat.{_<_}
 use Rattle.tree.specs.Step6.{top}
+use Rattle.store.specs.Parts.{joined}
 use Rattle.store.proofs.UpdateLaws.{delete-many, delete-absent, delete-accepted}
 use borrow.Author.Needs.{needs}
 use Rattle.store.proofs.update.delete_admitted.Statement.{statement}
@@ -9,7 +10,8 @@ returns : tie.Need-returns
 returns c =
     let t = c .before .before in
     let a = t .args in
-    delete-many (a .t1) (a .image .now) (t .pre .1) (c .if1 .taken) (a .key)
+    let s = joined (a .numbers) (a .buffer .now) (a .lens .now) (a .slots .now) in
+    delete-many s (a .image .now) (t .pre .1) (c .if1 .taken) (a .key)
 
 mul-limit : tie.Need-mul-limit
 mul-limit c = search needs
@@ -17,8 +19,8 @@ mul-limit c = search needs
 cast-limit : tie.Need-cast-limit
 cast-limit c = search needs
 
-find-in-requires : tie.Need-find-in-requires
-find-in-requires c κs = search needs
+find-requires : tie.Need-find-requires
+find-requires c κs = search needs
 
 enum-told : tie.Need-enum-told
 enum-told c = search needs
@@ -26,27 +28,30 @@ enum-told c = search needs
 enum-told-2 : tie.Need-enum-told-2
 enum-told-2 c = search needs
 
-delete-in-requires : tie.Need-delete-in-requires
-delete-in-requires c κs = search needs
+delete-requires : tie.Need-delete-requires
+delete-requires c κs = search needs
 
-add-s : tie.Need-add-s
-add-s c = search needs
+add-n : tie.Need-add-n
+add-n c = search needs
 
 returns-2 : tie.Need-returns-2
 returns-2 c =
     let f = c .before .before in
-    let t = f .before .before .before .before .before .before .before .before in
+    let t = f .before .before .before .before .before in
     let a = t .args in
-    delete-absent (a .t1) (a .image .now) (t .pre .1) (a .key) (f .find-in .result) (f .find-in .ensures) (c .enum-told .given .1)
+    let s = joined (a .numbers) (a .buffer .now) (a .lens .now) (a .slots .now) in
+    delete-absent s (a .image .now) (t .pre .1) (a .key) (f .find .result) (f .find .ensures) (c .enum-told .given .1)
 
 returns-3 : tie.Need-returns-3
 returns-3 c =
-    let h = c .before .before .before .before .before in
+    let d = c .before in
+    let h = d .before .before in
     let f = h .before .before in
-    let t = f .before .before .before .before .before .before .before .before in
+    let t = f .before .before .before .before .before in
     let a = t .args in
+    let s = joined (a .numbers) (a .buffer .now) (a .lens .now) (a .slots .now) in
     let hk : a .key < top = search needs in
-    delete-accepted (a .t1) (a .image .now) (t .pre .1) (a .key) (f .find-in .result) (f .find-in .ensures) hk _ (c .delete-in .result) (c .delete-in .ensures) _ (h .enum-told2 .given .1)
+    delete-accepted s (a .image .now) (t .pre .1) (a .key) (f .find .result) (f .find .ensures) hk _ (d .delete .result) (d .delete .ensures) _ (h .enum-told2 .given .1)
 
 pub delete-admitted-spec : {M : Type 1} → statement M
 delete-admitted-spec =
@@ -55,10 +60,10 @@ delete-admitted-spec =
     returns
     mul-limit
     cast-limit
-    find-in-requires
+    find-requires
     enum-told
     enum-told-2
-    delete-in-requires
-    add-s
+    delete-requires
+    add-n
     returns-2
     returns-3)

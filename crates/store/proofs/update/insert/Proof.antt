@@ -1,65 +1,32 @@
-use mathlib.Core.Path.{refl, sym, ap, _∙_}
-use native.Mathlib.Omega.{arith}
-use Rattle.store.specs.Admit.{admitNumber}
-use Rattle.store.proofs.CallLaws.{insert-refused, insert-full, insert-done}
+use Rattle.store.specs.declared.state.State.{State}
+use Rattle.store.specs.declared.state.Updated.{Updated}
+use Rattle.store.specs.Contracts.{Inserts}
+use Rattle.store.proofs.PartLaws.{of-parts}
 use borrow.Author.Needs.{needs}
 use Rattle.store.proofs.update.insert.Statement.{statement}
 use Rattle.store.proofs.update.insert.Tie as tie
+use Rattle.store.proofs.update.insert.Reads as reads
+use Rattle.store.proofs.update.insert.Lts as lts
+use Rattle.store.proofs.state.numbers_of.Reads as numbers-of-reads
+use Rattle.store.proofs.update.insert_lent.Reads as insert-lent-reads
+use Rattle.store.proofs.state.with_buffer.Reads as with-buffer-reads
 
-admit-requires : tie.Need-admit-requires
-admit-requires c κs = search needs
+numbers-of-requires : tie.Need-numbers-of-requires
+numbers-of-requires c κs = search needs
 
-enum-told : tie.Need-enum-told
-enum-told c = search needs
+insert-lent-requires : tie.Need-insert-lent-requires
+insert-lent-requires c κs = search needs
 
-enum-told-2 : tie.Need-enum-told-2
-enum-told-2 c = search needs
-
-enum-told-3 : tie.Need-enum-told-3
-enum-told-3 c = search needs
+with-buffer-requires : tie.Need-with-buffer-requires
+with-buffer-requires c κs = search needs
 
 returns : tie.Need-returns
 returns c =
-    let k = c .before in
-    let m = k .before .before in
-    let a = m .before .before .args in
-    insert-full (a .state) (a .image .now) _ (sym (ap admitNumber (k .enum-told3 .given .1)) ∙ m .admit .ensures .number) (omega (arith, c .if1 .taken)) refl refl (a .key) (a .value)
-
-insert-admitted-requires : tie.Need-insert-admitted-requires
-insert-admitted-requires c κs =
-    let k = c .before in
-    (k .before .before .admit .ensures .chip (k .enum-told3 .given .1), omega (arith, c .if1 .left))
-
-returns-2 : tie.Need-returns-2
-returns-2 c =
-    let m = c .before .before in
-    let a = m .before .before .args in
-    insert-refused (a .state) (a .image .now) _ 1 refl refl (sym (ap admitNumber (c .enum-told .given .1)) ∙ m .admit .ensures .number) (a .key) (a .value)
-
-returns-3 : tie.Need-returns-3
-returns-3 c =
-    let m = c .before .before in
-    let a = m .before .before .args in
-    insert-refused (a .state) (a .image .now) _ 0 refl refl (sym (ap admitNumber (c .enum-told2 .given .1)) ∙ m .admit .ensures .number) (a .key) (a .value)
-
-returns-4 : tie.Need-returns-4
-returns-4 c =
-    let e = c .before in
-    let k = e .before in
-    let m = k .before .before in
-    let a = m .before .before .args in
-    insert-done (a .state) (a .image .now) _ (sym (ap admitNumber (k .enum-told3 .given .1)) ∙ m .admit .ensures .number) (omega (arith, e .if1 .left)) (a .key) (a .value) (c .insert-admitted .ensures)
+    let l = c .before in
+    let n = l .before .before .before .before .before .before in
+    let a = n .before .before .args in
+    of-parts (a .t1) (n .numbers-of .result) (n .numbers-of .ensures) (λ (s : State) (r : Updated). Inserts (a .key) (a .value) s (a .image .now) r) _ _ (c .with-buffer .ensures) (l .insert-lent .ensures)
 
 pub insert-spec : {M : Type 1} → statement M
 insert-spec =
-    tie.close
-    (tie.spec
-    admit-requires
-    enum-told
-    enum-told-2
-    enum-told-3
-    returns
-    insert-admitted-requires
-    returns-2
-    returns-3
-    returns-4)
+    tie.close (tie.spec numbers-of-requires insert-lent-requires with-buffer-requires returns)

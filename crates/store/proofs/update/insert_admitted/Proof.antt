@@ -1,6 +1,11 @@
-use Prim.Native.Nat.{_<_, _≤_, _*_}
+use mathlib.Core.Path.{sym, subst}
+use mathlib.Core.List.{List}
+use Prim.Native.Nat.{ℕ, _<_, _≤_, _*_}
 use native.Mathlib.Omega.{arith}
 use Rattle.tree.specs.Step6.{top}
+use Rattle.store.specs.declared.answer.Answer.the-variants.{Nodes}
+use Rattle.store.specs.Parts.{joined, updatedWith}
+use Rattle.store.specs.Update.{InsertsIn}
 use Rattle.store.proofs.UpdateLaws.{insert-many, insert-five, insert-accepted}
 use borrow.Author.Needs.{needs}
 use Rattle.store.proofs.update.insert_admitted.Statement.{statement}
@@ -10,7 +15,8 @@ returns : tie.Need-returns
 returns c =
     let t = c .before .before in
     let a = t .args in
-    insert-many (a .t1) (a .image .now) (t .pre .1) (c .if1 .taken) (a .key) (a .value)
+    let s = joined (a .numbers) (a .buffer .now) (a .lens .now) (a .slots .now) in
+    insert-many s (a .image .now) (t .pre .1) (c .if1 .taken) (a .key) (a .value)
 
 mul-limit : tie.Need-mul-limit
 mul-limit c = search needs
@@ -18,32 +24,36 @@ mul-limit c = search needs
 cast-limit : tie.Need-cast-limit
 cast-limit c = search needs
 
-insert-in-requires : tie.Need-insert-in-requires
-insert-in-requires c κs = search needs
+insert-requires : tie.Need-insert-requires
+insert-requires c κs = search needs
 
 returns-2 : tie.Need-returns-2
 returns-2 c =
     let f = c .before in
-    let t = f .before .before .before .before .before .before .before .before in
+    let t = f .before .before .before .before .before in
     let a = t .args in
+    let s = joined (a .numbers) (a .buffer .now) (a .lens .now) (a .slots .now) in
     let hk : a .key < top = search needs in
     let hv : a .value < top = search needs in
-    let hl : 8 * a .t1 .blocks ≤ 256 = omega (arith, t .pre .0 .most) in
-    insert-five (a .t1) (a .image .now) (t .pre .1) (a .key) (a .value) hk hv hl _ (f .insert-in .result) (f .insert-in .ensures) (c .if2 .taken)
+    let hl : 8 * a .numbers .blocks ≤ 256 = omega (arith, t .pre .0 .most) in
+    subst (λ (new : List ℕ). InsertsIn (a .key) (a .value) s (a .image .now) (updatedWith (record { answer = Nodes; numbers = a .numbers }) new (a .lens .now) (a .slots .now)))
+    (sym (f .insert .ensures .whole (c .if2 .taken)))
+    (insert-five s (a .image .now) (t .pre .1) (a .key) (a .value) hk hv hl _ (f .insert .result) (f .insert .ensures) (c .if2 .taken))
 
-add-s : tie.Need-add-s
-add-s c = search needs
+add-n : tie.Need-add-n
+add-n c = search needs
 
 returns-3 : tie.Need-returns-3
 returns-3 c =
-    let f = c .before in
-    let t = f .before .before .before .before .before .before .before .before in
+    let f = c .before .before in
+    let t = f .before .before .before .before .before in
     let a = t .args in
+    let s = joined (a .numbers) (a .buffer .now) (a .lens .now) (a .slots .now) in
     let hk : a .key < top = search needs in
     let hv : a .value < top = search needs in
-    let hl : 8 * a .t1 .blocks ≤ 256 = omega (arith, t .pre .0 .most) in
-    insert-accepted (a .t1) (a .image .now) (t .pre .1) (a .key) (a .value) hk hv hl _ (f .insert-in .result) (f .insert-in .ensures) (c .if2 .left)
+    let hl : 8 * a .numbers .blocks ≤ 256 = omega (arith, t .pre .0 .most) in
+    insert-accepted s (a .image .now) (t .pre .1) (a .key) (a .value) hk hv hl _ (f .insert .result) (f .insert .ensures) (c .before .if2 .left)
 
 pub insert-admitted-spec : {M : Type 1} → statement M
 insert-admitted-spec =
-    tie.close (tie.spec returns mul-limit cast-limit insert-in-requires returns-2 add-s returns-3)
+    tie.close (tie.spec returns mul-limit cast-limit insert-requires returns-2 add-n returns-3)

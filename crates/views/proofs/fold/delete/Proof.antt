@@ -1,68 +1,70 @@
-use Rattle.views.proofs.FoldLaws.{taken}
+use Rattle.views.proofs.FoldLaws.{left-out, spoilt}
 use borrow.Author.Needs.{needs}
 use Rattle.views.proofs.fold.delete.Statement.{statement}
 use Rattle.views.proofs.fold.delete.Tie as tie
 use Rattle.views.proofs.fold.delete.Reads as reads
 use Rattle.views.proofs.fold.delete.Lts as lts
-use Rattle.views.proofs.fold.broken.Reads as broken-reads
-use Rattle.views.proofs.fold.full.Reads as full-reads
-use Rattle.views.proofs.node.delete.Reads as delete-reads
+use Rattle.views.proofs.fold.spoil.Reads as spoil-reads
+use Rattle.views.proofs.node.take_out.Reads as take-out-reads
 
--- src/fold.rt:94:29
 enum-told : tie.Need-enum-told
 enum-told c = search needs
 
--- src/fold.rt:94:29
-broken-requires : tie.Need-broken-requires
-broken-requires c κs = search needs
+spoil-requires : tie.Need-spoil-requires
+spoil-requires c κs = search needs
 
--- src/fold.rt:95:26
 enum-told-2 : tie.Need-enum-told-2
 enum-told-2 c = search needs
 
--- src/fold.rt:95:26
-broken-requires-2 : tie.Need-broken-requires-2
-broken-requires-2 c κs = search needs
+spoil-requires-2 : tie.Need-spoil-requires-2
+spoil-requires-2 c κs = search needs
 
--- src/fold.rt:97:17
 enum-told-3 : tie.Need-enum-told-3
 enum-told-3 c = search needs
 
--- src/fold.rt:97:17
-delete-requires : tie.Need-delete-requires
-delete-requires c κs = search needs
+take-out-requires : tie.Need-take-out-requires
+take-out-requires c κs = search needs
 
--- src/fold.rt:98:13
-full-requires : tie.Need-full-requires
-full-requires c κs = search needs
-
--- src/fold.rt:87:1
 returns : tie.Need-returns
-returns c = rw (c .before .enum-told .given .1) (c .broken .ensures)
+returns c =
+    let e = c .before in
+    let k = e .before .before .before .before in
+    let a = k .args in
+    spoilt (c .spoil .result) (a .keys .now) (a .values .now) _ (k .pre .0) (k .pre .1) (c .spoil .ensures) (rw (e .enum-told .given .1))
 
--- src/fold.rt:87:1
 returns-2 : tie.Need-returns-2
-returns-2 c = rw (c .before .enum-told2 .given .1) (c .broken2 .ensures)
+returns-2 c =
+    let e = c .before in
+    let k = e .before .before .before .before in
+    let a = k .args in
+    spoilt (c .spoil2 .result) (a .keys .now) (a .values .now) _ (k .pre .0) (k .pre .1) (c .spoil2 .ensures) (rw (e .enum-told2 .given .1))
 
--- src/fold.rt:87:1
+same-length : tie.Need-same-length
+same-length c = search needs
+
+same-length-2 : tie.Need-same-length-2
+same-length-2 c = search needs
+
 returns-3 : tie.Need-returns-3
 returns-3 c =
-    let s = c .before in
-    let e = s .before in
-    let a = e .before .before .before .args in
-    taken (a .f) (s .delete .result) (c .full .result) (a .key) (e .enum-told3 .given .1) (s .delete .ensures .0) (c .full .ensures)
+    let p = c .before .before .before .before in
+    let e = p .before .before .before in
+    let k = e .before .before .before .before in
+    let a = k .args in
+    left-out (a .s) (a .keys .now) (a .values .now) _ _ (a .key) (p .take-out .result) (e .enum-told3 .given .1) (p .take-out .ensures) (k .pre .2)
 
 pub delete-spec : {M : Type 1} → statement M
 delete-spec =
     tie.close
     (tie.spec
     enum-told
-    broken-requires
+    spoil-requires
     enum-told-2
-    broken-requires-2
+    spoil-requires-2
     enum-told-3
-    delete-requires
-    full-requires
+    take-out-requires
     returns
     returns-2
+    same-length
+    same-length-2
     returns-3)

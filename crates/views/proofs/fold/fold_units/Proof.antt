@@ -1,102 +1,114 @@
-use mathlib.Core.Logic.{⊎-elim}
+use mathlib.Core.Path.{_≡_}
 use Prim.Native.Nat.{_-_, _≤_}
 use native.Mathlib.Omega.{arith}
-use Rattle.views.specs.FoldCode.{viewOf, Stands, turnView}
-use Rattle.views.proofs.FoldLaws.{own, other, Left, left-start, left-next, stopped, ended}
+use lib.ListN.{length}
+use Rattle.views.specs.FoldCode.{viewIn}
+use Rattle.views.proofs.FoldLaws.{spoilt, Left, left-start, left-next, stopped, ended}
 use borrow.Author.Needs.{needs}
 use Rattle.views.proofs.fold.fold_units.Statement.{statement}
 use Rattle.views.proofs.fold.fold_units.Tie as tie
 use Rattle.views.proofs.fold.fold_units.Reads as reads
 use Rattle.views.proofs.fold.fold_units.Lts as lts
 use Rattle.pages.proofs.unit.decode_unit.Reads as decode-unit-reads
-use Rattle.views.proofs.fold.apply.Reads as apply-reads
+use Rattle.views.proofs.fold.spoil.Reads as spoil-reads
+use Rattle.views.proofs.fold.turn.Reads as turn-reads
 
 abbrev Inv-loop : tie.InvT-loop
-Inv-loop units count node limit g₀ i₀ g i =
-    (i ≤ count) × (g .node .len ≤ 16) × Left limit node count units (viewOf g₀) i (viewOf g)
+Inv-loop keys₀ values₀ units count node limit g₀ i₀ keys values g i =
+    (i ≤ count) × (length keys ≡ 17) × (length values ≡ 17) × (g .len ≤ 16) × Left limit node count units (viewIn g₀ keys₀ values₀) i (viewIn g keys values)
 
 abbrev μ-loop : tie.MeasureT-loop
-μ-loop units count node limit g₀ i₀ g i = count - i
+μ-loop keys₀ values₀ units count node limit g₀ i₀ keys values g i = count - i
 
--- src/fold.rt:117:5
 loop-holds : tie.Need-loop-holds Inv-loop μ-loop
 loop-holds c =
-    let a = c .before .args in
-    (omega arith, omega arith, left-start (a .limit) (a .node) (a .count) (a .units .now) (viewOf (a .f)))
+    let k = c .before .before .before in
+    let a = k .args in
+    (omega arith, k .pre .0, k .pre .1, k .pre .2, left-start (a .limit) (a .node) (a .count) (a .units .now) (viewIn (a .s) (a .keys .now) (a .values .now)))
 
--- src/fold.rt:118:36
 mul-decode-unit : tie.Need-mul-decode-unit Inv-loop μ-loop
 mul-decode-unit c = search needs
 
--- src/fold.rt:118:29
 sub-decode-unit : tie.Need-sub-decode-unit Inv-loop μ-loop
 sub-decode-unit c = search needs
 
--- src/fold.rt:118:29
 part-decode-unit-start : tie.Need-part-decode-unit-start Inv-loop μ-loop
 part-decode-unit-start c = search needs
 
--- src/fold.rt:118:29
 part-decode-unit-end : tie.Need-part-decode-unit-end Inv-loop μ-loop
 part-decode-unit-end c = search needs
 
--- src/fold.rt:118:13
 decode-unit-requires : tie.Need-decode-unit-requires Inv-loop μ-loop
 decode-unit-requires c κs = search needs
 
--- src/fold.rt:119:27
 enum-known-d : tie.Need-enum-known-d Inv-loop μ-loop
 enum-known-d c = search needs
 
--- src/fold.rt:120:13
 enum-told : tie.Need-enum-told Inv-loop μ-loop
 enum-told c = search needs
 
--- src/fold.rt:120:13
+spoil-requires : tie.Need-spoil-requires Inv-loop μ-loop
+spoil-requires c κs = search needs
+
+same-length : tie.Need-same-length Inv-loop μ-loop
+same-length c = search needs
+
+same-length-2 : tie.Need-same-length-2 Inv-loop μ-loop
+same-length-2 c = search needs
+
 returns : tie.Need-returns Inv-loop μ-loop
 returns c =
-    let q = c .before .before in
+    let q = c .before .before .before in
     let s = q .before .before .before in
-    let a = s .before .before .args in
-    stopped (a .limit) (a .node) (a .count) (a .units .now) (viewOf (a .f)) (s .loop .i) (viewOf (s .loop .g)) (q .decode-unit .result) (s .loop .inv .2)
-    (q .before .before .loop-test .taken) (q .decode-unit .ensures) (s .loop .g) (c .enum-told .given .1) (s .loop .inv .1)
+    let l = s .loop in
+    let a = s .before .before .before .before .args in
+    spoilt (c .spoil .result) (l .keys) (l .values) _ (l .inv .1) (l .inv .2) (c .spoil .ensures)
+    (stopped (a .limit) (a .node) (a .count) (a .units .now) (viewIn (a .s) (a .keys .now) (a .values .now)) (l .i) (viewIn (l .g) (l .keys) (l .values))
+    (q .decode-unit .result) (l .inv .4) (q .before .before .loop-test .taken) (q .decode-unit .ensures) (c .before .enum-told .given .1))
 
--- src/fold.rt:128:13
-apply-requires : tie.Need-apply-requires Inv-loop μ-loop
-apply-requires c κs = search needs
+turn-requires : tie.Need-turn-requires Inv-loop μ-loop
+turn-requires c κs = search needs
 
--- src/fold.rt:130:9
 add-i : tie.Need-add-i Inv-loop μ-loop
 add-i c = search needs
 
--- src/fold.rt:117:5
 loop-less : tie.Need-loop-less Inv-loop μ-loop
 loop-less c = search needs
 
--- src/fold.rt:117:5
 loop-again : tie.Need-loop-again Inv-loop μ-loop
 loop-again c =
-    let q = c .before .before .before .before in
+    let t = c .before .before .before .before .turn .ensures in
+    let d = c .before .before .before .before .before .before .before .before in
+    let q = d .before .before in
     let s = q .before .before .before in
-    let a = s .before .before .args in
-    let d = c .before .before .d .given .1 in
-    let t : Stands (c .if1 .g) (turnView (a .node) (viewOf (s .loop .g)) (q .decode-unit .result)) =
-    ⊎-elim
-    (λ w. rw (w .2) (own (a .node) _ (q .decode-unit .result) (s .loop .g) (w .1 .result) d (w .0 .taken) (w .1 .ensures)))
-    (λ w. rw (w .1) (other (a .node) _ (q .decode-unit .result) (s .loop .g) d (w .0 .left) (s .loop .inv .1)))
-    (c .if1 .came) in (
+    let l = s .loop in
+    let a = s .before .before .before .before .args in (
       omega arith,
+      t .keys,
+      t .values,
       t .room,
-      left-next (a .limit) (a .node) (a .count) (a .units .now) (viewOf (a .f)) (s .loop .i) (viewOf (s .loop .g)) (q .decode-unit .result) (s .loop .inv .2)
-          (q .before .before .loop-test .taken) (q .decode-unit .ensures) _ (viewOf (c .if1 .g)) d (t .is),
+      left-next (a .limit) (a .node) (a .count) (a .units .now) (viewIn (a .s) (a .keys .now) (a .values .now)) (l .i) (viewIn (l .g) (l .keys) (l .values))
+          (q .decode-unit .result) (l .inv .4) (q .before .before .loop-test .taken) (q .decode-unit .ensures) _ _ (d .d .given .1) (t .is),
     )
 
--- src/fold.rt:111:1
+same-length-3 : tie.Need-same-length-3 Inv-loop μ-loop
+same-length-3 c = search needs
+
+same-length-4 : tie.Need-same-length-4 Inv-loop μ-loop
+same-length-4 c = search needs
+
 returns-2 : tie.Need-returns-2 Inv-loop μ-loop
 returns-2 c =
     let s = c .before in
-    let a = s .before .before .args in
-    ended (a .limit) (a .node) (a .count) (a .units .now) (viewOf (a .f)) (s .loop .i) (s .loop .g) (s .loop .inv .2) (c .loop-test .left) (s .loop .inv .1)
+    let l = s .loop in
+    let a = s .before .before .before .before .args in
+    record {
+      is = ended (a .limit) (a .node) (a .count) (a .units .now) (viewIn (a .s) (a .keys .now) (a .values .now)) (l .i) (viewIn (l .g) (l .keys) (l .values))
+          (l .inv .4) (c .loop-test .left);
+      room = l .inv .3;
+      keys = l .inv .1;
+      values = l .inv .2;
+    }
 
 pub fold-units-spec : {M : Type 1} → statement M
 fold-units-spec =
@@ -112,9 +124,14 @@ fold-units-spec =
     decode-unit-requires
     enum-known-d
     enum-told
+    spoil-requires
+    same-length
+    same-length-2
     returns
-    apply-requires
+    turn-requires
     add-i
     loop-less
     loop-again
+    same-length-3
+    same-length-4
     returns-2)

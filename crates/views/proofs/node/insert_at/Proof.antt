@@ -1,9 +1,9 @@
 use mathlib.Core.Path.{_≡_, ap, _∙_}
-use Prim.Native.Nat.{_-_}
+use Prim.Native.Nat.{_+_, _-_, _≤_}
 use native.Mathlib.Omega.{arith}
 use lib.ListN.{length, take}
 use Rattle.views.specs.NodeCode.{insertAt}
-use Rattle.views.proofs.NodeLaws.{insert-push, insert-done}
+use Rattle.views.proofs.NodeLaws.{insert-push, pushed}
 use borrow.Author.Needs.{needs}
 use Rattle.views.proofs.node.insert_at.Statement.{statement}
 use Rattle.views.proofs.node.insert_at.Tie as tie
@@ -11,51 +11,47 @@ use Rattle.views.proofs.node.insert_at.Reads as reads
 use Rattle.views.proofs.node.insert_at.Lts as lts
 
 abbrev Inv-loop : tie.InvT-loop
-Inv-loop p x b₀ carry₀ i₀ b carry i = (length b ≡ 17) × (take 17 (insertAt i carry b) ≡ take 17 (insertAt p x b₀))
+Inv-loop a₀ len p x carry₀ i₀ a carry i = (length a ≡ length a₀) × (take (len + 1) (insertAt i carry a) ≡ take (len + 1) (insertAt p x a₀))
 
 abbrev μ-loop : tie.MeasureT-loop
-μ-loop p x b₀ carry₀ i₀ b carry i = 17 - i
+μ-loop a₀ len p x carry₀ i₀ a carry i = len + 1 - i
 
--- src/node.rt:40:5
 loop-holds : tie.Need-loop-holds Inv-loop μ-loop
 loop-holds c = search needs
 
--- src/node.rt:41:17
 mul-t : tie.Need-mul-t Inv-loop μ-loop
 mul-t c = search needs
 
--- src/node.rt:41:17
-array-read-t : tie.Need-array-read-t Inv-loop μ-loop
-array-read-t c = search needs
+slice-read-t : tie.Need-slice-read-t Inv-loop μ-loop
+slice-read-t c = search needs
 
--- src/node.rt:42:9
-mul-b : tie.Need-mul-b Inv-loop μ-loop
-mul-b c = search needs
+mul-a : tie.Need-mul-a Inv-loop μ-loop
+mul-a c = search needs
 
--- src/node.rt:42:9
-array-write-b : tie.Need-array-write-b Inv-loop μ-loop
-array-write-b c = search needs
+slice-write-a : tie.Need-slice-write-a Inv-loop μ-loop
+slice-write-a c = search needs
 
--- src/node.rt:44:9
 add-i : tie.Need-add-i Inv-loop μ-loop
 add-i c = search needs
 
--- src/node.rt:40:5
 loop-less : tie.Need-loop-less Inv-loop μ-loop
 loop-less c = search needs
 
--- src/node.rt:40:5
 loop-again : tie.Need-loop-again Inv-loop μ-loop
 loop-again c =
-    let s = c .before in
-    let l : length (s .loop .b) ≡ 17 = search needs in
-    (search needs, ap (take 17) (insert-push (s .loop .i) (s .loop .carry) 0 (s .loop .b) (omega arith)) ∙ s .loop .inv .1)
+    let s = c .before .before in
+    let b = s .before .args in
+    let l : length (s .loop .a) ≡ length (b .a .now) = s .loop .inv .0 in
+    (search needs, ap (take (b .len + 1)) (insert-push (s .loop .i) (s .loop .carry) 0 (s .loop .a) (omega arith)) ∙ s .loop .inv .1)
 
--- src/node.rt:34:1
+same-length : tie.Need-same-length Inv-loop μ-loop
+same-length c = search needs
+
 returns : tie.Need-returns Inv-loop μ-loop
 returns c =
-    let s = c .before .loop in
-    insert-done 17 (s .i) (s .carry) (s .b) _ (s .inv .0) (c .loop-test .left) (s .inv .1)
+    let s = c .before in
+    let b = s .before .args in
+    pushed (b .len) (b .p) (b .x) (s .loop .i) (s .loop .carry) (b .a .now) (s .loop .a) (omega arith) (omega arith) (s .loop .inv .0) (c .loop-test .left) (s .loop .inv .1)
 
 pub insert-at-spec : {M : Type 1} → statement M
 insert-at-spec =
@@ -65,10 +61,11 @@ insert-at-spec =
     μ-loop
     loop-holds
     mul-t
-    array-read-t
-    mul-b
-    array-write-b
+    slice-read-t
+    mul-a
+    slice-write-a
     add-i
     loop-less
     loop-again
+    same-length
     returns)

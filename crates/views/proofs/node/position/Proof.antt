@@ -1,7 +1,7 @@
 use mathlib.Core.Path.{_≡_}
 use Prim.Native.Nat.{_+_, _-_, _≤_}
 use native.Mathlib.Omega.{arith}
-use lib.ListN.{length, take, drop}
+use lib.ListN.{take, drop}
 use Rattle.views.specs.NodeCode.{rank}
 use Rattle.views.proofs.NodeLaws.{rank-pass, rank-stop, rank-end}
 use borrow.Author.Needs.{needs}
@@ -11,53 +11,43 @@ use Rattle.views.proofs.node.position.Reads as reads
 use Rattle.views.proofs.node.position.Lts as lts
 
 abbrev Inv-loop : tie.InvT-loop
-Inv-loop key n len i₀ i = (i ≤ len) × (i + rank key (drop i (take len (n .keys))) ≡ rank key (take len (n .keys)))
+Inv-loop keys len key i₀ i = (i ≤ len) × (i + rank key (drop i (take len keys)) ≡ rank key (take len keys))
 
 abbrev μ-loop : tie.MeasureT-loop
-μ-loop key n len i₀ i = len - i
+μ-loop keys len key i₀ i = len - i
 
--- src/node.rt:24:5
 loop-holds : tie.Need-loop-holds Inv-loop μ-loop
 loop-holds c = search needs
 
--- src/node.rt:25:19
 mul-if1 : tie.Need-mul-if1 Inv-loop μ-loop
 mul-if1 c = search needs
 
--- src/node.rt:25:19
-element-copy-out-if1 : tie.Need-element-copy-out-if1 Inv-loop μ-loop
-element-copy-out-if1 c = search needs
+shared-slice-read-if1 : tie.Need-shared-slice-read-if1 Inv-loop μ-loop
+shared-slice-read-if1 c = search needs
 
--- src/node.rt:26:13
 returns : tie.Need-returns Inv-loop μ-loop
 returns c =
     let s = c .before .before .before in
     let a = s .before .args in
-    let l : length (a .t1 .keys) ≡ 17 = search needs in
-    omega (arith, rank-stop (a .key) (a .t1 .len) (s .loop .i) (a .t1 .keys) (omega arith) (omega arith) (c .if1 .taken))
+    omega (arith, rank-stop (a .key) (a .len) (s .loop .i) (a .keys .now) (omega arith) (omega arith) (c .if1 .taken))
 
--- src/node.rt:28:9
 add-i : tie.Need-add-i Inv-loop μ-loop
 add-i c = search needs
 
--- src/node.rt:24:5
 loop-less : tie.Need-loop-less Inv-loop μ-loop
 loop-less c = search needs
 
--- src/node.rt:24:5
 loop-again : tie.Need-loop-again Inv-loop μ-loop
 loop-again c =
     let s = c .before .before .before in
     let a = s .before .args in
-    let l : length (a .t1 .keys) ≡ 17 = search needs in
-    omega (arith, rank-pass (a .key) (a .t1 .len) (s .loop .i) (a .t1 .keys) (omega arith) (omega arith) (c .if1 .left))
+    omega (arith, rank-pass (a .key) (a .len) (s .loop .i) (a .keys .now) (omega arith) (omega arith) (c .if1 .left))
 
--- src/node.rt:18:1
 returns-2 : tie.Need-returns-2 Inv-loop μ-loop
 returns-2 c =
     let a = c .before .before .args in
-    let e : c .before .loop .i ≡ a .t1 .len = omega arith in
-    omega (arith, rank-end (a .key) (a .t1 .len) (a .t1 .keys), rw e at (c .before .loop .inv .1))
+    let e : c .before .loop .i ≡ a .len = omega arith in
+    omega (arith, rank-end (a .key) (a .len) (a .keys .now), rw e at (c .before .loop .inv .1))
 
 pub position-spec : {M : Type 1} → statement M
 position-spec =
@@ -67,7 +57,7 @@ position-spec =
     μ-loop
     loop-holds
     mul-if1
-    element-copy-out-if1
+    shared-slice-read-if1
     returns
     add-i
     loop-less

@@ -1,9 +1,9 @@
-use mathlib.Core.Path.{_≡_, sym, _∙_}
+use mathlib.Core.Path.{_≡_, _∙_}
 use Prim.Native.Nat.{_+_, _-_, _≤_}
 use native.Mathlib.Omega.{arith}
 use lib.ListN.{length}
 use Rattle.views.specs.NodeCode.{removeAt}
-use Rattle.views.proofs.NodeLaws.{remove-pull, remove-last}
+use Rattle.views.proofs.NodeLaws.{remove-pull, pulled}
 use borrow.Author.Needs.{needs}
 use Rattle.views.proofs.node.remove_at.Statement.{statement}
 use Rattle.views.proofs.node.remove_at.Tie as tie
@@ -11,63 +11,55 @@ use Rattle.views.proofs.node.remove_at.Reads as reads
 use Rattle.views.proofs.node.remove_at.Lts as lts
 
 abbrev Inv-loop : tie.InvT-loop
-Inv-loop p b₀ i₀ b i = (length b ≡ 17) × (1 ≤ i) × (i ≤ 17) × (removeAt (i - 1) b ≡ removeAt p b₀)
+Inv-loop a₀ len p i₀ a i = (length a ≡ length a₀) × (1 ≤ i) × (i ≤ len) × (removeAt (i - 1) a ≡ removeAt p a₀)
 
 abbrev μ-loop : tie.MeasureT-loop
-μ-loop p b₀ i₀ b i = 17 - i
+μ-loop a₀ len p i₀ a i = len - i
 
--- src/node.rt:55:17
 add-i : tie.Need-add-i Inv-loop μ-loop
 add-i c = search needs
 
--- src/node.rt:56:5
 loop-holds : tie.Need-loop-holds Inv-loop μ-loop
 loop-holds c =
     let p = c .args .p in
     let e : p + 1 - 1 ≡ p = omega arith in
     (search needs, omega arith, omega arith, rw e)
 
--- src/node.rt:57:20
-mul-b : tie.Need-mul-b Inv-loop μ-loop
-mul-b c = search needs
+mul-a : tie.Need-mul-a Inv-loop μ-loop
+mul-a c = search needs
 
--- src/node.rt:57:20
-array-read-b : tie.Need-array-read-b Inv-loop μ-loop
-array-read-b c = search needs
+slice-read-a : tie.Need-slice-read-a Inv-loop μ-loop
+slice-read-a c = search needs
 
--- src/node.rt:57:11
-sub-b : tie.Need-sub-b Inv-loop μ-loop
-sub-b c = search needs
+sub-a : tie.Need-sub-a Inv-loop μ-loop
+sub-a c = search needs
 
--- src/node.rt:57:9
-mul-b-2 : tie.Need-mul-b-2 Inv-loop μ-loop
-mul-b-2 c = search needs
+mul-a-2 : tie.Need-mul-a-2 Inv-loop μ-loop
+mul-a-2 c = search needs
 
--- src/node.rt:57:9
-array-write-b : tie.Need-array-write-b Inv-loop μ-loop
-array-write-b c = search needs
+slice-write-a : tie.Need-slice-write-a Inv-loop μ-loop
+slice-write-a c = search needs
 
--- src/node.rt:58:9
 add-i-2 : tie.Need-add-i-2 Inv-loop μ-loop
 add-i-2 c = search needs
 
--- src/node.rt:56:5
 loop-less : tie.Need-loop-less Inv-loop μ-loop
 loop-less c = search needs
 
--- src/node.rt:56:5
 loop-again : tie.Need-loop-again Inv-loop μ-loop
 loop-again c =
-    let s = c .before in
-    let l : length (s .loop .b) ≡ 17 = search needs in
-    (search needs, omega arith, omega arith, remove-pull (s .loop .i) 0 (s .loop .b) (omega arith) (omega arith) ∙ s .loop .inv .3)
+    let s = c .before .before in
+    let l : length (s .loop .a) ≡ length (s .before .args .a .now) = s .loop .inv .0 in
+    (search needs, omega arith, omega arith, remove-pull (s .loop .i) 0 (s .loop .a) (omega arith) (omega arith) ∙ s .loop .inv .3)
 
--- src/node.rt:50:1
+same-length : tie.Need-same-length Inv-loop μ-loop
+same-length c = search needs
+
 returns : tie.Need-returns Inv-loop μ-loop
 returns c =
-    let s = c .before .loop in
-    let e : s .i ≡ 17 = omega arith in
-    sym (remove-last 16 (s .b) (s .inv .0)) ∙ (rw e at (s .inv .3))
+    let s = c .before in
+    let b = s .before .args in
+    pulled (b .len) (b .p) (s .loop .i) (b .a .now) (s .loop .a) (omega arith) (omega arith) (s .loop .inv .0) (omega arith) (s .loop .inv .3)
 
 pub remove-at-spec : {M : Type 1} → statement M
 remove-at-spec =
@@ -77,12 +69,13 @@ remove-at-spec =
     μ-loop
     add-i
     loop-holds
-    mul-b
-    array-read-b
-    sub-b
-    mul-b-2
-    array-write-b
+    mul-a
+    slice-read-a
+    sub-a
+    mul-a-2
+    slice-write-a
     add-i-2
     loop-less
     loop-again
+    same-length
     returns)

@@ -1,13 +1,14 @@
-use Rattle.views.specs.FoldCode.{viewOf}
-use Rattle.views.proofs.ViewSteps.{page-few, page-many}
+use Rattle.views.specs.FoldCode.{viewIn}
+use Rattle.views.proofs.FoldLaws.{spoilt}
+use Rattle.views.proofs.ViewSteps.{renamed, page-few, page-many}
 use borrow.Author.Needs.{needs}
 use Rattle.views.proofs.view.page_view.Statement.{statement}
 use Rattle.views.proofs.view.page_view.Tie as tie
 use Rattle.views.proofs.view.page_view.Reads as reads
 use Rattle.views.proofs.view.page_view.Lts as lts
 use Rattle.pages.proofs.unit.read_half.Reads as read-half-reads
-use Rattle.views.proofs.view.spoil.Reads as spoil-reads
-use Rattle.views.proofs.view.units_view.Reads as units-view-reads
+use Rattle.views.proofs.fold.fold_units.Reads as fold-units-reads
+use Rattle.views.proofs.fold.spoil.Reads as spoil-reads
 
 read-half-requires : tie.Need-read-half-requires
 read-half-requires c κs = search needs
@@ -15,35 +16,44 @@ read-half-requires c κs = search needs
 cast-units : tie.Need-cast-units
 cast-units c = search needs
 
-sub-units-view : tie.Need-sub-units-view
-sub-units-view c = search needs
+sub-fold-units : tie.Need-sub-fold-units
+sub-fold-units c = search needs
 
-part-units-view-start : tie.Need-part-units-view-start
-part-units-view-start c = search needs
+part-fold-units-start : tie.Need-part-fold-units-start
+part-fold-units-start c = search needs
 
-part-units-view-end : tie.Need-part-units-view-end
-part-units-view-end c = search needs
+part-fold-units-end : tie.Need-part-fold-units-end
+part-fold-units-end c = search needs
 
-units-view-requires : tie.Need-units-view-requires
-units-view-requires c κs = search needs
+fold-units-requires : tie.Need-fold-units-requires
+fold-units-requires c κs = search needs
 
 spoil-requires : tie.Need-spoil-requires
 spoil-requires c κs = search needs
 
+same-length : tie.Need-same-length
+same-length c = search needs
+
+same-length-2 : tie.Need-same-length-2
+same-length-2 c = search needs
+
 returns : tie.Need-returns
 returns c =
-    let t = c .before .before in
+    let u = c .before .before .before .before in
+    let t = u .before .before .before .before in
     let q = t .before in
-    let a = q .before .before .args in
-    page-few (a .limit) (a .node) (viewOf (a .f)) (a .page .now) (q .read-half .result) (c .units-view .result) (q .read-half .ensures .0)
-    (q .before .before .pre .1) (t .if1 .taken) (c .units-view .ensures)
+    let k = q .before .before .before .before in
+    let a = k .args in
+    renamed (u .fold-units .result) _ _ _ _ (u .fold-units .ensures)
+    (page-few (a .limit) (a .node) (viewIn (a .s) (a .keys .now) (a .values .now)) (a .page .now) (q .read-half .result) (q .read-half .ensures .0) (k .pre .3) (t .if1 .taken))
 
 returns-2 : tie.Need-returns-2
 returns-2 c =
     let q = c .before .before in
-    let a = q .before .before .args in
-    page-many (a .limit) (a .node) (viewOf (a .f)) (a .page .now) (q .read-half .result) (c .spoil .result) (q .read-half .ensures .0)
-    (c .before .if1 .left) (c .spoil .ensures)
+    let k = q .before .before .before .before in
+    let a = k .args in
+    spoilt (c .spoil .result) (a .keys .now) (a .values .now) _ (k .pre .0) (k .pre .1) (c .spoil .ensures)
+    (page-many (a .limit) (a .node) (viewIn (a .s) (a .keys .now) (a .values .now)) (a .page .now) (q .read-half .result) (q .read-half .ensures .0) (c .before .if1 .left))
 
 pub page-view-spec : {M : Type 1} → statement M
 page-view-spec =
@@ -51,10 +61,12 @@ page-view-spec =
     (tie.spec
     read-half-requires
     cast-units
-    sub-units-view
-    part-units-view-start
-    part-units-view-end
-    units-view-requires
+    sub-fold-units
+    part-fold-units-start
+    part-fold-units-end
+    fold-units-requires
     spoil-requires
+    same-length
+    same-length-2
     returns
     returns-2)

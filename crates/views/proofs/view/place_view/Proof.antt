@@ -1,6 +1,6 @@
 use mathlib.Core.Path.{sym}
-use Rattle.views.specs.FoldCode.{viewOf}
-use Rattle.views.proofs.ViewSteps.{place-on, place-off}
+use Rattle.views.specs.FoldCode.{viewIn}
+use Rattle.views.proofs.ViewSteps.{renamed, place-on, place-off}
 use borrow.Author.Needs.{needs}
 use Rattle.views.proofs.view.place_view.Statement.{statement}
 use Rattle.views.proofs.view.place_view.Tie as tie
@@ -26,17 +26,29 @@ part-page-view-end c = search needs
 page-view-requires : tie.Need-page-view-requires
 page-view-requires c κs = search needs
 
+same-length : tie.Need-same-length
+same-length c = search needs
+
+same-length-2 : tie.Need-same-length-2
+same-length-2 c = search needs
+
 returns : tie.Need-returns
 returns c =
-    let t = c .before .before in
-    let a = t .before .before .args in
-    place-on (a .limit) (a .node) (viewOf (a .f)) (a .image .now) (a .at) (c .page-view .result) (t .if1 .taken) (c .page-view .ensures)
+    let u = c .before .before .before .before in
+    let t = u .before .before .before .before in
+    let a = t .before .before .before .before .args in
+    renamed (u .page-view .result) _ _ _ _ (u .page-view .ensures) (place-on (a .limit) (a .node) (viewIn (a .s) (a .keys .now) (a .values .now)) (a .image .now) (a .at) (t .if1 .taken))
 
 returns-2 : tie.Need-returns-2
 returns-2 c =
-    let k = c .before .before in
+    let k = c .before .before .before .before in
     let a = k .args in
-    record { is = sym (place-off (a .limit) (a .node) (viewOf (a .f)) (a .image .now) (a .at) (c .if1 .left)); room = k .pre .0 }
+    record {
+      is = sym (place-off (a .limit) (a .node) (viewIn (a .s) (a .keys .now) (a .values .now)) (a .image .now) (a .at) (c .if1 .left));
+      room = k .pre .2;
+      keys = k .pre .0;
+      values = k .pre .1;
+    }
 
 pub place-view-spec : {M : Type 1} → statement M
 place-view-spec =
@@ -48,5 +60,7 @@ place-view-spec =
     part-page-view-start
     part-page-view-end
     page-view-requires
+    same-length
+    same-length-2
     returns
     returns-2)

@@ -1,11 +1,10 @@
-use mathlib.Core.Path.{_≡_, ap}
+use mathlib.Core.Path.{_≡_, refl}
 use Prim.Native.Nat.{_-_, _≤_}
 use native.Mathlib.Omega.{arith}
-use lib.ListN.{drop}
+use lib.ListN.{length, drop}
 use Rattle.chip.specs.Geometry.{small}
 use Rattle.chip.specs.Chip.{pagesOf}
-use Rattle.views.specs.Nodes.{View}
-use Rattle.views.specs.FoldCode.{viewOf}
+use Rattle.views.specs.FoldCode.{viewIn}
 use Rattle.views.specs.Stored.{storedList, listView}
 use Rattle.views.proofs.ViewSteps.{after, slot-next, slots-done}
 use borrow.Author.Needs.{needs}
@@ -13,36 +12,32 @@ use Rattle.views.proofs.view.slots_view.Statement.{statement}
 use Rattle.views.proofs.view.slots_view.Tie as tie
 use Rattle.views.proofs.view.slots_view.Reads as reads
 use Rattle.views.proofs.view.slots_view.Lts as lts
-use Rattle.views.proofs.fold.start.Reads as start-reads
 use Rattle.views.proofs.view.place_view.Reads as place-view-reads
 use Rattle.views.proofs.view.slot.Reads as slot-reads
 use Rattle.views.proofs.view.used_slots.Reads as used-slots-reads
 
 abbrev Inv-loop : tie.InvT-loop
-Inv-loop image lens slots node limit used f₀ i₀ f i =
-    (i ≤ used) × (f .node .len ≤ 16)
-    × (after limit (pagesOf small image) node (viewOf f) (drop i (storedList lens slots node)) ≡ listView small limit (pagesOf small image) node (storedList lens slots node))
+Inv-loop keys₀ values₀ image lens slots node limit used s₀ i₀ keys values s i =
+    (i ≤ used) × (length keys ≡ 17) × (length values ≡ 17) × (s .len ≤ 16)
+    × (after limit (pagesOf small image) node (viewIn s keys values) (drop i (storedList lens slots node))
+    ≡ listView small limit (pagesOf small image) node (storedList lens slots node))
 
 abbrev μ-loop : tie.MeasureT-loop
-μ-loop image lens slots node limit used f₀ i₀ f i = used - i
+μ-loop keys₀ values₀ image lens slots node limit used s₀ i₀ keys values s i = used - i
 
 used-slots-requires : tie.Need-used-slots-requires Inv-loop μ-loop
 used-slots-requires c κs = search needs
 
-start-requires : tie.Need-start-requires Inv-loop μ-loop
-start-requires c κs = search needs
-
 loop-holds : tie.Need-loop-holds Inv-loop μ-loop
 loop-holds c =
-    let a = c .before .before .before .before .before .args in
-    let l = storedList (a .lens .now) (a .slots .now) (a .node) in
-    (omega arith, c .start .ensures .0 .room, ap (λ (v : View). after (a .limit) (pagesOf small (a .image .now)) (a .node) v l) (c .start .ensures .0 .is))
+    let k = c .before .before .before .before .before .before in
+    (omega arith, k .pre .0, k .pre .1, omega arith, refl)
 
 slot-requires : tie.Need-slot-requires Inv-loop μ-loop
 slot-requires c κs =
-    let u = c .before .before .before in
+    let u = c .before .before in
     let e = u .used-slots .ensures in
-    (u .before .before .before .before .pre .2, e .3 (omega arith), omega (arith, e .0))
+    (u .before .before .before .before .before .before .pre .4, e .3 (omega arith), omega (arith, e .0))
 
 place-view-requires : tie.Need-place-view-requires Inv-loop μ-loop
 place-view-requires c κs = search needs
@@ -55,30 +50,43 @@ loop-less c = search needs
 
 loop-again : tie.Need-loop-again Inv-loop μ-loop
 loop-again c =
-    let q = c .before in
+    let p = c .before .before .before .before .place-view .ensures in
+    let q = c .before .before .before .before .before .before .before in
     let s = q .before .before in
-    let u = s .before .before in
-    let k = u .before .before .before .before in
+    let l = s .loop in
+    let u = s .before in
+    let k = u .before .before .before .before .before .before in
     let a = k .args in
     let e = u .used-slots .ensures in (
       omega arith,
-      c .place-view .ensures .room,
-      slot-next (a .lens .now) (a .slots .now) (a .node) (u .used-slots .result) (e .0) (e .1) (e .2) (e .3) (k .pre .2) (a .limit)
-          (pagesOf small (a .image .now)) (s .loop .i) (viewOf (s .loop .f)) (q .before .loop-test .taken) (s .loop .inv .2)
-          (q .slot .result) (q .slot .ensures) (viewOf (c .place-view .result)) (c .place-view .ensures .is),
+      p .keys,
+      p .values,
+      p .room,
+      slot-next (a .lens .now) (a .slots .now) (a .node) (u .used-slots .result) (e .0) (e .1) (e .2) (e .3) (k .pre .4) (a .limit)
+          (pagesOf small (a .image .now)) (l .i) (viewIn (l .s) (l .keys) (l .values)) (q .before .loop-test .taken) (l .inv .4)
+          (q .slot .result) (q .slot .ensures) _ (p .is),
     )
+
+same-length : tie.Need-same-length Inv-loop μ-loop
+same-length c = search needs
+
+same-length-2 : tie.Need-same-length-2 Inv-loop μ-loop
+same-length-2 c = search needs
 
 returns : tie.Need-returns Inv-loop μ-loop
 returns c =
     let s = c .before in
-    let u = s .before .before in
-    let k = u .before .before .before .before in
+    let l = s .loop in
+    let u = s .before in
+    let k = u .before .before .before .before .before .before in
     let a = k .args in
     let e = u .used-slots .ensures in
     record {
-      is = slots-done (a .lens .now) (a .slots .now) (a .node) (u .used-slots .result) (e .0) (e .1) (e .2) (e .3) (k .pre .2) (a .limit)
-          (pagesOf small (a .image .now)) (s .loop .i) (viewOf (s .loop .f)) (c .loop-test .left) (s .loop .inv .2);
-      room = s .loop .inv .1;
+      is = slots-done (a .lens .now) (a .slots .now) (a .node) (u .used-slots .result) (e .0) (e .1) (e .2) (e .3) (k .pre .4) (a .limit)
+          (pagesOf small (a .image .now)) (l .i) (viewIn (l .s) (l .keys) (l .values)) (c .loop-test .left) (l .inv .4);
+      room = l .inv .3;
+      keys = l .inv .1;
+      values = l .inv .2;
     }
 
 pub slots-view-spec : {M : Type 1} → statement M
@@ -88,11 +96,12 @@ slots-view-spec =
     Inv-loop
     μ-loop
     used-slots-requires
-    start-requires
     loop-holds
     slot-requires
     place-view-requires
     add-i
     loop-less
     loop-again
+    same-length
+    same-length-2
     returns)

@@ -1,8 +1,8 @@
 use borrow.Author.Needs.{needs}
-use Rattle.store.proofs.mount.refused.Statement.{statement}
-use Rattle.store.proofs.mount.refused.Tie as tie
-use Rattle.store.proofs.mount.refused.Reads as reads
-use Rattle.store.proofs.mount.refused.Lts as lts
+use Rattle.store.proofs.ending.refused.Statement.{statement}
+use Rattle.store.proofs.ending.refused.Tie as tie
+use Rattle.store.proofs.ending.refused.Reads as reads
+use Rattle.store.proofs.ending.refused.Lts as lts
 use Rattle.store.proofs.state.turned_off.Reads as turned-off-reads
 
 turned-off-requires : tie.Need-turned-off-requires

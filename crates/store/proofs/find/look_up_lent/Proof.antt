@@ -1,0 +1,97 @@
+use mathlib.Core.Path.{refl, sym, ap, _∙_}
+use native.Mathlib.Omega.{arith}
+use Rattle.tree.specs.Tree.{absent, found}
+use Rattle.tree.specs.FindCode.{hitOf}
+use Rattle.store.specs.Admit.{admitNumber}
+use Rattle.store.specs.Parts.{joined}
+use Rattle.store.specs.declared.answer.Look.the-variants as L
+use Rattle.store.proofs.CallLaws.{look-refused, looked}
+use borrow.Author.Needs.{needs}
+use Rattle.store.proofs.find.look_up_lent.Statement.{statement}
+use Rattle.store.proofs.find.look_up_lent.Tie as tie
+
+admit-requires : tie.Need-admit-requires
+admit-requires c κs = search needs
+
+enum-told : tie.Need-enum-told
+enum-told c = search needs
+
+enum-told-2 : tie.Need-enum-told-2
+enum-told-2 c = search needs
+
+enum-told-3 : tie.Need-enum-told-3
+enum-told-3 c = search needs
+
+mul-limit : tie.Need-mul-limit
+mul-limit c =
+    let m = c .before .before in
+    let h = m .admit .ensures .chip (c .enum-told3 .given .1) in
+    record { fits = omega (arith, h .most) }
+
+cast-limit : tie.Need-cast-limit
+cast-limit c =
+    let m = c .before .before in
+    let h = m .admit .ensures .chip (c .enum-told3 .given .1) in
+    record { fits = omega (arith, h .most) }
+
+find-requires : tie.Need-find-requires
+find-requires c κs =
+    let m = c .before .before in
+    let h = m .admit .ensures .chip (c .enum-told3 .given .1) in
+    omega (arith, h .size)
+
+enum-known-hit : tie.Need-enum-known-hit
+enum-known-hit c = search needs
+
+enum-told-4 : tie.Need-enum-told-4
+enum-told-4 c = search needs
+
+returns : tie.Need-returns
+returns c =
+    let m = c .before .before in
+    let a = m .before .before .args in
+    let s = joined (a .numbers) (a .buffer .now) (a .lens .now) (a .slots .now) in
+    look-refused (a .key) s (a .image .now) L.Off 1 refl refl (sym (ap admitNumber (c .enum-told .given .1)) ∙ m .admit .ensures .number)
+
+returns-2 : tie.Need-returns-2
+returns-2 c =
+    let m = c .before .before in
+    let a = m .before .before .args in
+    let s = joined (a .numbers) (a .buffer .now) (a .lens .now) (a .slots .now) in
+    look-refused (a .key) s (a .image .now) L.Size 0 refl refl (sym (ap admitNumber (c .enum-told2 .given .1)) ∙ m .admit .ensures .number)
+
+returns-3 : tie.Need-returns-3
+returns-3 c =
+    let f = c .before .before .before in
+    let k = f .before in
+    let m = k .before .before in
+    let a = m .before .before .args in
+    let s = joined (a .numbers) (a .buffer .now) (a .lens .now) (a .slots .now) in
+    looked (a .key) s (a .image .now) (sym (ap admitNumber (k .enum-told3 .given .1)) ∙ m .admit .ensures .number) (f .find .result) (f .find .ensures) (found _) (ap hitOf (c .before .hit .given .1))
+
+returns-4 : tie.Need-returns-4
+returns-4 c =
+    let f = c .before .before in
+    let k = f .before in
+    let m = k .before .before in
+    let a = m .before .before .args in
+    let s = joined (a .numbers) (a .buffer .now) (a .lens .now) (a .slots .now) in
+    looked (a .key) s (a .image .now) (sym (ap admitNumber (k .enum-told3 .given .1)) ∙ m .admit .ensures .number) (f .find .result) (f .find .ensures) absent (ap hitOf (c .enum-told4 .given .1))
+
+pub look-up-lent-spec : {M : Type 1} → statement M
+look-up-lent-spec =
+    tie.close
+    (tie.spec
+    admit-requires
+    enum-told
+    enum-told-2
+    enum-told-3
+    mul-limit
+    cast-limit
+    find-requires
+    enum-known-hit
+    enum-told-4
+    returns
+    returns-2
+    returns-3
+    returns-4)

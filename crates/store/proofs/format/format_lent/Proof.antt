@@ -1,0 +1,59 @@
+use Prim.Native.Nat.{_<_}
+use native.Mathlib.Omega.{arith}
+use Rattle.store.specs.Parts.{joined}
+use Rattle.store.proofs.FormatState.{format-size, format-ended}
+use borrow.Author.Needs.{needs}
+use Rattle.store.proofs.format.format_lent.Statement.{statement}
+use Rattle.store.proofs.format.format_lent.Tie as tie
+use Rattle.store.proofs.format.format_lent.Reads as reads
+use Rattle.store.proofs.format.format_lent.Lts as lts
+use Rattle.log.proofs.format.format.Reads as format-reads
+use Rattle.store.proofs.admit.sized.Reads as sized-reads
+use Rattle.store.proofs.ending.ended.Reads as ended-reads
+use Rattle.store.proofs.ending.quiet.Reads as quiet-reads
+
+sized-requires : tie.Need-sized-requires
+sized-requires c κs = search needs
+
+quiet-requires : tie.Need-quiet-requires
+quiet-requires c κs = search needs
+
+returns : tie.Need-returns
+returns c buffer =
+    let h = c .before in
+    let z = h .before in
+    let a = z .before .before .before .args in
+    let s = joined (a .numbers) buffer (a .lens .now) (a .slots .now) in
+    rw (c .quiet .ensures) (format-size (a .allowance) (a .torn .now) s (a .image .now) (z .sized .result) (z .sized .ensures) (omega (arith, h .if1 .taken)))
+
+format-requires : tie.Need-format-requires
+format-requires c κs =
+    let l = c .before in
+    let z = l .before .sized in
+    let p : 0 < z .result = omega (arith, l .if1 .left) in
+    (z .ensures .chip p .size, p, z .ensures .torn p)
+
+same-length : tie.Need-same-length
+same-length c = search needs
+
+array-write-l : tie.Need-array-write-l
+array-write-l c = search needs
+
+ended-requires : tie.Need-ended-requires
+ended-requires c κs = search needs
+
+returns-2 : tie.Need-returns-2
+returns-2 c buffer =
+    let k = c .before .before .before .before .before in
+    let f = k .before .before in
+    let l = f .before .before in
+    let z = l .before .sized in
+    let a = l .before .before .before .before .args in
+    let s = joined (a .numbers) buffer (a .lens .now) (a .slots .now) in
+    format-ended (a .allowance) (a .torn .now) s (a .image .now) _ (z .result) (z .ensures) (omega (arith, l .if1 .left)) (f .format .result) (f .format .ensures)
+    (λ j. omega (arith, k .slice-known2 .given j)) buffer _ (c .ended .ensures buffer)
+
+pub format-lent-spec : {M : Type 1} → statement M
+format-lent-spec =
+    tie.close
+    (tie.spec sized-requires quiet-requires returns format-requires array-write-l ended-requires same-length returns-2)

@@ -1,0 +1,15 @@
+use borrow.Author.Needs.{needs}
+use Rattle.store.proofs.state.with_buffer.Statement.{statement}
+use Rattle.store.proofs.state.with_buffer.Tie as tie
+use Rattle.store.proofs.state.with_buffer.Reads as reads
+use Rattle.store.proofs.state.with_buffer.Lts as lts
+use Rattle.store.proofs.state.with_numbers.Reads as with-numbers-reads
+
+with-numbers-requires : tie.Need-with-numbers-requires
+with-numbers-requires c κs = search needs
+
+returns : tie.Need-returns
+returns c = rw (c .with-numbers .ensures)
+
+pub with-buffer-spec : {M : Type 1} → statement M
+with-buffer-spec = tie.close (tie.spec with-numbers-requires returns)

@@ -1,0 +1,41 @@
+-- A state in parts: its numbers by value, and its arrays, which the caller lends.
+use mathlib.Core.Bool.{false}
+use mathlib.Core.List.{List}
+use Prim.Native.Nat.{ℕ}
+use Rattle.store.specs.declared.state.Numbers.{Numbers}
+use Rattle.store.specs.declared.state.State.{State}
+use Rattle.store.specs.declared.state.Updated.{Updated}
+use Rattle.store.specs.declared.state.UpdatedParts.{UpdatedParts}
+use Rattle.store.specs.declared.state.Wrote.{Wrote}
+use Rattle.store.specs.declared.state.WroteParts.{WroteParts}
+
+-- the state of these numbers, the buffer, and the lengths and slots of the node table
+abbrev pub joined : Numbers → List ℕ → List ℕ → List ℕ → State
+joined n buffer lens slots =
+    record {
+      on = n .on;
+      blocks = n .blocks;
+      commit = n .commit;
+      pending = n .pending;
+      next = n .next;
+      count = n .count;
+      buffer = buffer;
+      lens = lens;
+      slots = slots;
+    }
+
+-- the numbers of a state
+abbrev pub numbersOf : State → Numbers
+numbersOf s = record { on = s .on; blocks = s .blocks; commit = s .commit; pending = s .pending; next = s .next; count = s .count }
+
+-- the same numbers, off
+abbrev pub numbersOff : Numbers → Numbers
+numbersOff n = record { on = false; blocks = n .blocks; commit = n .commit; pending = n .pending; next = n .next; count = n .count }
+
+-- what an insert or a delete gives back, with the arrays that it leaves
+abbrev pub updatedWith : UpdatedParts → List ℕ → List ℕ → List ℕ → Updated
+updatedWith r buffer lens slots = record { answer = r .answer; state = joined (r .numbers) buffer lens slots }
+
+-- what a format, a mount or a commit gives back, with the arrays that it leaves
+abbrev pub wroteWith : WroteParts → List ℕ → List ℕ → List ℕ → Wrote
+wroteWith r buffer lens slots = record { answer = r .answer; ops = r .ops; state = joined (r .numbers) buffer lens slots }

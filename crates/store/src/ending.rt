@@ -1,0 +1,64 @@
+// What format, mount and commit give back: nothing done, refused, or ended after their operations.
+ghost use mathlib.Core.Path.{_≡_};
+ghost use mathlib.Core.List.{List};
+ghost use Prim.Native.Nat.{ℕ};
+ghost use Rattle.store.specs.Ending.{endedWith};
+ghost use Rattle.store.specs.Parts.{joined, numbersOff, wroteWith};
+use crate::answer::Answer;
+use crate::state;
+use crate::state::Numbers;
+use crate::state::WroteParts;
+use chip::power;
+use chip::power::Power;
+
+// Nothing done: the numbers are given back as they were.
+pub fn quiet(numbers: Numbers, answer: Answer) -> WroteParts
+    ensures { λ r. ⌜ r ≡ record { answer = answer; ops = 0; numbers = numbers } ⌝ }
+{
+    WroteParts {
+        answer,
+        ops: 0,
+        numbers,
+    }
+}
+
+// Refused: the state is off.
+pub fn refused(numbers: Numbers, answer: Answer, ops: u32) -> WroteParts
+    ensures { λ r. ⌜ r ≡ record { answer = answer; ops = ops; numbers = numbersOff numbers } ⌝ }
+{
+    let off = state::turned_off(numbers);
+    WroteParts {
+        answer,
+        ops,
+        numbers: off,
+    }
+}
+
+// After operations that leave the power `left` of `allowance`: all done, the state has the numbers `after` and the node table `new_lens`
+// and `new_slots`; cut, it is the one given, off.
+pub fn ended(
+    numbers: Numbers,
+    lens: &mut [u32; 256],
+    slots: &mut [u32; 1024],
+    after: Numbers,
+    new_lens: &[u32; 256],
+    new_slots: &[u32; 1024],
+    allowance: u32,
+    left: Power,
+) -> WroteParts
+    ensures { λ r. ⌜ ((buffer : List ℕ) → wroteWith r buffer (now (lens .exit)) (now (slots .exit))
+        ≡ endedWith allowance left (joined numbers buffer (now (lens .entry)) (now (slots .entry)))
+        (joined after buffer (now («new_lens» .entry)) (now («new_slots» .entry)))) ⌝ }
+{
+    let ops = power::done_of(allowance, left);
+    if power::gone(left) {
+        return refused(numbers, Answer::Power, ops);
+    }
+    *lens = *new_lens;
+    *slots = *new_slots;
+    WroteParts {
+        answer: Answer::Accepted,
+        ops,
+        numbers: after,
+    }
+}
