@@ -16,7 +16,7 @@ use Rattle.frames.specs.Frames.{digitOf, isDigit, allDigits, more, value
 from : (s : List ℕ) (i : ℕ) → i < length s → allDigits (drop i s) ≡ isDigit (getD s i 0) && allDigits (drop (i + 1) s)
 from s i h = rw (add-one, drop-cons s i 0)
 
-drop-past : (s : List ℕ) (i : ℕ) → length s ≤ i → drop i s ≡ []
+pub drop-past : (s : List ℕ) (i : ℕ) → length s ≤ i → drop i s ≡ []
 drop-past [] zero h = refl
 drop-past [] (suc i) h = refl
 drop-past (x ∷ s) zero h = absurd (omega arith)

@@ -21,13 +21,13 @@ drop-digits zero s h = h
 drop-digits (suc a) [] h = refl
 drop-digits (suc a) (b ∷ s) h = drop-digits a s (and-right (isDigit b) (allDigits s) h)
 
-take-few : (k : ℕ) (s : List ℕ) → length (take k s) ≤ k
+pub take-few : (k : ℕ) (s : List ℕ) → length (take k s) ≤ k
 take-few zero s = omega arith
 take-few (suc k) [] = omega arith
 take-few (suc k) (b ∷ s) = omega (arith, take-few k s)
 
 module _ (s : List ℕ) (g : Bool) (same : g ≡ allDigits s) where
-  digits : not g ≡ false → allDigits s ≡ true
+  pub digits : not g ≡ false → allDigits s ≡ true
   digits h = sym same ∙ not-false g h
 
   -- a part of at most 8 digits

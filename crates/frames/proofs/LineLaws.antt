@@ -15,7 +15,7 @@ use Rattle.frames.specs.Lines.{Longer, Empties, framed, Frames}
 use Rattle.lists.proofs.Tests.{cases}
 
 -- a length below 19 is that of the bytes
-min-back : (n k : ℕ) → k ≡ min 19 n → k < 19 → n ≡ k
+pub min-back : (n k : ℕ) → k ≡ min 19 n → k < 19 → n ≡ k
 min-back n k e h = omega arith
 
 snoc-length : (bs : List ℕ) (b : ℕ) → length (bs ++ (b ∷ [])) ≡ length bs + 1

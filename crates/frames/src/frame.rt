@@ -15,7 +15,7 @@ pub struct Frame {
 }
 
 // The number of a digit, 16 for a byte that is no digit.
-fn digit(byte: u8) -> u64
+pub fn digit(byte: u8) -> u64
     ensures { λ r. ⌜ (r ≡ digitOf byte) × (r ≤ 16) ⌝ }
 {
     if byte < 48 {
@@ -34,7 +34,7 @@ fn digit(byte: u8) -> u64
 }
 
 // Whether all bytes are digits.
-fn all_digits(s: &[u8]) -> bool
+pub fn all_digits(s: &[u8]) -> bool
     ensures { λ r. ⌜ r ≡ allDigits (now (s .entry)) ⌝ }
 {
     let mut i = 0;
@@ -48,7 +48,7 @@ fn all_digits(s: &[u8]) -> bool
 }
 
 // The number of at most 8 digits.
-fn value_of(s: &[u8]) -> u32
+pub fn value_of(s: &[u8]) -> u32
     requires { ⌜ (length (now s) ≤ 8) × (allDigits (now s) ≡ true) ⌝ }
     ensures { λ r. ⌜ r ≡ value (now (s .entry)) ⌝ }
 {

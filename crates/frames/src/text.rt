@@ -13,7 +13,7 @@ pub struct Text {
 }
 
 // The digit of a number below 16.
-fn digit_text(d: u32) -> u8
+pub fn digit_text(d: u32) -> u8
     requires { ⌜ d < 16 ⌝ }
     ensures { λ r. ⌜ r ≡ digitText d ⌝ }
 {

@@ -1,0 +1,5 @@
+pub mod OrderLaws
+pub mod ReplyLaws
+pub mod SumLaws
+pub mod NoiseLaws
+pub mod Examples

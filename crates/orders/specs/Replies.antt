@@ -1,0 +1,54 @@
+-- The lines that the probe writes, as lists of bytes with their line feed.
+use mathlib.Core.Path.{_≡_}
+use mathlib.Core.List.{List, [], _∷_, _++_}
+use Prim.Native.Nat.{ℕ, _+_}
+use lib.ListN.{length, take}
+use Rattle.lists.specs.Lists.{flat}
+use Rattle.frames.specs.Frames.{hexText}
+use Rattle.store.specs.declared.answer.Look.{Look}
+use Rattle.store.specs.declared.answer.Look.the-variants as L
+use Rattle.store.specs.declared.answer.Report.{Report}
+use Rattle.store.specs.declared.answer.Report.the-variants as R
+
+-- bs written behind the first `at` bytes of a buffer: r bytes are gathered then
+pub record Adds (before : List ℕ) (at : ℕ) (bs : List ℕ) (after : List ℕ) (r : ℕ) : Type 0 where
+  pub end : r ≡ at + length bs
+  pub bytes : take r after ≡ take at before ++ bs
+
+-- a line feed
+abbrev pub feed : List ℕ
+feed = 10 ∷ []
+
+-- a refusal alone; 255 makes FF
+abbrev pub shortLine : ℕ → List ℕ
+shortLine refusal = hexText refusal 2 ++ feed
+
+-- a refusal and a number
+abbrev pub countedLine : ℕ → ℕ → List ℕ
+countedLine refusal n = hexText refusal 2 ++ (hexText n 8 ++ feed)
+
+-- a value found and the pages read
+abbrev pub foundLine : ℕ → ℕ → List ℕ
+foundLine value pages = hexText 0 2 ++ (hexText value 8 ++ shortLine pages)
+
+-- a value and the pages read when found, 04 and the pages read when absent, a refusal alone
+abbrev pub lookLine : Look → List ℕ
+lookLine (L.Found value pages) = foundLine value pages
+lookLine (L.Absent pages) = hexText 4 2 ++ shortLine pages
+lookLine L.Off = shortLine 2
+lookLine L.Size = shortLine 1
+
+-- the free pages and the first of them, or a refusal
+abbrev pub reportLine : Report → List ℕ
+reportLine (R.Free count first) = hexText 0 2 ++ (hexText count 2 ++ shortLine first)
+reportLine R.Off = shortLine 2
+reportLine R.Size = shortLine 1
+reportLine R.Absent = shortLine 4
+
+-- bytes, two digits each
+abbrev pub bytesText : List ℕ → List ℕ
+bytesText bs = flat (λ b. hexText b 2) bs
+
+-- the bytes of a part that is shown
+abbrev pub shownLine : List ℕ → List ℕ
+shownLine bs = hexText 0 2 ++ (bytesText bs ++ feed)
