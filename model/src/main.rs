@@ -1,268 +1,212 @@
-mod model;
-mod twin;
+//! The commands: `run`, `crash`, `script`, `bench`, `figures`.
 
-use model::{Answer, Call, Plain, BLOCK, PAGE};
-use twin::State;
+use model::crash::Case;
+use model::random::Random;
+use model::scripts::{self, KINDS};
+use model::{figures, runner};
+use std::path::{Path, PathBuf};
+use std::process::ExitCode;
+use std::time::{Duration, Instant, SystemTime, UNIX_EPOCH};
 
-/// A generator of numbers: xorshift.
-struct Random(u64);
-
-impl Random {
-    fn next(&mut self) -> u64 {
-        self.0 ^= self.0 << 13;
-        self.0 ^= self.0 >> 7;
-        self.0 ^= self.0 << 17;
-        self.0
-    }
-
-    fn below(&mut self, n: u64) -> u64 {
-        self.next() % n
-    }
-}
-
-/// The twin held to the plain store: random calls with cuts and torn bytes.
-fn hold(seed: u64, blocks: usize, calls: usize) -> u32 {
-    let mut r = Random(seed * 2654435761 + 88172645463325252);
-    let mut image = vec![255; blocks * BLOCK];
-    let mut torn = vec![90; PAGE];
-    let mut s = State::default();
-    assert_eq!(s.format(&mut image, &torn, 2000).refusal, 0);
-    let mut p = Plain::fresh(blocks);
-    let keys = [40, 400, 1_000_000][r.below(3) as usize];
-    let mut most = 0;
-    for _ in 0..calls {
-        let key = r.below(keys) as u32;
-        let call = match r.below(20) {
-            0..=9 => Call::Insert { key, value: r.next() as u32 },
-            10..=12 => Call::Delete { key },
-            13..=15 => Call::LookUp { key },
-            16..=18 => Call::Commit { allowance: if r.below(3) == 0 { r.below(60) as u32 } else { 2000 } },
-            _ => Call::Mount { allowance: if r.below(4) == 0 { r.below(3) as u32 } else { 255 } },
-        };
-        match r.below(4) {
-            0 => torn.fill(0),
-            1 => torn.fill(90),
-            2 => torn.iter_mut().for_each(|b| *b = r.next() as u8),
-            _ => torn[0] = 0,
-        }
-        let before = model::meaning(&image, blocks).unwrap();
-        let answer = match call {
-            Call::Insert { key, value } => s.insert(&image, key, value),
-            Call::Delete { key } => s.delete(&image, key),
-            Call::LookUp { key } => {
-                let (refusal, value, pages) = s.look_up(&image, key);
-                assert!(pages <= 16);
-                if refusal == 0 {
-                    assert_eq!(p.step(call, image.len(), PAGE, false, false), Answer::Found(value));
-                    continue;
-                }
-                refusal
-            }
-            Call::Commit { allowance } => {
-                let t = s.commit(&mut image, &torn, allowance);
-                most = most.max(t.ops);
-                t.refusal
-            }
-            Call::Mount { allowance } => s.mount(&mut image, &torn, allowance).refusal,
-            Call::Format { allowance } => s.format(&mut image, &torn, allowance).refusal,
-        };
-        let after = model::meaning(&image, blocks).unwrap();
-        let counts = after.number != before.number;
-        let plain = p.step(call, image.len(), PAGE, answer == 10, counts);
-        let told = if answer == 0 { Answer::Accepted } else { Answer::Refused(answer) };
-        assert_eq!(told, plain, "seed {seed} {call:?}");
-        assert_eq!((&after.tree, after.number), (&p.kept, p.number), "seed {seed} {call:?}");
-        if !s.on && r.below(2) == 0 {
-            assert_eq!(s.mount(&mut image, &torn, 255).refusal, 0);
-            p.step(Call::Mount { allowance: 255 }, image.len(), PAGE, false, false);
-        }
-    }
-    most
-}
-
-/// What commits of 16 events cost: pages programmed, blocks erased, the most operations of one commit.
+/// How many scripts passed and failed, and how many lines they had.
 #[derive(Default)]
-struct Cost {
-    commits: u32,
-    programs: u32,
-    erases: u32,
-    most: u32,
+struct Count {
+    passed: usize,
+    failed: usize,
+    lines: usize,
 }
 
-/// A store on a chip that is formatted, with the costs of its commits.
-struct Run {
-    image: Vec<u8>,
-    torn: Vec<u8>,
-    state: State,
-    cost: Cost,
-}
-
-impl Run {
-    fn new(blocks: usize) -> Run {
-        let mut run = Run { image: vec![255; blocks * BLOCK], torn: vec![90; PAGE], state: State::default(), cost: Cost::default() };
-        run.state.format(&mut run.image, &run.torn, 2000);
-        run
-    }
-
-    /// A commit where 16 events are pending.
-    fn settle(&mut self) {
-        if self.state.pending < 16 {
-            return;
-        }
-        let t = self.state.commit(&mut self.image, &self.torn, 2000);
-        assert_eq!(t.refusal, 0);
-        self.cost.commits += 1;
-        self.cost.programs += t.programs;
-        self.cost.erases += t.erases;
-        self.cost.most = self.cost.most.max(t.ops);
-    }
-
-    fn tell(&self, blocks: usize, work: &str) {
-        let n = f64::from(self.cost.commits);
-        println!(
-            "| {blocks} | {work} | {} | {:.2} | {:.3} | {} |",
-            self.cost.commits,
-            f64::from(self.cost.programs) / n,
-            f64::from(self.cost.erases) / n,
-            self.cost.most
-        );
-    }
-}
-
-/// Rising keys, each followed by the delete of the key 64 before it. Node numbers are never used again, so the chip is formatted anew
-/// where an insert is refused with 5.
-fn rising(blocks: usize, commits: u32) {
-    let mut run = Run::new(blocks);
-    let mut key = 0;
-    while run.cost.commits < commits {
-        match run.state.insert(&run.image, key, key) {
-            0 => {}
-            _ => {
-                run.state.format(&mut run.image, &run.torn, 2000);
-                key = 0;
-                continue;
+impl Count {
+    /// A script's result taken into account; a failure is printed.
+    fn take(&mut self, name: &str, seed: u64, lines: usize, result: Result<(), String>) {
+        self.lines += lines;
+        match result {
+            Ok(()) => self.passed += 1,
+            Err(why) => {
+                self.failed += 1;
+                println!("failed: {name}, seed {seed}: {why}");
             }
         }
-        run.settle();
-        if key >= 64 {
-            assert_eq!(run.state.delete(&run.image, key - 64), 0);
-            run.settle();
-        }
-        key += 1;
     }
-    run.tell(blocks, "rising keys, the oldest deleted");
+
+    /// Another count added.
+    fn add(&mut self, other: &Count) {
+        self.passed += other.passed;
+        self.failed += other.failed;
+        self.lines += other.lines;
+    }
 }
 
-/// Random keys over a nearly full tree: keys are inserted until one is refused with 5, then random ones of them are written anew.
-fn random(blocks: usize, commits: u32) {
-    let mut run = Run::new(blocks);
-    let mut r = Random(88172645463325252);
-    let mut keys: Vec<u32> = Vec::new();
-    loop {
-        let key = r.next() as u32;
-        if run.state.insert(&run.image, key, 1) != 0 {
-            break;
-        }
-        keys.push(key);
-        run.settle();
-    }
-    run.cost = Cost::default();
-    while run.cost.commits < commits {
-        let key = keys[r.below(keys.len() as u64) as usize];
-        assert_eq!(run.state.insert(&run.image, key, r.next() as u32), 0);
-        run.settle();
-    }
-    run.tell(blocks, &format!("random keys, {} in the tree", keys.len()));
+/// The last line of a run, and its exit code.
+fn finish(count: &Count) -> ExitCode {
+    println!("{} passed, {} failed", count.passed, count.failed);
+    ExitCode::from(u8::from(count.failed > 0))
 }
 
-/// A script for the bench program and what it must print: the example of the document, then calls with cuts, and lines that are no frame.
-fn script(seed: u64, lines: usize) -> (String, String) {
-    let mut r = Random(seed * 2654435761 + 88172645463325252);
-    let mut image = vec![255; 3 * BLOCK];
-    let torn = vec![90; PAGE];
-    let mut s = State::default();
-    let (mut input, mut output) = (String::new(), String::new());
-    let example = ["00", "010000000700000063", "0300000007", "0400000000", "0300000007", "05000000FF", "0300000007"];
-    for n in 0..lines {
-        let key = match r.below(4) {
-            0 => r.below(20),
-            1 => r.below(60) * 7,
-            2 if n > lines / 2 => r.below(3000),
-            _ => r.below(150),
-        };
-        let line = if n < example.len() {
-            example[n].to_string()
-        } else if !s.on {
-            match r.below(6) {
-                0 => "0300000001".into(),
-                1 => "0400000010".into(),
-                _ => format!("05{:08X}", if r.below(4) == 0 { r.below(3) } else { 255 }),
-            }
-        } else if s.pending >= 16 && r.below(3) > 0 || r.below(24) == 0 {
-            format!("04{:08X}", if r.below(3) == 0 { r.below(12) } else { 2000 })
-        } else {
-            match r.below(200) {
-                0..=99 => format!("01{:08X}{:08X}", key, r.next() as u32),
-                100..=139 => format!("02{key:08X}"),
-                140..=189 => format!("03{key:08X}"),
-                190..=192 => format!("05{:08X}", r.below(256)),
-                193 if n + 1 < lines => String::new(),
-                194 => "06".into(),
-                195 => format!("03{key:07X}"),
-                196 => "03abcdef01".into(),
-                197 => format!("01{:08X}{:08X}0", key, 1),
-                198 if r.below(6) == 0 => "00".into(),
-                _ => "0 ".into(),
-            }
-        };
-        let number = |at: usize| u32::from_str_radix(&line[at..at + 8], 16).unwrap();
-        let frame = line.bytes().all(|b| b.is_ascii_digit() || (b'A'..=b'F').contains(&b));
-        let mut told = String::new();
-        let refusal = match (if frame { line.get(..2).unwrap_or("") } else { "" }, line.len()) {
-            ("00", 2) => s.format(&mut image, &torn, u32::MAX).refusal,
-            ("01", 18) => s.insert(&image, number(2), number(10)),
-            ("02", 10) => s.delete(&image, number(2)),
-            ("03", 10) => {
-                let (refusal, value, _) = s.look_up(&image, number(2));
-                if refusal == 0 {
-                    told = format!("{value:08X}");
-                }
-                refusal
-            }
-            ("04", 10) => s.commit(&mut image, &torn, number(2)).refusal,
-            ("05", 10) => s.mount(&mut image, &torn, number(2)).refusal,
-            _ => 255,
-        };
-        input += &line;
-        if n + 1 < lines {
-            input += "\n";
-        }
-        output += &format!("{refusal:02X}{told}\n");
+/// The seed given, or one from the clock.
+fn seed_of(word: Option<&String>) -> Result<u64, String> {
+    match word {
+        Some(word) => word.parse().map_err(|_| format!("no seed: {word}")),
+        None => Ok(SystemTime::now().duration_since(UNIX_EPOCH).map_err(|e| e.to_string())?.as_nanos() as u64 >> 10),
     }
-    (input, output)
 }
 
-fn main() {
-    let words: Vec<String> = std::env::args().collect();
-    if words.len() == 5 && words[1] == "script" {
-        let (input, output) = script(words[2].parse().unwrap(), words[3].parse().unwrap());
-        std::fs::write(format!("{}/stdin", words[4]), input).unwrap();
-        std::fs::write(format!("{}/stdout", words[4]), output).unwrap();
-        return;
+/// The number that a word is.
+fn number(word: &str) -> Result<u64, String> {
+    word.parse().map_err(|_| format!("no number: {word}"))
+}
+
+/// The stored scripts' folder.
+fn stored_folder() -> PathBuf {
+    Path::new(env!("CARGO_MANIFEST_DIR")).join("scripts")
+}
+
+/// A stored script run: the program prints the stored replies, and these pass the twin and the judge.
+fn run_stored(path: &Path, probe: &str, bench: &str) -> Result<usize, String> {
+    let input = std::fs::read(path).map_err(|e| e.to_string())?;
+    let replies = runner::lines_of(&std::fs::read(path.with_extension("out")).map_err(|e| e.to_string())?);
+    let script = runner::lines_of(&input);
+    let is_bench = path.file_name().is_some_and(|name| name.to_string_lossy().starts_with("bench"));
+    let program = if is_bench { bench } else { probe };
+    let printed = runner::lines_of(&runner::play(program, input)?);
+    if let Some(at) = (0..replies.len().max(printed.len())).find(|&i| replies.get(i) != printed.get(i)) {
+        return Err(format!("line {}: the reply is not the stored one", at + 1));
     }
-    if words.len() == 2 && words[1] == "figures" {
-        println!("| B | Work | Commits | Pages a commit | Erases a commit | Most operations |");
-        println!("|---|---|---|---|---|---|");
-        for blocks in [3, 8, 32] {
-            rising(blocks, 2000);
-            random(blocks, 2000);
+    if is_bench {
+        let same = runner::bench_replies(&script) == replies;
+        return same.then_some(script.len()).ok_or("the twin's replies are not the stored ones".into());
+    }
+    runner::judge(&script, &replies).map(|()| script.len())
+}
+
+/// All stored scripts run.
+fn run_all_stored(probe: &str, bench: &str) -> Count {
+    let mut count = Count::default();
+    let mut paths: Vec<PathBuf> = std::fs::read_dir(stored_folder()).into_iter().flatten().flatten().map(|entry| entry.path()).collect();
+    paths.retain(|path| path.extension().is_some_and(|e| e == "in"));
+    paths.sort();
+    for path in paths {
+        let result = run_stored(&path, probe, bench);
+        let lines = *result.as_ref().unwrap_or(&0);
+        count.take(&path.file_name().unwrap_or_default().to_string_lossy(), 0, lines, result.map(drop));
+    }
+    println!("stored: {} scripts, {} lines", count.passed + count.failed, count.lines);
+    count
+}
+
+/// One fresh script: of the kind at `turn`, or behind the last kind one for the bench program.
+fn run_fresh(turn: usize, seed: u64, probe: &str, bench: &str, counts: &mut [Count]) {
+    let mut random = Random::new(seed);
+    match KINDS.get(turn) {
+        Some(kind) => {
+            let script = (kind.make)(&mut random);
+            counts[turn].take(kind.name, seed, script.len(), runner::run_probe(probe, &script));
         }
-        return;
+        None => {
+            let script = scripts::bench::make(&mut random, 3000);
+            counts[turn].take("bench", seed, script.len(), runner::run_bench(bench, &script));
+        }
     }
-    let mut most = 0;
-    for seed in 1..60 {
-        let blocks = [3, 4, 8, 16, 32][seed as usize % 5];
-        most = most.max(hold(seed, blocks, 1500));
+}
+
+/// `run SECONDS PROBE BENCH [SEED]`.
+fn run(words: &[String]) -> Result<ExitCode, String> {
+    let [seconds, probe, bench, rest @ ..] = words else { return Err("run SECONDS PROBE BENCH [SEED]".into()) };
+    let (start, limit) = (Instant::now(), Duration::from_secs(number(seconds)?));
+    let first = seed_of(rest.first())?;
+    let mut all = run_all_stored(probe, bench);
+    let mut counts: Vec<Count> = (0..=KINDS.len()).map(|_| Count::default()).collect();
+    println!("first seed {first}");
+    let mut fresh = 0;
+    while start.elapsed() < limit {
+        run_fresh(fresh % counts.len(), first.wrapping_add(fresh as u64), probe, bench, &mut counts);
+        fresh += 1;
     }
-    println!("held; at most {most} operations");
+    let names = KINDS.iter().map(|kind| kind.name).chain(["bench"]);
+    for (name, count) in names.zip(&counts) {
+        println!("{name}: {} scripts, {} lines", count.passed + count.failed, count.lines);
+        all.add(count);
+    }
+    Ok(finish(&all))
+}
+
+/// `crash SCRIPTS PROBE [SEED]`.
+fn crash(words: &[String]) -> Result<ExitCode, String> {
+    let [scripts, probe, rest @ ..] = words else { return Err("crash SCRIPTS PROBE [SEED]".into()) };
+    let first = seed_of(rest.first())?;
+    println!("first seed {first}");
+    let (mut count, mut replays) = (Count::default(), 0);
+    for n in 0..number(scripts)? {
+        let seed = first.wrapping_add(n);
+        let mut random = Random::new(seed);
+        let script = Case::new(&mut random).replays(&mut random);
+        replays += script.replays;
+        count.take("crash", seed, script.lines.len(), runner::run_probe(probe, &script.lines));
+    }
+    println!("{} scripts, {replays} replays, {} lines", count.passed + count.failed, count.lines);
+    Ok(finish(&count))
+}
+
+/// Replies as a text.
+fn output_of(replies: Vec<Vec<u8>>) -> Vec<u8> {
+    replies.into_iter().flat_map(|reply| [reply, vec![b'\n']].concat()).collect()
+}
+
+/// `script KIND SEED DIR`: a script of a kind, also `crash` and `bench`, and the twin's replies to it.
+fn script(words: &[String]) -> Result<ExitCode, String> {
+    let [name, seed, dir] = words else { return Err("script KIND SEED DIR".into()) };
+    let mut random = Random::new(number(seed)?);
+    let (script, replies) = match (name.as_str(), scripts::kind(name)) {
+        ("bench", _) => {
+            let script = scripts::bench::make(&mut random, 2000);
+            let replies = runner::bench_replies(&script);
+            (script, replies)
+        }
+        (_, kind) => {
+            let script = match kind {
+                Some(kind) => (kind.make)(&mut random),
+                None if name == "crash" => Case::new(&mut random).replays(&mut random).lines,
+                None => return Err(format!("no kind of script: {name}")),
+            };
+            let replies = runner::probe_replies(&script);
+            (script, replies)
+        }
+    };
+    write(dir, &format!("{name}.in"), &runner::text_of(&script))?;
+    write(dir, &format!("{name}.out"), &output_of(replies))?;
+    Ok(ExitCode::SUCCESS)
+}
+
+/// `bench SEED LINES DIR`: standard input and output for the bench program.
+fn bench(words: &[String]) -> Result<ExitCode, String> {
+    let [seed, lines, dir] = words else { return Err("bench SEED LINES DIR".into()) };
+    let script = scripts::bench::make(&mut Random::new(number(seed)?), number(lines)? as usize);
+    write(dir, "stdin", &script.join(&b'\n'))?;
+    write(dir, "stdout", &output_of(runner::bench_replies(&script)))?;
+    Ok(ExitCode::SUCCESS)
+}
+
+/// A file written in a folder.
+fn write(dir: &str, name: &str, bytes: &[u8]) -> Result<(), String> {
+    std::fs::write(Path::new(dir).join(name), bytes).map_err(|e| e.to_string())
+}
+
+/// The command that the first word names.
+fn main() -> ExitCode {
+    let words: Vec<String> = std::env::args().skip(1).collect();
+    let result = match words.first().map(String::as_str) {
+        Some("run") => run(&words[1..]),
+        Some("crash") => crash(&words[1..]),
+        Some("script") => script(&words[1..]),
+        Some("bench") => bench(&words[1..]),
+        Some("figures") => {
+            figures::print();
+            Ok(ExitCode::SUCCESS)
+        }
+        _ => Err("commands: run, crash, script, bench, figures".into()),
+    };
+    result.unwrap_or_else(|why| {
+        eprintln!("{why}");
+        ExitCode::from(2)
+    })
 }

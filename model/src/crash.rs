@@ -1,0 +1,189 @@
+//! The crash test: every allowance of a commit, of a mount and of a format, with several torn slices, then a mount and look ups.
+
+use crate::random::Random;
+use crate::scripts::torn;
+use crate::scripts::writer::Writer;
+
+/// One step of a case: an update, or a commit with power enough.
+#[derive(Clone, Copy)]
+enum Step {
+    Insert(u32, u32),
+    Delete(u32),
+    Commit,
+}
+
+/// What each replay of a case begins with: a format, rounds of updates and commits, and at the end pending updates.
+pub struct Case {
+    blocks: u32,
+    steps: Vec<Step>,
+    keys: Vec<u32>,
+}
+
+/// The lines of all replays of a case, and how many replays they are.
+pub struct Replays {
+    pub lines: Vec<Vec<u8>>,
+    pub replays: usize,
+}
+
+/// Which commits a case ends before: any, one that erases a block, or one of so many pages or more.
+#[derive(Clone, Copy, PartialEq)]
+enum Aim {
+    Any,
+    Erase,
+    Pages(u32),
+}
+
+/// The aims, each as often as it stands here.
+const AIMS: [Aim; 8] = [Aim::Any, Aim::Any, Aim::Erase, Aim::Erase, Aim::Erase, Aim::Pages(2), Aim::Pages(2), Aim::Pages(3)];
+
+impl Case {
+    /// A case for this seed.
+    pub fn new(random: &mut Random) -> Case {
+        let aim = AIMS[random.index(AIMS.len())];
+        let blocks = if aim == Aim::Erase { [3, 3, 3, 4][random.index(4)] } else { [3, 3, 4, 8][random.index(4)] };
+        let range = if matches!(aim, Aim::Pages(_)) { [120, 260][random.index(2)] } else { [30, 60, 120, 260][random.index(4)] };
+        let keys: Vec<u32> = (0..range).map(|i| if i == 0 { 0 } else { i * (u32::MAX / (range - 1)) }).collect();
+        let mut case = Case { blocks, steps: Vec::new(), keys };
+        let mut writer = case.begin();
+        let rounds = 3 + random.below(if aim == Aim::Any { 40 } else { 8 });
+        for round in 0.. {
+            case.round(random, &mut writer);
+            let need = writer.probe().need(4);
+            let aimed = match aim {
+                Aim::Any => true,
+                Aim::Erase => !need.is_multiple_of(3),
+                Aim::Pages(pages) => need >= 3 * pages,
+            };
+            if round >= rounds && aimed || round > 200 {
+                break;
+            }
+            case.take(&mut writer, Step::Commit);
+        }
+        case
+    }
+
+    /// Up to 16 updates, at least one of them accepted.
+    fn round(&mut self, random: &mut Random, writer: &mut Writer) {
+        let updates = [1, 1, 2, 3, 8, 16][random.index(6)];
+        let mut done = 0;
+        while done < updates {
+            let key = self.keys[random.index(self.keys.len())];
+            let step = match random.below(5) {
+                0 => Step::Delete(key),
+                _ => Step::Insert(key, random.next() as u32),
+            };
+            if self.take(writer, step) == 0 {
+                done += 1;
+            } else {
+                self.steps.pop();
+            }
+        }
+    }
+
+    /// One more step, done at once.
+    fn take(&mut self, writer: &mut Writer, step: Step) -> u32 {
+        self.steps.push(step);
+        apply(writer, step)
+    }
+
+    /// A script that has formatted a chip of the case's size.
+    fn begin(&self) -> Writer {
+        let mut writer = Writer::new();
+        writer.lend(self.blocks);
+        writer.format(2000);
+        writer
+    }
+
+    /// The chip formatted and the steps done.
+    fn replay(&self, writer: &mut Writer) {
+        writer.format(u32::MAX);
+        for &step in &self.steps {
+            apply(writer, step);
+        }
+    }
+
+    /// A checksum, a mount with power enough, a checksum, and a look up of every key of the case and of some others.
+    fn check(&self, writer: &mut Writer) {
+        writer.check();
+        writer.mount(255);
+        writer.check();
+        for &key in &self.keys {
+            writer.look_up(key);
+        }
+        for key in [1, 77_777, 1 << 31, u32::MAX - 1] {
+            writer.look_up(key);
+        }
+    }
+
+    /// Every allowance of the pending commit with each of several torn slices; cut mounts; cut formats.
+    pub fn replays(&self, random: &mut Random) -> Replays {
+        let mut writer = self.begin();
+        let mut replays = 0;
+        for kind in [0, 1, 2, 4, 5, 6, 8] {
+            replays += self.cut_commits(random, &mut writer, kind);
+        }
+        replays += self.cut_mounts(random, &mut writer);
+        replays += self.cut_formats(&mut writer);
+        Replays { lines: writer.lines(), replays }
+    }
+
+    /// A replay for each allowance from 0 to what the commit needs, with torn bytes of a kind.
+    fn cut_commits(&self, random: &mut Random, writer: &mut Writer, kind: u64) -> usize {
+        self.replay(writer);
+        let need = writer.probe().need(4);
+        let bytes = torn::bytes(random, writer, kind);
+        writer.tear(&bytes);
+        for allowance in 0..=need {
+            if allowance > 0 {
+                self.replay(writer);
+            }
+            writer.commit(allowance);
+            self.check(writer);
+        }
+        need as usize + 1
+    }
+
+    /// A commit cut at its last operation, whose pages are void then, and a replay for each allowance of the mount.
+    fn cut_mounts(&self, random: &mut Random, writer: &mut Writer) -> usize {
+        let kind = [0, 1, 2, 4][random.index(4)];
+        let bytes = torn::bytes(random, writer, kind);
+        writer.tear(&bytes);
+        let mut allowance = 0;
+        loop {
+            self.replay(writer);
+            let need = writer.probe().need(4);
+            writer.tear(&[1]);
+            writer.commit(need - 1);
+            let voids = writer.probe().need(5);
+            writer.tear(&bytes[..1]);
+            writer.mount(allowance);
+            self.check(writer);
+            allowance += 1;
+            if allowance > voids {
+                return allowance as usize;
+            }
+        }
+    }
+
+    /// A format for each allowance up to what it needs, mounted as it is left.
+    fn cut_formats(&self, writer: &mut Writer) -> usize {
+        let need = self.blocks + 3;
+        for allowance in 0..=need {
+            self.replay(writer);
+            writer.format(allowance);
+            writer.check();
+            writer.mount(255);
+            writer.check();
+        }
+        need as usize + 1
+    }
+}
+
+/// One step of a case.
+fn apply(writer: &mut Writer, step: Step) -> u32 {
+    match step {
+        Step::Insert(key, value) => writer.insert(key, value),
+        Step::Delete(key) => writer.delete(key),
+        Step::Commit => writer.commit(u32::MAX),
+    }
+}

@@ -1,0 +1,87 @@
+//! Makers of images: valid ones that no commit of a store wrote, and damaged ones with a single fault.
+mod draft;
+mod fault_pages;
+mod fault_tree;
+mod fault_units;
+mod grow;
+mod history;
+mod steep;
+
+use crate::model::tree::Tree;
+use crate::random::Random;
+use draft::Draft;
+
+/// A fault, put into a tree before it is written or into the written pages. False when the image gives no occasion for it.
+enum Make {
+    Tree(fn(&mut Tree, &mut Random) -> bool),
+    Pages(fn(&mut Draft, &mut Random) -> bool),
+}
+
+/// A fault: its name, the refusal that mount gives for it, and its maker.
+pub struct Fault {
+    pub name: &'static str,
+    pub refusal: u32,
+    make: Make,
+}
+
+/// A damaged image, the name of its fault and the refusal intended.
+pub struct Damaged {
+    pub image: Vec<u8>,
+    pub fault: &'static str,
+    pub refusal: u32,
+}
+
+/// An image that obeys the layout and is no product of a store's commits.
+pub fn valid(random: &mut Random, blocks: usize) -> Vec<u8> {
+    let tree = grow::tree(random, blocks);
+    history::draft(random, blocks, &tree).render()
+}
+
+/// A valid image whose tree is full, or almost, on the path of a key that it does not have, and that key.
+pub fn full_path(random: &mut Random, blocks: usize) -> (Vec<u8>, u32) {
+    let (tree, key) = steep::tree(random, blocks);
+    (history::draft(random, blocks, &tree).render(), key)
+}
+
+/// A valid image with one fault, drawn from all.
+pub fn damaged(random: &mut Random, blocks: usize) -> Damaged {
+    let faults = faults();
+    loop {
+        let at = random.index(faults.len());
+        if let Some(damaged) = damaged_by(random, blocks, &faults[at]) {
+            return damaged;
+        }
+    }
+}
+
+/// A valid image with one given fault; none when many valid images gave no occasion for it.
+pub fn damaged_by(random: &mut Random, blocks: usize, fault: &Fault) -> Option<Damaged> {
+    for _ in 0..400 {
+        let mut tree = grow::tree(random, blocks);
+        if let Make::Tree(make) = fault.make {
+            if !make(&mut tree, random) {
+                continue;
+            }
+        }
+        let mut draft = history::draft(random, blocks, &tree);
+        if let Make::Pages(make) = fault.make {
+            if !make(&mut draft, random) {
+                continue;
+            }
+        }
+        return Some(Damaged { image: draft.render(), fault: fault.name, refusal: fault.refusal });
+    }
+    None
+}
+
+/// All faults.
+pub fn faults() -> Vec<Fault> {
+    let mut all = Vec::new();
+    for (name, refusal, make) in fault_pages::FAULTS.iter().chain(fault_units::FAULTS) {
+        all.push(Fault { name, refusal: *refusal, make: Make::Pages(*make) });
+    }
+    for (name, make) in fault_tree::FAULTS {
+        all.push(Fault { name, refusal: crate::model::image::NO_TREE, make: Make::Tree(*make) });
+    }
+    all
+}

@@ -1,0 +1,86 @@
+//! Trees whose nodes are full on the path of one key, with few numbers left: where inserts meet refusal 5.
+use super::grow::pick;
+use crate::model::tree::{Node, Tree, FULL};
+use crate::random::Random;
+
+/// A tree under way, with the numbers left for its nodes.
+struct Steep<'a> {
+    random: &'a mut Random,
+    tree: Tree,
+    numbers: Vec<u32>,
+    key: u32,
+}
+
+/// Nodes of a tree of a root level that is full on one path.
+fn size(level: u32) -> usize {
+    1 + if level == 0 { 0 } else { (FULL - 1) * level as usize + size(level - 1) }
+}
+
+/// A tree full, or almost full, on the path of a key that it does not have, and that key.
+pub fn tree(random: &mut Random, blocks: usize) -> (Tree, u32) {
+    let limit = 8 * blocks;
+    let highest = (0..4).rev().find(|level| size(*level) <= limit).unwrap_or(0);
+    let level = if random.once_in(3) { random.below(highest as u64 + 1) as u32 } else { highest };
+    let spare = random.index(9).min(limit - size(level));
+    let greatest = (limit - spare) as u32 - 1;
+    let mut numbers: Vec<u32> = (1..greatest).collect();
+    random.shuffle(&mut numbers);
+    numbers.push(greatest);
+    let mut steep = Steep { random, tree: Tree { nodes: vec![None; limit] }, numbers, key: 0 };
+    steep.full(0, level, (0, 1 << 32));
+    (steep.tree, steep.key)
+}
+
+impl Steep<'_> {
+    /// A number for a node.
+    fn number(&mut self) -> u32 {
+        self.numbers.pop().expect("a number for each node")
+    }
+
+    /// As many keys of a wide range as a node has room for, or one less once in six times; with a first key if given.
+    fn keys(&mut self, range: (u64, u64), first: Option<u32>) -> Vec<u32> {
+        let count = if self.random.once_in(6) { FULL - 1 } else { FULL };
+        loop {
+            let mut keys = pick(self.random, range, count - first.is_some() as usize);
+            keys.extend(first);
+            if keys.len() == count {
+                return keys.into_iter().collect();
+            }
+        }
+    }
+
+    /// A node of a full path; its widest child lies on the path too.
+    fn full(&mut self, number: u32, level: u32, range: (u64, u64)) {
+        if level == 0 {
+            let keys = self.keys(range, None);
+            let absent = |key: &u32| !keys.contains(key);
+            self.key = pick(self.random, range, FULL + 1).into_iter().find(absent).unwrap_or(range.0 as u32);
+            let entries = keys.into_iter().map(|key| (key, key ^ 1)).collect();
+            self.tree.nodes[number as usize] = Some(Node { level, entries });
+            return;
+        }
+        let keys = self.keys((range.0 + 1, range.1), Some(range.0 as u32));
+        let end = |at: usize| keys.get(at + 1).map_or(range.1, |key| *key as u64);
+        let widest = (0..keys.len()).max_by_key(|at| end(*at) - keys[*at] as u64).unwrap_or(0);
+        let mut entries = Vec::new();
+        for (at, key) in keys.iter().enumerate() {
+            let child = self.number();
+            entries.push((*key, child));
+            if at == widest {
+                self.full(child, level - 1, (*key as u64, end(at)));
+            } else {
+                self.thin(child, level - 1, *key);
+            }
+        }
+        self.tree.nodes[number as usize] = Some(Node { level, entries });
+    }
+
+    /// A node with one entry, down to a leaf.
+    fn thin(&mut self, number: u32, level: u32, low: u32) {
+        let value = if level == 0 { self.random.next() as u32 } else { self.number() };
+        self.tree.nodes[number as usize] = Some(Node { level, entries: vec![(low, value)] });
+        if level > 0 {
+            self.thin(value, level - 1, low);
+        }
+    }
+}

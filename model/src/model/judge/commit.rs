@@ -1,0 +1,144 @@
+//! Commit: the image after it is the probe's, held to document 01.
+use super::calls::refusal_of;
+use super::legal::Change;
+use super::{expect, told, Judge, Shared};
+use crate::model::chip::TORN;
+use crate::model::frame;
+use crate::model::image::{self, Meaning};
+use crate::model::plain::{Call, LAST_NUMBER, NEVER_CUT, POWER};
+use std::rc::Rc;
+
+/// A commit's allowance and reply: the refusal, 0 for none, and the operations told.
+struct Told {
+    allowance: u32,
+    refusal: u32,
+    operations: u32,
+}
+
+impl Judge {
+    /// Commit: holds reply and image to document 01 and takes the image over.
+    pub(super) fn commit(&mut self, allowance: u32, reply: &str, image: &[u8]) -> Result<(), String> {
+        if let Some(refusal) = self.plain.off_or_size(self.lengths(), true) {
+            expect(reply, &told(refusal, 0))?;
+            return self.same(image, usize::MAX);
+        }
+        let fixed = self.fixed();
+        if fixed && (self.plain.pending == 0 || (self.begun && self.plain.number == u32::MAX)) {
+            let refusal = if self.plain.pending == 0 { 0 } else { LAST_NUMBER };
+            expect(reply, &told(refusal, 0))?;
+            return self.same(image, usize::MAX);
+        }
+        let told = self.told(allowance, reply, image)?;
+        match (fixed, self.begun) {
+            (true, true) => self.list_commit(&told, image),
+            (true, false) => self.foreign_commit(&told, image),
+            _ => self.open_commit(&told, image),
+        }
+    }
+
+    /// Reads the reply of a commit, finished, refused with 6 or cut: no more operations than the allowance.
+    fn told(&self, allowance: u32, reply: &str, image: &[u8]) -> Result<Told, String> {
+        let refusal = refusal_of(reply, &[(0, 8), (LAST_NUMBER, 8), (POWER, 8)])?;
+        let operations = frame::hexadecimal(&reply.as_bytes()[2..]).unwrap_or(0);
+        if operations > allowance {
+            return Err("more operations than the allowance".to_string());
+        }
+        if refusal == LAST_NUMBER && operations != 0 {
+            return Err("operations with refusal 6".to_string());
+        }
+        if image.len() != self.lent {
+            return Err(format!("{} image bytes are lent, {} expected", image.len(), self.lent));
+        }
+        Ok(Told { allowance, refusal, operations })
+    }
+
+    /// A commit of a list, with something pending and a number left: finished or cut as document 01 says.
+    fn list_commit(&mut self, told: &Told, image: &[u8]) -> Result<(), String> {
+        let cut = told.refusal == POWER;
+        held_operations(told)?;
+        let means = image::meaning(image, self.plain.blocks).map_err(|n| format!("after it the image means refusal {n}"))?;
+        let chosen = self.chosen(&means, cut)?;
+        let change = Change {
+            before: self.image(),
+            after: image,
+            torn: &self.torn[..TORN],
+            number: self.plain.number + 1,
+            blocks: self.plain.blocks,
+            cut,
+        };
+        change.hold(told.operations)?;
+        self.plain.call(Call::Commit(told.allowance), self.lengths(), cut, chosen);
+        self.take(image, Some(Rc::new(Ok(means))), !cut);
+        Ok(())
+    }
+
+    /// Whether the image means P with G + 1; else it means K with G, which only a cut commit may leave.
+    fn chosen(&self, means: &Meaning, cut: bool) -> Result<bool, String> {
+        let chosen = means.greatest == self.plain.number + 1;
+        if !chosen && means.greatest != self.plain.number {
+            return Err(format!("after it the greatest standing number is {}", means.greatest));
+        }
+        if !chosen && !cut {
+            return Err("a finished commit left G".to_string());
+        }
+        let tree = if chosen { &self.plain.present } else { &self.plain.kept };
+        if means.tree != *tree {
+            return Err(format!("after it the image does not mean {}", if chosen { "P with G + 1" } else { "K with G" }));
+        }
+        Ok(chosen)
+    }
+
+    /// A commit with something pending on a chip that no format began: 0, 6 or 10; finished, the image means P with G + 1.
+    fn foreign_commit(&mut self, told: &Told, image: &[u8]) -> Result<(), String> {
+        if told.refusal == LAST_NUMBER {
+            return self.same(image, usize::MAX);
+        }
+        if told.refusal == POWER {
+            self.plain.on = false;
+            self.take(image, None, false);
+            return Ok(());
+        }
+        let means = image::meaning(image, self.plain.blocks).map_err(|n| format!("after it the image means refusal {n}"))?;
+        if Some(means.greatest) != self.plain.number.checked_add(1) || means.tree != self.plain.present {
+            return Err("after it the image does not mean P with G + 1".to_string());
+        }
+        self.plain.call(Call::Commit(told.allowance), self.lengths(), false, false);
+        self.take(image, Some(Rc::new(Ok(means))), true);
+        Ok(())
+    }
+
+    /// A commit whose answer and image are open: refused with 6 nothing changes, finished the state is wild.
+    fn open_commit(&mut self, told: &Told, image: &[u8]) -> Result<(), String> {
+        if told.refusal == LAST_NUMBER {
+            return self.same(image, usize::MAX);
+        }
+        self.take(image, None, false);
+        self.begun = false;
+        self.plain.on = told.refusal == 0;
+        self.wild = self.plain.on;
+        Ok(())
+    }
+
+    /// Takes the image that a commit left, with its meaning if read, which the state goes with if the commit finished.
+    fn take(&mut self, image: &[u8], meaning: Option<Shared>, finished: bool) {
+        self.buffer[..self.lent].copy_from_slice(image);
+        self.changed();
+        self.leave();
+        if let (true, Some(meaning)) = (finished, &meaning) {
+            self.ground = meaning.clone();
+        }
+        self.meaning = meaning;
+    }
+}
+
+/// The operations told by a commit of a list: the allowance when cut, never with 2,000 or more; else at most 2,000.
+fn held_operations(told: &Told) -> Result<(), String> {
+    match told.refusal {
+        0 if told.operations > NEVER_CUT => Err("a commit of more than 2,000 operations".to_string()),
+        0 => Ok(()),
+        POWER if told.allowance >= NEVER_CUT => Err("cut with an allowance of 2,000 or more".to_string()),
+        POWER if told.operations != told.allowance => Err("cut, but the allowance is not told".to_string()),
+        POWER => Ok(()),
+        _ => Err("a refusal that does not hold".to_string()),
+    }
+}

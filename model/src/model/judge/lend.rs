@@ -1,0 +1,95 @@
+//! Frames 10 to 16 of the probe: what they lend, set and sum.
+use super::{Judge, BUFFER, TORN_BUFFER};
+use crate::model::chip::BLOCK;
+use crate::model::crc;
+use crate::model::frame::Frame;
+
+impl Judge {
+    /// Does a frame of 10 to 16 on the judge's own slices and answers the reply.
+    pub(super) fn lend(&mut self, frame: Frame) -> String {
+        let done = match frame {
+            Frame::Blocks(blocks) => self.lend_blocks(blocks as usize),
+            Frame::Length(length) => self.lend_length(length as usize),
+            Frame::SetImage(at, byte) => self.set_image(at as usize, byte),
+            Frame::SetTorn(at, byte) => self.set_torn(at as usize, byte),
+            Frame::TornLength(length) => self.lend_torn(length as usize),
+            Frame::Noise(seed) => self.noise(seed),
+            _ => return self.image_sum(),
+        };
+        if done { "00" } else { "FF" }.to_string()
+    }
+
+    /// Frame 10: an image of that many blocks, all bytes 255.
+    fn lend_blocks(&mut self, blocks: usize) -> bool {
+        if blocks > BUFFER / BLOCK {
+            return false;
+        }
+        self.touch();
+        self.buffer.fill(255);
+        self.lent = blocks * BLOCK;
+        true
+    }
+
+    /// Frame 11: that many bytes of the image.
+    fn lend_length(&mut self, length: usize) -> bool {
+        if length > BUFFER {
+            return false;
+        }
+        if length != self.lent {
+            self.touch();
+            self.lent = length;
+        }
+        true
+    }
+
+    /// Frame 12: an image byte.
+    fn set_image(&mut self, at: usize, byte: u8) -> bool {
+        if at >= self.lent {
+            return false;
+        }
+        if self.buffer[at] != byte {
+            self.touch();
+            self.buffer[at] = byte;
+        }
+        true
+    }
+
+    /// Frame 13: a torn byte.
+    fn set_torn(&mut self, at: usize, byte: u8) -> bool {
+        if at >= self.torn_lent {
+            return false;
+        }
+        self.torn[at] = byte;
+        true
+    }
+
+    /// Frame 14: that many torn bytes.
+    fn lend_torn(&mut self, length: usize) -> bool {
+        if length > TORN_BUFFER {
+            return false;
+        }
+        self.torn_lent = length;
+        true
+    }
+
+    /// Frame 15: the CRC-32 of the image lent.
+    fn image_sum(&mut self) -> String {
+        let sum = match self.sum {
+            Some(sum) => sum,
+            None => crc::crc32(self.image()),
+        };
+        self.sum = Some(sum);
+        format!("00{sum:08X}")
+    }
+
+    /// Frame 16: noise in the image lent.
+    fn noise(&mut self, seed: u32) -> bool {
+        self.touch();
+        let mut x = seed;
+        for byte in &mut self.buffer[..self.lent] {
+            x = x.wrapping_mul(1_664_525).wrapping_add(1_013_904_223);
+            *byte = (x >> 16) as u8;
+        }
+        true
+    }
+}

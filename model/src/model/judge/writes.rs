@@ -1,0 +1,104 @@
+//! Format and mount: predicted whole for every image, finished or cut.
+use super::{told, Judge, Shared};
+use crate::model::chip::{self, Operation, Power, OBSOLETE, TORN};
+use crate::model::image::Meaning;
+use crate::model::plain::{Call, Plain, POWER};
+use crate::model::unit::{self, Deed, Unit};
+use std::rc::Rc;
+
+/// Format's operations: erases all blocks, lowest first, then writes commit 1 into the first page of block 0.
+pub fn format(image: &mut [u8], blocks: usize, power: &mut Power) {
+    for block in 0..blocks {
+        if !power.run(image, &Operation::Erase(block)) {
+            return;
+        }
+    }
+    let reset = unit::encode(&Unit { node: 0, deed: Deed::Reset(0) });
+    chip::write_page(image, power, 0, &unit::page_data(1, 0, 1, &[reset]));
+}
+
+/// Mount's operations: sets the obsolete mark of void pages, lowest place first.
+pub fn spend(image: &mut [u8], void: &[usize], power: &mut Power) {
+    for place in void {
+        if !power.run(image, &Operation::Mark(*place, OBSOLETE)) {
+            return;
+        }
+    }
+}
+
+impl Judge {
+    /// Format: does it on the judge's image and answers the reply.
+    pub(super) fn format(&mut self, allowance: u32) -> String {
+        if let Some(refusal) = Plain::size(self.lengths()) {
+            return told(refusal, 0);
+        }
+        let blocks = chip::blocks_of(self.lent).unwrap_or(0);
+        let mut power = Power::new(allowance, &self.torn[..TORN]);
+        format(&mut self.buffer[..self.lent], blocks, &mut power);
+        let (cut, operations) = (power.gone(), power.told());
+        self.plain.call(Call::Format(allowance), self.lengths(), cut, false);
+        self.changed();
+        self.leave();
+        self.begun = !cut;
+        if cut {
+            return told(POWER, operations);
+        }
+        self.wild = false;
+        self.ground = self.read();
+        told(0, operations)
+    }
+
+    /// Mount: does it on the judge's image and answers the reply.
+    pub(super) fn mount(&mut self, allowance: u32) -> Result<String, String> {
+        if let Some(refusal) = Plain::size(self.lengths()) {
+            return Ok(told(refusal, 0));
+        }
+        let meaning = self.read();
+        self.begun &= self.aligned();
+        self.leave();
+        match &*meaning {
+            Ok(means) => self.mount_meaning(allowance, means, &meaning),
+            Err(refusal) if self.begun => Err(format!("the image of a list means refusal {refusal}")),
+            Err(refusal) => {
+                self.plain.on = false;
+                Ok(told(*refusal, 0))
+            }
+        }
+    }
+
+    /// Mount of an image that has a meaning.
+    fn mount_meaning(&mut self, allowance: u32, means: &Meaning, shared: &Shared) -> Result<String, String> {
+        if self.begun && (self.plain.kept != means.tree || self.plain.number != means.greatest) {
+            return Err("the image of a list does not mean K with G".to_string());
+        }
+        let mut power = Power::new(allowance, &self.torn[..TORN]);
+        spend(&mut self.buffer[..self.lent], &means.void, &mut power);
+        let (cut, operations) = (power.gone(), power.told());
+        if !means.void.is_empty() {
+            self.changed();
+        }
+        self.mounted(allowance, means, cut);
+        if cut {
+            return Ok(told(POWER, operations));
+        }
+        self.wild = false;
+        self.ground = shared.clone();
+        if !means.void.is_empty() {
+            self.ground = Rc::new(Ok(Meaning { void: Vec::new(), ..means.clone() }));
+            self.meaning = Some(self.ground.clone());
+        }
+        Ok(told(0, operations))
+    }
+
+    /// The plain store after a finished or cut mount.
+    fn mounted(&mut self, allowance: u32, means: &Meaning, cut: bool) {
+        let lengths = self.lengths();
+        if self.begun {
+            self.plain.call(Call::Mount(allowance), lengths, cut, false);
+        } else if cut {
+            self.plain.on = false;
+        } else {
+            self.plain = Plain::mounted(&means.tree, means.greatest, chip::blocks_of(lengths.image).unwrap_or(0));
+        }
+    }
+}

@@ -1,0 +1,10 @@
+//! The definitions of document 01, a judge of probe scripts and makers of images.
+pub mod chip;
+pub mod crc;
+pub mod foreign;
+pub mod frame;
+pub mod image;
+pub mod judge;
+pub mod plain;
+pub mod tree;
+pub mod unit;

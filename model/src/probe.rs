@@ -1,0 +1,182 @@
+//! The protocol of the program `probe`, executed by the twin.
+
+use crate::crc::crc32;
+use crate::frame::parse;
+use crate::twin::chip::{Told, BLOCK, PAGE};
+use crate::twin::show::show;
+use crate::twin::state::State;
+
+/// Blocks of the image buffer.
+const BLOCKS: usize = 40;
+/// Bytes of the torn buffer.
+const TORN: usize = 600;
+
+/// The store's state, the image buffer and the torn bytes, with how much of each is lent.
+pub struct Probe {
+    state: State,
+    image: Vec<u8>,
+    len: usize,
+    torn: [u8; TORN],
+    torn_len: usize,
+}
+
+impl Default for Probe {
+    /// The program at its start.
+    fn default() -> Probe {
+        Probe::new()
+    }
+}
+
+/// A call that did operations: the refusal and their number.
+fn wrote(told: Told) -> String {
+    format!("{:02X}{:08X}", told.refusal, told.ops)
+}
+
+/// A call that tells a refusal alone.
+fn plain(refusal: u32) -> String {
+    format!("{refusal:02X}")
+}
+
+/// A frame that tells nothing: accepted where its numbers are in range.
+fn ranged(good: bool) -> String {
+    if good { "00" } else { "FF" }.into()
+}
+
+impl Probe {
+    /// The store off, on a chip of 3 blocks of 255 and with torn bytes 5A.
+    pub fn new() -> Probe {
+        Probe { state: State::new(), image: vec![255; BLOCKS * BLOCK], len: 3 * BLOCK, torn: [0x5A; TORN], torn_len: PAGE }
+    }
+
+    /// The image lent.
+    pub fn image(&self) -> &[u8] {
+        &self.image[..self.len]
+    }
+
+    /// The torn bytes lent.
+    pub fn torn(&self) -> &[u8] {
+        &self.torn[..self.torn_len]
+    }
+
+    /// The state.
+    pub fn state(&self) -> &State {
+        &self.state
+    }
+
+    /// The reply to a line.
+    pub fn line(&mut self, line: &[u8]) -> String {
+        match parse(line) {
+            Some((kind @ 0..=7, len, first, second)) => self.call(kind, len, first, second),
+            Some((kind, len, first, second)) => self.set(kind, len, first, second),
+            None => "FF".into(),
+        }
+    }
+
+    /// The frames 00 to 07: the calls.
+    fn call(&mut self, kind: u32, len: usize, first: u32, second: u32) -> String {
+        let (image, torn) = (&mut self.image[..self.len], &self.torn[..self.torn_len]);
+        match (kind, len) {
+            (0, 10) => wrote(self.state.format(image, torn, first)),
+            (1, 18) => plain(self.state.insert(image, first, second)),
+            (2, 10) => plain(self.state.delete(image, first)),
+            (3, 10) => self.look_up(first),
+            (4, 10) => wrote(self.state.commit(image, torn, first)),
+            (5, 10) => wrote(self.state.mount(image, torn, first)),
+            (6, 10) => match self.state.block_report(image, first) {
+                Ok((free, first)) => format!("00{free:02X}{first:02X}"),
+                Err(refusal) => plain(refusal),
+            },
+            (7, 10) => self.show(first),
+            _ => "FF".into(),
+        }
+    }
+
+    /// A look up: the value where the key is found, then the pages read.
+    fn look_up(&self, key: u32) -> String {
+        let look = self.state.look_up(self.image(), key);
+        match look.refusal {
+            0 => format!("00{:08X}{:02X}", look.value, look.pages),
+            4 => format!("04{:02X}", look.pages),
+            refusal => plain(refusal),
+        }
+    }
+
+    /// A show: the part's bytes.
+    fn show(&self, page: u32) -> String {
+        match show(self.image(), page) {
+            Ok((start, len)) => self.image()[start..start + len].iter().fold("00".into(), |text, b| text + &format!("{b:02X}")),
+            Err(refusal) => plain(refusal),
+        }
+    }
+
+    /// The frames 10 to 16: what is lent, and its bytes.
+    fn set(&mut self, kind: u32, len: usize, first: u32, second: u32) -> String {
+        let at = first as usize;
+        match (kind, len) {
+            (0x10, 10) => ranged(self.lend_blocks(at)),
+            (0x11, 10) => ranged(set_length(&mut self.len, at, BLOCKS * BLOCK)),
+            (0x12, 12) => ranged(set_byte(&mut self.image[..self.len], at, second)),
+            (0x13, 12) => ranged(set_byte(&mut self.torn[..self.torn_len], at, second)),
+            (0x14, 10) => ranged(set_length(&mut self.torn_len, at, TORN)),
+            (0x15, 2) => format!("00{:08X}", crc32(self.image())),
+            (0x16, 10) => ranged(self.fill_noise(first)),
+            _ => "FF".into(),
+        }
+    }
+
+    /// The whole buffer filled with 255 and its first blocks lent.
+    fn lend_blocks(&mut self, blocks: usize) -> bool {
+        if blocks > BLOCKS {
+            return false;
+        }
+        self.image.fill(255);
+        self.len = blocks * BLOCK;
+        true
+    }
+
+    /// The image lent filled with noise.
+    fn fill_noise(&mut self, seed: u32) -> bool {
+        let mut x = seed;
+        for byte in &mut self.image[..self.len] {
+            x = x.wrapping_mul(1664525).wrapping_add(1013904223);
+            *byte = (x >> 16) as u8;
+        }
+        true
+    }
+
+    /// The operations that a commit, a mount or a format would take, by its kind; the image is not changed.
+    pub fn need(&self, kind: u32) -> u32 {
+        let (mut state, mut image) = (self.state.clone(), self.image().to_vec());
+        match kind {
+            0 => state.format(&mut image, self.torn(), u32::MAX).ops,
+            4 => state.commit(&mut image, self.torn(), u32::MAX).ops,
+            _ => state.mount(&mut image, self.torn(), u32::MAX).ops,
+        }
+    }
+
+    /// The image that a commit with this allowance would leave.
+    pub fn after_commit(&self, allowance: u32) -> Vec<u8> {
+        let (mut state, mut image) = (self.state.clone(), self.image().to_vec());
+        state.commit(&mut image, self.torn(), allowance);
+        image
+    }
+}
+
+/// A length lent, where it is at most `most`.
+fn set_length(len: &mut usize, to: usize, most: usize) -> bool {
+    if to <= most {
+        *len = to;
+    }
+    to <= most
+}
+
+/// A byte set where the offset is in range.
+fn set_byte(bytes: &mut [u8], at: usize, byte: u32) -> bool {
+    match bytes.get_mut(at) {
+        Some(b) => {
+            *b = byte as u8;
+            true
+        }
+        None => false,
+    }
+}

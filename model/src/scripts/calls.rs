@@ -1,0 +1,138 @@
+//! Lists of calls on chips of several sizes, with cuts at random operations and torn bytes of several kinds.
+
+use super::torn::tear;
+use super::writer::Writer;
+use crate::random::Random;
+
+/// The sizes of chips, the small ones more often.
+const SIZES: [u32; 12] = [3, 3, 3, 3, 4, 4, 5, 8, 8, 16, 31, 32];
+
+/// Which keys a script uses: a range, and those picked from it so far.
+pub struct Keys {
+    range: u64,
+    step: u64,
+    used: Vec<u32>,
+}
+
+impl Keys {
+    /// Few keys, some, or any.
+    pub fn any(random: &mut Random) -> Keys {
+        let (range, step) = [(24, 1), (160, 1), (700, 6_000_000), (1 << 32, 1)][random.index(4)];
+        Keys { range, step, used: vec![0, u32::MAX] }
+    }
+
+    /// One of the range, in one of two cases one that was picked before, seldom the least or the greatest of all.
+    pub fn pick(&mut self, random: &mut Random) -> u32 {
+        match random.below(60) {
+            0..=29 => self.used[random.index(self.used.len())],
+            _ => {
+                let key = (random.below(self.range) * self.step) as u32;
+                self.used.push(key);
+                key
+            }
+        }
+    }
+}
+
+/// A call that changes nothing: a look up, a show, a block report, a checksum.
+pub fn read(random: &mut Random, writer: &mut Writer, keys: &mut Keys) {
+    let blocks = (writer.probe().image().len() / 16896) as u64;
+    match random.below(12) {
+        0 => writer.show(random.below(blocks * 32 + 2) as u32),
+        1 => writer.report(random.below(blocks + 1) as u32),
+        2 => {
+            writer.check();
+            0
+        }
+        _ => writer.look_up(keys.pick(random)),
+    };
+}
+
+/// An insert or a delete.
+pub fn update(random: &mut Random, writer: &mut Writer, keys: &mut Keys) -> u32 {
+    let key = keys.pick(random);
+    match random.below(7) {
+        0 | 1 => writer.delete(key),
+        _ => writer.insert(key, random.next() as u32),
+    }
+}
+
+/// A commit that is cut or has enough power, followed by a checksum at times.
+fn commit(random: &mut Random, writer: &mut Writer) {
+    let allowance = match random.below(4) {
+        0 => writer.allowance(random, 4),
+        1 => 2000,
+        _ => u32::MAX,
+    };
+    if allowance < 2000 && random.once_in(2) {
+        tear(random, writer);
+    }
+    writer.commit(allowance);
+    if random.once_in(3) {
+        writer.check();
+    }
+}
+
+/// A mount that is cut or has enough power.
+fn mount(random: &mut Random, writer: &mut Writer) {
+    let allowance = match random.below(3) {
+        0 => writer.allowance(random, 5),
+        1 => 255,
+        _ => u32::MAX,
+    };
+    writer.mount(allowance);
+    if random.once_in(4) {
+        writer.check();
+    }
+}
+
+/// A format that is cut or has enough power.
+fn format(random: &mut Random, writer: &mut Writer) {
+    let allowance = match random.below(2) {
+        0 => writer.allowance(random, 0),
+        _ => 2000,
+    };
+    writer.format(allowance);
+    writer.check();
+    if allowance < 2000 {
+        writer.mount(255);
+        writer.format(2000);
+    }
+}
+
+/// One step of a list of calls.
+pub fn step(random: &mut Random, writer: &mut Writer, keys: &mut Keys) {
+    let pending = writer.probe().state().pending;
+    if !writer.is_on() {
+        return match random.below(8) {
+            0 => read(random, writer, keys),
+            1 => drop(update(random, writer, keys)),
+            2 => commit(random, writer),
+            _ => mount(random, writer),
+        };
+    }
+    match random.below(120) {
+        0 => mount(random, writer),
+        1 if random.once_in(6) => format(random, writer),
+        2..=11 => commit(random, writer),
+        12..=31 => read(random, writer, keys),
+        _ if pending >= 16 && random.below(3) > 0 => commit(random, writer),
+        _ => drop(update(random, writer, keys)),
+    }
+}
+
+/// A list of calls from a format on.
+pub fn make(random: &mut Random) -> Vec<Vec<u8>> {
+    let mut writer = Writer::new();
+    let blocks = SIZES[random.index(SIZES.len())];
+    let mut keys = Keys::any(random);
+    writer.lend(blocks);
+    writer.format(2000);
+    let lines = 150 + random.index(1500);
+    while writer.len() < lines {
+        step(random, &mut writer, &mut keys);
+    }
+    writer.mount(255);
+    writer.check();
+    writer.lines()
+}

@@ -1,0 +1,71 @@
+//! Full trees, the least and the greatest key, and 17 pending updates.
+
+use super::calls::{step, Keys};
+use super::writer::Writer;
+use crate::random::Random;
+
+/// Keys in an order that fills nodes: rising, falling, random, or from both ends.
+fn order(random: &mut Random, i: u32, way: u64) -> u32 {
+    match way {
+        0 => i * 3,
+        1 => u32::MAX - i * 3,
+        2 => random.next() as u32,
+        _ if i.is_multiple_of(2) => i,
+        _ => u32::MAX - i,
+    }
+}
+
+/// Inserts until the tree step is refused with 5, with commits between them, then updates of the full tree.
+pub fn full(random: &mut Random) -> Vec<Vec<u8>> {
+    let mut writer = Writer::new();
+    let blocks = [3, 3, 3, 3, 4, 5, 8][random.index(7)];
+    writer.lend(blocks);
+    writer.format(2000);
+    let way = random.below(4);
+    let mut keys = Keys::any(random);
+    let mut i = 0;
+    while writer.insert(order(random, i, way), i) != 5 {
+        i += 1;
+        if random.once_in(14) || writer.probe().state().pending == 16 {
+            writer.insert(0, i);
+            writer.delete(u32::MAX);
+            writer.commit(2000);
+        }
+    }
+    writer.check();
+    for _ in 0..200 {
+        let old = random.below(u64::from(i)) as u32;
+        let key = order(random, old, way.min(1));
+        match random.below(4) {
+            0 => writer.insert(key, 7),
+            1 => writer.delete(key),
+            _ => writer.look_up(key),
+        };
+        step(random, &mut writer, &mut keys);
+    }
+    writer.check();
+    writer.lines()
+}
+
+/// 17 pending updates and more, of few keys with 0 and the greatest among them, then a commit or a mount.
+pub fn pending(random: &mut Random) -> Vec<Vec<u8>> {
+    let mut writer = Writer::new();
+    writer.lend([3, 4, 8, 32][random.index(4)]);
+    writer.format(2000);
+    for _ in 0..12 {
+        for _ in 0..16 + random.below(20) {
+            let key = [0, 1, 2, u32::MAX, u32::MAX - 1, 1 << 31][random.index(6)];
+            match random.below(3) {
+                0 => writer.delete(key),
+                1 => writer.look_up(key),
+                _ => writer.insert(key, random.next() as u32),
+            };
+        }
+        match random.below(3) {
+            0 => writer.mount(255),
+            _ => writer.commit(2000),
+        };
+        writer.check();
+    }
+    writer.lines()
+}

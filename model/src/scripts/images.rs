@@ -1,0 +1,266 @@
+//! Images set byte by byte: valid ones that no format began, damaged ones, noise, and commit numbers near the last.
+
+use super::calls::{read, step, update, Keys};
+use super::torn::tear;
+use super::writer::Writer;
+use crate::model::foreign;
+use crate::random::Random;
+use crate::twin::chip::{is_live, BLOCK, DATA, PAGE, PAGES};
+use crate::twin::unit::{encode, put_header, word, Header, Update, UNIT};
+
+/// A number of blocks, mostly small.
+fn blocks(random: &mut Random) -> usize {
+    [3, 3, 3, 4, 4, 5, 8, 16, 31, 32][random.index(10)]
+}
+
+/// The most bytes of an image other than 255 that a script uploads.
+const UPLOAD: usize = 120_000;
+
+/// How many lines an image takes.
+fn weight(image: &[u8]) -> usize {
+    image.iter().filter(|&&b| b != 255).count()
+}
+
+/// The lightest of several images, of 3 to 5 blocks mostly; none where all are too long to upload.
+fn short(random: &mut Random, tries: usize, make: &dyn Fn(&mut Random, usize) -> Option<Vec<u8>>) -> Option<Vec<u8>> {
+    let mut images = Vec::new();
+    for _ in 0..tries {
+        let n = [3, 3, 3, 3, 3, 4, 4, 5, 5, 8, 16, 32][random.index(12)];
+        images.extend(make(random, n).filter(|image| weight(image) <= UPLOAD));
+    }
+    images.into_iter().min_by_key(|image| weight(image))
+}
+
+/// A valid image that no format began.
+fn valid_image(random: &mut Random) -> Vec<u8> {
+    loop {
+        if let Some(image) = short(random, 2, &|random, n| Some(foreign::valid(random, n))) {
+            return image;
+        }
+    }
+}
+
+/// A damaged image, each fault as often as another.
+fn damaged_image(random: &mut Random) -> Vec<u8> {
+    let faults = foreign::faults();
+    loop {
+        let fault = &faults[random.index(faults.len())];
+        let make = |random: &mut Random, n| foreign::damaged_by(random, n, fault).map(|damaged| damaged.image);
+        if let Some(image) = short(random, 4, &make) {
+            return image;
+        }
+    }
+}
+
+/// An image of one leaf whose newest commit has pages that no list names, since a later page of it resets the leaf again;
+/// other pages are free or have a used mark alone.
+fn spent_image(random: &mut Random) -> Vec<u8> {
+    let blocks = 3 + random.index(4);
+    let mut image = vec![255; blocks * BLOCK];
+    let mut places: Vec<usize> = (0..blocks * PAGES).collect();
+    random.shuffle(&mut places);
+    let number = 1 + random.below(9) as u32;
+    let count = 1 + random.below(6) as u8;
+    for index in 0..count {
+        let page = &mut image[places[usize::from(index)] * PAGE..][..PAGE];
+        let units = 1 + random.index(16);
+        put_header(page, Header { commit: number, index, count }, units);
+        page[8..20].copy_from_slice(&encode(0, Update::Reset(0)));
+        for i in 1..units {
+            let update = Update::Insert(random.below(40) as u32, random.next() as u32);
+            page[8 + UNIT * i..][..UNIT].copy_from_slice(&encode(0, update));
+        }
+        page[DATA..DATA + 2].fill(0);
+    }
+    let free = random.below(3);
+    for &place in &places[usize::from(count)..] {
+        if random.below(2) >= free {
+            image[place * PAGE + DATA] = 0;
+        }
+    }
+    image
+}
+
+/// Every call on the image as it is: mount, look ups, shows and reports.
+fn look_round(random: &mut Random, writer: &mut Writer, keys: &mut Keys) {
+    let pages = (writer.probe().image().len() / PAGE) as u32;
+    let live: Vec<u32> = (0..pages).filter(|&p| is_live(&writer.probe().image()[p as usize * PAGE..][..PAGE])).collect();
+    for &page in live.iter().take(40) {
+        writer.show(page);
+    }
+    for _ in 0..20 {
+        read(random, writer, keys);
+    }
+    for block in 0..=(pages / 32).min(6) {
+        writer.report(block);
+    }
+    for key in stored_keys(writer).into_iter().take(60) {
+        writer.look_up(key);
+    }
+}
+
+/// Keys that units of the image's live pages hold.
+fn stored_keys(writer: &Writer) -> Vec<u32> {
+    let live = writer.probe().image().chunks_exact(PAGE).filter(|page| is_live(page));
+    let mut keys: Vec<u32> = live.flat_map(|page| (0..42).map(|i| word(page, 12 + 12 * i))).filter(|&k| k != u32::MAX).collect();
+    keys.sort_unstable();
+    keys.dedup();
+    keys
+}
+
+/// Updates, commits and mounts on a chip that was mounted.
+fn work(random: &mut Random, writer: &mut Writer, keys: &mut Keys, steps: u64) {
+    for _ in 0..random.below(steps) {
+        step(random, writer, keys);
+    }
+}
+
+/// A valid image that no format began, mounted, read back, updated and committed.
+pub fn valid(random: &mut Random) -> Vec<Vec<u8>> {
+    let mut writer = Writer::new();
+    let image = if random.once_in(4) { spent_image(random) } else { valid_image(random) };
+    let mut keys = Keys::any(random);
+    writer.bring(&image);
+    writer.check();
+    if random.once_in(2) {
+        tear(random, &mut writer);
+        let allowance = writer.allowance(random, 5);
+        writer.mount(allowance);
+        writer.check();
+    }
+    writer.mount(255);
+    look_round(random, &mut writer, &mut keys);
+    for _ in 0..3 {
+        for _ in 0..random.below(16) {
+            update(random, &mut writer, &mut keys);
+        }
+        writer.commit(2000);
+        writer.check();
+    }
+    work(random, &mut writer, &mut keys, 200);
+    look_round(random, &mut writer, &mut keys);
+    writer.lines()
+}
+
+/// An image whose nodes are full, or almost, on the path of a key: mounted, that key and its neighbours inserted, and committed.
+pub fn steep(random: &mut Random) -> Vec<Vec<u8>> {
+    let mut writer = Writer::new();
+    let (image, key) = loop {
+        let n = [3, 3, 4, 5, 8, 16][random.index(6)];
+        let (image, key) = foreign::full_path(random, n);
+        if weight(&image) <= UPLOAD / 2 {
+            break (image, key);
+        }
+    };
+    let mut keys = Keys::any(random);
+    writer.bring(&image);
+    writer.mount(255);
+    for i in 0..20 {
+        let near = key.wrapping_add(i * random.below(3) as u32);
+        writer.insert(near, random.next() as u32);
+        writer.look_up(near);
+        if random.once_in(8) {
+            writer.commit(2000);
+            writer.check();
+        }
+    }
+    writer.mount(255);
+    writer.insert(key, 7);
+    writer.commit(2000);
+    writer.check();
+    look_round(random, &mut writer, &mut keys);
+    work(random, &mut writer, &mut keys, 60);
+    writer.lines()
+}
+
+/// A damaged image: what a mount says of it, with every other call beside it.
+pub fn damaged(random: &mut Random) -> Vec<Vec<u8>> {
+    let mut writer = Writer::new();
+    for _ in 0..1 + random.below(3) {
+        let image = damaged_image(random);
+        let mut keys = Keys::any(random);
+        if random.once_in(3) {
+            writer.lend((image.len() / BLOCK) as u32);
+            writer.format(2000);
+        }
+        writer.bring(&image);
+        look_round(random, &mut writer, &mut keys);
+        writer.check();
+        writer.mount(random.below(2) as u32 * 255);
+        writer.check();
+        look_round(random, &mut writer, &mut keys);
+        work(random, &mut writer, &mut keys, 30);
+    }
+    writer.lines()
+}
+
+/// An image of noise, here and there with marks that make its pages live.
+pub fn noise(random: &mut Random) -> Vec<Vec<u8>> {
+    let mut writer = Writer::new();
+    let mut keys = Keys::any(random);
+    for _ in 0..4 {
+        let n = random.below(41) as u32;
+        writer.lend(n);
+        if random.once_in(4) {
+            writer.lend_bytes(random.below(675_841) as u32);
+        }
+        writer.noise(random.next() as u32);
+        writer.check();
+        writer.mount(255);
+        let pages = writer.probe().image().len() / PAGE;
+        for _ in 0..random.below(20).min(pages as u64) {
+            writer.set(random.index(pages) * PAGE + 513, 0);
+        }
+        for _ in 0..40 {
+            read(random, &mut writer, &mut keys);
+        }
+        writer.mount(255);
+        update(random, &mut writer, &mut keys);
+        writer.commit(2000);
+        writer.check();
+    }
+    writer.lines()
+}
+
+/// Commits up to the last commit number, which refuses with 6.
+pub fn last(random: &mut Random) -> Vec<Vec<u8>> {
+    let mut writer = Writer::new();
+    let mut keys = Keys::any(random);
+    writer.lend(blocks(random) as u32);
+    writer.format(2000);
+    for _ in 0..random.below(6) {
+        for _ in 0..1 + random.below(16) {
+            update(random, &mut writer, &mut keys);
+        }
+        writer.commit(2000);
+    }
+    renumber(&mut writer, u32::MAX - random.below(4) as u32);
+    writer.check();
+    writer.mount(255);
+    for _ in 0..6 {
+        writer.commit(0);
+        for _ in 0..random.below(18) {
+            update(random, &mut writer, &mut keys);
+        }
+        let allowance = if random.once_in(5) { writer.allowance(random, 4) } else { 2000 };
+        writer.commit(allowance);
+        writer.check();
+        read(random, &mut writer, &mut keys);
+        if random.once_in(3) || !writer.is_on() {
+            writer.mount(255);
+        }
+    }
+    writer.lines()
+}
+
+/// The pages of the greatest commit given another number.
+fn renumber(writer: &mut Writer, number: u32) {
+    let mut image = writer.probe().image().to_vec();
+    let greatest = writer.probe().state().commit;
+    for page in image.chunks_exact_mut(PAGE).filter(|page| is_live(page)) {
+        if word(page, 0) == greatest {
+            page[..4].copy_from_slice(&number.to_le_bytes());
+        }
+    }
+    writer.upload(&image);
+}

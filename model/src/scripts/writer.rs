@@ -1,0 +1,166 @@
+//! A script while it is made: its lines, and the twin that has run them.
+
+use crate::probe::Probe;
+use crate::random::Random;
+use crate::twin::chip::PAGE;
+
+/// The lines so far and the twin behind them.
+pub struct Writer {
+    lines: Vec<Vec<u8>>,
+    probe: Probe,
+}
+
+impl Default for Writer {
+    /// A script without lines.
+    fn default() -> Writer {
+        Writer::new()
+    }
+}
+
+impl Writer {
+    /// A script without lines.
+    pub fn new() -> Writer {
+        Writer { lines: Vec::new(), probe: Probe::new() }
+    }
+
+    /// The script.
+    pub fn lines(self) -> Vec<Vec<u8>> {
+        self.lines
+    }
+
+    /// How many lines there are.
+    pub fn len(&self) -> usize {
+        self.lines.len()
+    }
+
+    /// Whether there is no line yet.
+    pub fn is_empty(&self) -> bool {
+        self.lines.is_empty()
+    }
+
+    /// The twin after the lines so far.
+    pub fn probe(&self) -> &Probe {
+        &self.probe
+    }
+
+    /// Whether the store is on.
+    pub fn is_on(&self) -> bool {
+        self.probe.state().on
+    }
+
+    /// A line of any bytes but a line feed; returns the reply.
+    pub fn say(&mut self, line: Vec<u8>) -> String {
+        let reply = self.probe.line(&line);
+        self.lines.push(line);
+        reply
+    }
+
+    /// A line of a kind and one number; returns the refusal.
+    fn single(&mut self, kind: u32, number: u32) -> u32 {
+        let reply = self.say(format!("{kind:02X}{number:08X}").into_bytes());
+        u32::from_str_radix(&reply[..2], 16).unwrap_or(255)
+    }
+
+    /// Format with an allowance.
+    pub fn format(&mut self, allowance: u32) -> u32 {
+        self.single(0, allowance)
+    }
+
+    /// Insert.
+    pub fn insert(&mut self, key: u32, value: u32) -> u32 {
+        let reply = self.say(format!("01{key:08X}{value:08X}").into_bytes());
+        u32::from_str_radix(&reply[..2], 16).unwrap_or(255)
+    }
+
+    /// Delete.
+    pub fn delete(&mut self, key: u32) -> u32 {
+        self.single(2, key)
+    }
+
+    /// Look up.
+    pub fn look_up(&mut self, key: u32) -> u32 {
+        self.single(3, key)
+    }
+
+    /// Commit with an allowance.
+    pub fn commit(&mut self, allowance: u32) -> u32 {
+        self.single(4, allowance)
+    }
+
+    /// Mount with an allowance.
+    pub fn mount(&mut self, allowance: u32) -> u32 {
+        self.single(5, allowance)
+    }
+
+    /// Block report.
+    pub fn report(&mut self, block: u32) -> u32 {
+        self.single(6, block)
+    }
+
+    /// Show.
+    pub fn show(&mut self, page: u32) -> u32 {
+        self.single(7, page)
+    }
+
+    /// An image of that many blocks lent, all bytes 255.
+    pub fn lend(&mut self, blocks: u32) -> u32 {
+        self.single(0x10, blocks)
+    }
+
+    /// That many bytes of the image buffer lent.
+    pub fn lend_bytes(&mut self, len: u32) -> u32 {
+        self.single(0x11, len)
+    }
+
+    /// That many torn bytes lent.
+    pub fn lend_torn(&mut self, len: u32) -> u32 {
+        self.single(0x14, len)
+    }
+
+    /// The image lent filled with noise.
+    pub fn noise(&mut self, seed: u32) -> u32 {
+        self.single(0x16, seed)
+    }
+
+    /// The image lent as a checksum.
+    pub fn check(&mut self) {
+        self.say(b"15".to_vec());
+    }
+
+    /// An image byte set.
+    pub fn set(&mut self, at: usize, byte: u8) {
+        self.say(format!("12{at:08X}{byte:02X}").into_bytes());
+    }
+
+    /// The torn bytes made these, by a line for each that differs.
+    pub fn tear(&mut self, bytes: &[u8]) {
+        for (at, &byte) in bytes.iter().enumerate() {
+            if self.probe.torn().get(at).is_some_and(|&b| b != byte) {
+                self.say(format!("13{at:08X}{byte:02X}").into_bytes());
+            }
+        }
+    }
+
+    /// The image made these bytes, by a line for each that differs; their number is the length lent.
+    pub fn upload(&mut self, bytes: &[u8]) {
+        let differ: Vec<usize> = (0..bytes.len()).filter(|&i| self.probe.image()[i] != bytes[i]).collect();
+        for at in differ {
+            self.set(at, bytes[at]);
+        }
+    }
+
+    /// An image lent and uploaded.
+    pub fn bring(&mut self, image: &[u8]) {
+        self.lend((image.len() / (32 * PAGE)) as u32);
+        self.upload(image);
+    }
+
+    /// An allowance below what a commit (4), mount (5) or format (0) needs, or one that is enough for it.
+    pub fn allowance(&self, random: &mut Random, kind: u32) -> u32 {
+        let need = self.probe.need(kind);
+        match random.below(4) {
+            0 => need,
+            _ => random.below(u64::from(need) + 1) as u32,
+        }
+    }
+}

@@ -1,0 +1,163 @@
+//! The chip: its numbers, which pages are free or live, and the three flash operations under an allowance.
+
+/// Bytes of a page's data area.
+pub const DATA: usize = 512;
+/// Bytes of a page, data area and spare area.
+pub const PAGE: usize = 528;
+/// Pages of a block.
+pub const PAGES: usize = 32;
+/// Bytes of a block.
+pub const BLOCK: usize = PAGE * PAGES;
+/// Units that a page holds at most.
+pub const UNITS: usize = 42;
+/// Pages of the largest chip.
+pub const PLACES: usize = 32 * PAGES;
+
+/// The three marks, each by its spare byte.
+#[derive(Clone, Copy)]
+pub enum Mark {
+    Used = 0,
+    Valid = 1,
+    Obsolete = 2,
+}
+
+/// The blocks of an image of this length; 0 where that is no chip.
+pub fn blocks_of(len: usize) -> usize {
+    let blocks = len / BLOCK;
+    if (3..=32).contains(&blocks) && blocks * BLOCK == len {
+        blocks
+    } else {
+        0
+    }
+}
+
+/// The blocks of an image lent with a torn slice; 0 where one of them has a wrong size.
+pub fn sized(image: usize, torn: usize) -> usize {
+    if torn == PAGE {
+        blocks_of(image)
+    } else {
+        0
+    }
+}
+
+/// Whether all bytes are 255: of a page, whether it is free.
+pub fn is_blank(bytes: &[u8]) -> bool {
+    let (words, rest) = bytes.as_chunks::<16>();
+    words.iter().all(|w| u128::from_ne_bytes(*w) == u128::MAX) && rest.iter().all(|&b| b == 255)
+}
+
+/// Whether a page is live: its valid mark is set and its obsolete mark is not.
+pub fn is_live(page: &[u8]) -> bool {
+    page[DATA + 1] == 0 && page[DATA + 2] != 0
+}
+
+/// The free pages of a block, as a set of page numbers within it.
+pub fn free_set(block: &[u8]) -> u32 {
+    block.chunks_exact(PAGE).enumerate().fold(0, |set, (i, page)| set | u32::from(is_blank(page)) << i)
+}
+
+/// What format, commit and mount tell: the refusal, 0 for none, the operations done, and how many pages were written whole.
+#[derive(Clone, Copy, PartialEq, Eq, Debug)]
+pub struct Told {
+    pub refusal: u32,
+    pub ops: u32,
+    pub pages: u32,
+}
+
+impl Told {
+    /// A call that does no operation.
+    pub fn quiet(refusal: u32) -> Told {
+        Told { refusal, ops: 0, pages: 0 }
+    }
+}
+
+/// What becomes of an operation.
+enum Outcome {
+    Whole,
+    Torn,
+    Nothing,
+}
+
+/// The chip under an allowance: each operation is done whole, torn, or not at all.
+pub struct Chip<'a> {
+    pub image: &'a mut [u8],
+    torn: &'a [u8],
+    left: u32,
+    done: u32,
+    gone: bool,
+    pages: u32,
+}
+
+impl<'a> Chip<'a> {
+    /// The chip with power for `allowance` operations; the torn slice has the length of a page.
+    pub fn new(image: &'a mut [u8], torn: &'a [u8], allowance: u32) -> Chip<'a> {
+        Chip { image, torn, left: allowance, done: 0, gone: false, pages: 0 }
+    }
+
+    /// Whether an operation was torn.
+    pub fn is_gone(&self) -> bool {
+        self.gone
+    }
+
+    /// What a call tells that has done these operations.
+    pub fn told(&self) -> Told {
+        Told { refusal: if self.gone { 10 } else { 0 }, ops: self.done, pages: self.pages }
+    }
+
+    /// What becomes of the next operation, and the power after it.
+    fn spend(&mut self) -> Outcome {
+        if self.gone {
+            return Outcome::Nothing;
+        }
+        if self.left == 0 {
+            self.gone = true;
+            return Outcome::Torn;
+        }
+        self.left -= 1;
+        self.done += 1;
+        Outcome::Whole
+    }
+
+    /// One mark of the page at `place` set.
+    pub fn mark(&mut self, place: usize, mark: Mark) {
+        let at = place * PAGE + DATA + mark as usize;
+        match self.spend() {
+            Outcome::Whole => self.image[at] = 0,
+            Outcome::Torn => self.image[at] = self.torn[0],
+            Outcome::Nothing => {}
+        }
+    }
+
+    /// The data area of the page at `place` programmed.
+    fn program(&mut self, place: usize, data: &[u8; DATA]) {
+        let at = place * PAGE;
+        match self.spend() {
+            Outcome::Whole => self.image[at..at + DATA].copy_from_slice(data),
+            Outcome::Torn => self.image[at..at + DATA].copy_from_slice(&self.torn[..DATA]),
+            Outcome::Nothing => {}
+        }
+    }
+
+    /// A block erased; where power runs out, untouched if torn byte 0 is 0 and else full of torn pages.
+    pub fn erase(&mut self, block: usize) {
+        let at = block * BLOCK;
+        match self.spend() {
+            Outcome::Whole => self.image[at..at + BLOCK].fill(255),
+            Outcome::Torn if self.torn[0] != 0 => {
+                let mut left = [255; PAGE];
+                left.copy_from_slice(self.torn);
+                left[DATA..].iter_mut().filter(|b| **b == 0).for_each(|b| *b = 255);
+                self.image[at..at + BLOCK].chunks_exact_mut(PAGE).for_each(|page| page.copy_from_slice(&left));
+            }
+            _ => {}
+        }
+    }
+
+    /// A page written: used mark, data, valid mark.
+    pub fn write(&mut self, place: usize, data: &[u8; DATA]) {
+        self.mark(place, Mark::Used);
+        self.program(place, data);
+        self.mark(place, Mark::Valid);
+        self.pages += u32::from(!self.gone);
+    }
+}

@@ -1,0 +1,40 @@
+//! Format: all blocks erased, lowest first, and commit 1 written into the first page of block 0.
+
+use super::chip::{sized, Chip, Told, DATA};
+use super::state::State;
+use super::unit::{encode, put_header, Header, Update};
+
+impl State {
+    /// The chip formatted: 1 size, 10 power gone.
+    pub fn format(&mut self, image: &mut [u8], torn: &[u8], allowance: u32) -> Told {
+        let blocks = sized(image.len(), torn.len());
+        if blocks == 0 {
+            return Told::quiet(1);
+        }
+        let mut data = [255; DATA];
+        put_header(&mut data, Header { commit: 1, index: 0, count: 1 }, 1);
+        data[8..20].copy_from_slice(&encode(0, Update::Reset(0)));
+        let mut chip = Chip::new(image, torn, allowance);
+        for block in 0..blocks {
+            chip.erase(block);
+        }
+        chip.write(0, &data);
+        self.on = !chip.is_gone();
+        if self.on {
+            self.begin_anew(blocks);
+        }
+        chip.told()
+    }
+
+    /// The state after a finished format: one empty leaf, node 0, on page 0.
+    fn begin_anew(&mut self, blocks: usize) {
+        self.blocks = blocks;
+        self.commit = 1;
+        self.pending = 0;
+        self.next = 1;
+        self.count = 0;
+        self.lens = [0; 256];
+        self.lens[0] = 1;
+        self.slots[0] = 0;
+    }
+}

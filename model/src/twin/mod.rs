@@ -1,0 +1,18 @@
+//! The twin: the same store with the same commit policy in plain Rust, unproved. It leaves the same image byte for byte and tells the same
+//! operations, values and pages read as the proved code, on every state and image that a script can bring about.
+
+pub mod chip;
+pub mod commit;
+pub mod find;
+pub mod format;
+pub mod ground;
+pub mod mount;
+pub mod plan;
+pub mod report;
+pub mod show;
+pub mod standing;
+pub mod state;
+pub mod tree;
+pub mod unit;
+pub mod update;
+pub mod view;

@@ -1,0 +1,64 @@
+//! Mount: steps 1 to 6 on the image alone; after all checks the void pages get their obsolete mark.
+
+use super::chip::{sized, Chip, Mark, Told, DATA, PAGE, PLACES};
+use super::standing::{place_of, Standing};
+use super::state::State;
+use super::tree::is_tree;
+use super::unit::units_of;
+use super::view::{Stage, View};
+
+impl State {
+    /// The image mounted: 1 size; 7, 8, 9; 10.
+    pub fn mount(&mut self, image: &mut [u8], torn: &[u8], allowance: u32) -> Told {
+        let blocks = sized(image.len(), torn.len());
+        if blocks == 0 {
+            return Told::quiet(1);
+        }
+        self.on = false;
+        let mut keys = [0; PLACES];
+        let mut standing = match self.read(image, 8 * blocks as u32, &mut keys) {
+            Ok(standing) => standing,
+            Err(refusal) => return Told::quiet(refusal),
+        };
+        let mut chip = Chip::new(image, torn, allowance);
+        for &place in standing.voids() {
+            chip.mark(place as usize, Mark::Obsolete);
+        }
+        self.on = !chip.is_gone();
+        self.blocks = blocks;
+        self.commit = standing.commit();
+        self.pending = 0;
+        self.count = 0;
+        self.next = self.lens[..8 * blocks].iter().rposition(|&len| len != 0).map_or(0, |n| n as u32 + 1);
+        chip.told()
+    }
+
+    /// Steps 1 to 6; the node table is read from the standing pages.
+    fn read<'a>(&mut self, image: &[u8], limit: u32, keys: &'a mut [u64; PLACES]) -> Result<Standing<'a>, u32> {
+        let standing = Standing::of(image, keys)?;
+        self.lens = [0; 256];
+        for &key in standing.keys() {
+            let place = place_of(key);
+            let units = units_of(&image[place * PAGE..][..DATA]).ok_or(8u32)?;
+            if !self.note(units, place as u32, limit) {
+                return Err(8);
+            }
+        }
+        let mut views = [View::UNTOUCHED; 256];
+        for n in 0..limit {
+            match self.lens[n as usize] {
+                0 => continue,
+                1..=4 => views[n as usize] = self.stored(image, n, limit),
+                _ => return Err(8),
+            }
+            if views[n as usize].stage == Stage::Broken {
+                return Err(8);
+            }
+        }
+        if is_tree(&views[..limit as usize]) {
+            Ok(standing)
+        } else {
+            Err(9)
+        }
+    }
+}

@@ -1,0 +1,150 @@
+//! The state of the store, and a node's view read through it.
+
+use super::chip::{blocks_of, PAGE};
+use super::unit::{encode, is_unit, node_of, units_of, Update, UNIT};
+use super::view::{key_of, value_of, View};
+
+/// Units that the reservation buffer holds at most, 60 for each of 16 pending updates.
+pub const BUFFER: usize = 960;
+
+/// On or off, B, G, the pending updates, the next node number, the reservation buffer with its count of units, and the node table: for
+/// each node the length of its list and its pages.
+#[derive(Clone)]
+pub struct State {
+    pub on: bool,
+    pub blocks: usize,
+    pub commit: u32,
+    pub pending: u32,
+    pub next: u32,
+    pub count: usize,
+    pub buffer: [u8; BUFFER * UNIT],
+    pub lens: [u32; 256],
+    pub slots: [u32; 1024],
+}
+
+impl Default for State {
+    /// A state that is off, to begin with.
+    fn default() -> State {
+        State::new()
+    }
+}
+
+impl State {
+    /// A state that is off, to begin with.
+    pub const fn new() -> State {
+        State {
+            on: false,
+            blocks: 0,
+            commit: 0,
+            pending: 0,
+            next: 0,
+            count: 0,
+            buffer: [0; BUFFER * UNIT],
+            lens: [0; 256],
+            slots: [0; 1024],
+        }
+    }
+
+    /// The node numbers are below this.
+    pub fn limit(&self) -> u32 {
+        8 * self.blocks as u32
+    }
+
+    /// The tests 2 and 1 of the calls that take no torn slice.
+    pub fn admit(&self, image: &[u8]) -> Result<(), u32> {
+        if !self.on {
+            return Err(2);
+        }
+        let blocks = blocks_of(image.len());
+        if blocks == 0 || blocks != self.blocks {
+            return Err(1);
+        }
+        Ok(())
+    }
+
+    /// The pages of a node's list, at most 4; none for a number past the last node.
+    pub fn list(&self, number: u32) -> &[u32] {
+        let n = number as usize;
+        match self.lens.get(n) {
+            Some(&len) => &self.slots[4 * n..4 * n + len.min(4) as usize],
+            None => &[],
+        }
+    }
+
+    /// The units of the reservation buffer.
+    pub fn buffered(&self) -> &[[u8; UNIT]] {
+        &self.buffer.as_chunks::<UNIT>().0[..self.count.min(BUFFER)]
+    }
+
+    /// A node's view from the pages of its list, the oldest first. A page that is not on the chip adds nothing.
+    pub fn stored(&self, image: &[u8], number: u32, limit: u32) -> View {
+        let mut view = View::UNTOUCHED;
+        for &place in self.list(number) {
+            let at = place as usize * PAGE;
+            if let Some(page) = image.get(at..at + PAGE) {
+                match units_of(page) {
+                    Some(units) => view.fold(units, number, limit),
+                    None => view.spoil(),
+                }
+            }
+        }
+        view
+    }
+
+    /// A node's view from its pages and then from the buffer.
+    pub fn view(&self, image: &[u8], number: u32) -> View {
+        let limit = self.limit();
+        let mut view = self.stored(image, number, limit);
+        view.fold(self.buffered(), number, limit);
+        view
+    }
+
+    /// A unit behind those of the buffer.
+    pub fn push(&mut self, number: u32, update: Update) {
+        let at = self.count * UNIT;
+        self.buffer[at..at + UNIT].copy_from_slice(&encode(number, update));
+        self.count += 1;
+    }
+
+    /// A node written anew behind the units of the buffer: a reset and its entries.
+    pub fn push_node(&mut self, number: u32, level: u32, entries: &[u64]) {
+        self.push(number, Update::Reset(level));
+        for &e in entries {
+            self.push(number, Update::Insert(key_of(e), value_of(e)));
+        }
+    }
+
+    /// The list of a node made this page alone.
+    fn begin(&mut self, n: usize, place: u32) {
+        self.slots[4 * n] = place;
+        self.lens[n] = 1;
+    }
+
+    /// The page joins the list of a node unless it is the newest there already. A list of more than 4 pages has length 5.
+    fn join(&mut self, n: usize, place: u32) {
+        let len = self.lens[n] as usize;
+        match len {
+            0 => self.begin(n, place),
+            1..=4 if self.slots[4 * n + len - 1] == place => {}
+            1..=3 => {
+                self.slots[4 * n + len] = place;
+                self.lens[n] += 1;
+            }
+            _ => self.lens[n] = 5,
+        }
+    }
+
+    /// The units of the page at `place` noted in the node table; false at the first 12 bytes that are no unit.
+    pub fn note(&mut self, units: &[[u8; UNIT]], place: u32, limit: u32) -> bool {
+        for unit in units {
+            if !is_unit(unit, limit) {
+                return false;
+            }
+            match unit[0] {
+                3 => self.begin(node_of(unit) as usize, place),
+                _ => self.join(node_of(unit) as usize, place),
+            }
+        }
+        true
+    }
+}

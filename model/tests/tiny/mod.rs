@@ -1,0 +1,455 @@
+//! A tiny store behind the probe's protocol, for tests of the judge: a commit writes all nodes into one erased block.
+use model::model::chip::{self, Operation, Power, BLOCK, OBSOLETE, PAGES, TORN, VALID};
+use model::model::crc::crc32;
+use model::model::frame::{parse, Frame};
+use model::model::image::{self, meaning, Meaning};
+use model::model::tree::Tree;
+use model::model::unit::{encode, page_data, Deed, Unit, HEAD, ROOM, UNIT};
+
+/// A fault of the store that the judge has to see.
+#[derive(Clone, Copy, Debug, PartialEq, Eq)]
+pub enum Bug {
+    None,
+    CommitToldHigh,
+    CommitToldLow,
+    CutTold,
+    FormatTold,
+    MountTold,
+    WrongValue,
+    WrongPagesRead,
+    ImageByteOnInsert,
+    ImageByteOnFormat,
+    SpareByteOnCommit,
+    SizeBeforeOff,
+    AbsentBeforePending,
+    TenAt2000,
+    TenWithNothingPending,
+    EarlyThree,
+    EarlyFive,
+    NodeInTwoPages,
+    EraseBeforeCopy,
+    ProgramTornPage,
+    LosesUpdate,
+    SameNumber,
+    ReportOneLess,
+    ReportFirst,
+    ShowTooLong,
+    MountSeven,
+    MountHighestFirst,
+    MountLeavesOff,
+    WritesOnReport,
+    LastNumber,
+    WrongSum,
+    Noise,
+    NoFrame,
+    ProgramInPlace,
+    ContinuesAfterCut,
+    OldPageValid,
+    PageOfOtherCommit,
+}
+
+impl Bug {
+    /// All faults.
+    pub const FAULTS: [Bug; 36] = [
+        Bug::CommitToldHigh,
+        Bug::CommitToldLow,
+        Bug::CutTold,
+        Bug::FormatTold,
+        Bug::MountTold,
+        Bug::WrongValue,
+        Bug::WrongPagesRead,
+        Bug::ImageByteOnInsert,
+        Bug::ImageByteOnFormat,
+        Bug::SpareByteOnCommit,
+        Bug::SizeBeforeOff,
+        Bug::AbsentBeforePending,
+        Bug::TenAt2000,
+        Bug::TenWithNothingPending,
+        Bug::EarlyThree,
+        Bug::EarlyFive,
+        Bug::NodeInTwoPages,
+        Bug::EraseBeforeCopy,
+        Bug::ProgramTornPage,
+        Bug::LosesUpdate,
+        Bug::SameNumber,
+        Bug::ReportOneLess,
+        Bug::ReportFirst,
+        Bug::ShowTooLong,
+        Bug::MountSeven,
+        Bug::MountHighestFirst,
+        Bug::MountLeavesOff,
+        Bug::WritesOnReport,
+        Bug::LastNumber,
+        Bug::WrongSum,
+        Bug::Noise,
+        Bug::NoFrame,
+        Bug::ProgramInPlace,
+        Bug::ContinuesAfterCut,
+        Bug::OldPageValid,
+        Bug::PageOfOtherCommit,
+    ];
+}
+
+/// The store's state while it is on.
+struct State {
+    tree: Tree,
+    pending: u32,
+    number: u32,
+    blocks: usize,
+}
+
+/// The tiny probe.
+pub struct Tiny {
+    buffer: Vec<u8>,
+    lent: usize,
+    torn: Vec<u8>,
+    torn_lent: usize,
+    state: Option<State>,
+    bug: Bug,
+}
+
+impl Tiny {
+    /// The probe's start, with a fault.
+    pub fn new(bug: Bug) -> Tiny {
+        Tiny { buffer: vec![255; 40 * BLOCK], lent: 3 * BLOCK, torn: vec![0x5A; 600], torn_lent: TORN, state: None, bug }
+    }
+
+    /// The image lent.
+    pub fn image(&self) -> &[u8] {
+        &self.buffer[..self.lent]
+    }
+
+    /// Reads one line and answers the reply.
+    pub fn line(&mut self, line: &[u8]) -> String {
+        let Some(frame) = parse(line) else { return if self.bug == Bug::NoFrame { "00" } else { "FF" }.to_string() };
+        match frame {
+            Frame::Format(allowance) => self.format(allowance),
+            Frame::Insert(key, value) => self.insert(key, value),
+            Frame::Delete(key) => self.delete(key),
+            Frame::LookUp(key) => self.look_up(key),
+            Frame::Commit(allowance) => self.commit(allowance),
+            Frame::Mount(allowance) => self.mount(allowance),
+            Frame::Report(block) => self.report(block),
+            Frame::Show(page) => self.show(page),
+            _ => self.lend(frame),
+        }
+    }
+
+    /// Whether the store has a fault.
+    fn is(&self, bug: Bug) -> bool {
+        self.bug == bug
+    }
+
+    /// Format.
+    fn format(&mut self, allowance: u32) -> String {
+        let Some(blocks) = self.whole() else { return "0100000000".to_string() };
+        let torn = self.torn.clone();
+        let mut power = Power::new(allowance, &torn);
+        let image = &mut self.buffer[..self.lent];
+        let erased = (0..blocks).all(|block| power.run(image, &Operation::Erase(block)));
+        let reset = encode(&Unit { node: 0, deed: Deed::Reset(0) });
+        let finished = erased && chip::write_page(image, &mut power, 0, &page_data(1, 0, 1, &[reset]));
+        self.state = finished.then(|| State { tree: Tree::leaf(blocks), pending: 0, number: 1, blocks });
+        if self.is(Bug::ImageByteOnFormat) {
+            self.buffer[20000] = 7;
+        }
+        let told = power.told() + self.is(Bug::FormatTold) as u32;
+        format!("{:02X}{told:08X}", if finished { 0 } else { 10 })
+    }
+
+    /// The blocks of a right image and torn length.
+    fn whole(&self) -> Option<usize> {
+        chip::blocks_of(self.lent).filter(|_| self.torn_lent == TORN)
+    }
+
+    /// Refusals 2 and 1.
+    fn refused(&self, torn: bool) -> Option<u32> {
+        let blocks = chip::blocks_of(self.lent).filter(|_| !torn || self.torn_lent == TORN);
+        match &self.state {
+            None if self.is(Bug::SizeBeforeOff) && blocks.is_none() => Some(1),
+            None => Some(2),
+            Some(state) => (blocks != Some(state.blocks)).then_some(1),
+        }
+    }
+
+    /// Insert.
+    fn insert(&mut self, key: u32, value: u32) -> String {
+        if let Some(refusal) = self.refused(false) {
+            return format!("{refusal:02X}");
+        }
+        let (early, five, loses) = (self.is(Bug::EarlyThree), self.is(Bug::EarlyFive), self.is(Bug::LosesUpdate));
+        let state = self.state.as_mut().unwrap();
+        if state.pending == 16 - early as u32 {
+            return "03".to_string();
+        }
+        let held = state.tree.clone();
+        if !state.tree.insert(key, value) || (five && state.tree.nodes.iter().flatten().count() > 20) {
+            state.tree = held;
+            return "05".to_string();
+        }
+        if loses && key % 16 == 3 {
+            state.tree = held;
+        }
+        state.pending += 1;
+        if self.is(Bug::ImageByteOnInsert) {
+            self.buffer[40000] ^= 1;
+        }
+        "00".to_string()
+    }
+
+    /// Delete.
+    fn delete(&mut self, key: u32) -> String {
+        if let Some(refusal) = self.refused(false) {
+            return format!("{refusal:02X}");
+        }
+        let order = self.is(Bug::AbsentBeforePending);
+        let state = self.state.as_mut().unwrap();
+        if order && state.tree.find(key).is_none() {
+            return "04".to_string();
+        }
+        if state.pending == 16 {
+            return "03".to_string();
+        }
+        if !state.tree.delete(key) {
+            return "04".to_string();
+        }
+        state.pending += 1;
+        "00".to_string()
+    }
+
+    /// Look up.
+    fn look_up(&mut self, key: u32) -> String {
+        if let Some(refusal) = self.refused(false) {
+            return format!("{refusal:02X}");
+        }
+        let state = self.state.as_ref().unwrap();
+        let path = state.tree.path(key);
+        let lists = meaning(self.image(), state.blocks).map(|means| means.lists).unwrap_or(vec![vec![]; 256]);
+        let pages: usize = path.iter().map(|number| lists[*number as usize].len()).sum();
+        let pages = pages + self.is(Bug::WrongPagesRead) as usize;
+        match state.tree.find(key) {
+            Some(value) => format!("00{:08X}{pages:02X}", value ^ self.is(Bug::WrongValue) as u32),
+            None => format!("04{pages:02X}"),
+        }
+    }
+
+    /// Block report.
+    fn report(&mut self, block: u32) -> String {
+        if let Some(refusal) = self.refused(false) {
+            return format!("{refusal:02X}");
+        }
+        if block as usize >= self.state.as_ref().unwrap().blocks {
+            return "04".to_string();
+        }
+        let (count, first) = chip::free_pages(self.image(), block as usize);
+        if self.is(Bug::WritesOnReport) {
+            self.buffer[3000] ^= 4;
+        }
+        let (less, later) = (self.is(Bug::ReportOneLess) as usize, self.is(Bug::ReportFirst) as usize);
+        format!("00{:02X}{:02X}", count.saturating_sub(less), first + later)
+    }
+
+    /// Show.
+    fn show(&mut self, page: u32) -> String {
+        let Some(blocks) = chip::blocks_of(self.lent) else { return "01".to_string() };
+        if page as usize >= blocks * PAGES {
+            return "04".to_string();
+        }
+        let page = chip::page(self.image(), page as usize);
+        let head = image::own_rules(page, 0).filter(|_| image::live(page));
+        let length = head.map_or(0, |head| head.units * UNIT) + (self.is(Bug::ShowTooLong) && head.is_some()) as usize;
+        let digits: String = page[HEAD..HEAD + length].iter().map(|byte| format!("{byte:02X}")).collect();
+        format!("00{digits}")
+    }
+
+    /// Mount.
+    fn mount(&mut self, allowance: u32) -> String {
+        let Some(blocks) = self.whole() else { return "0100000000".to_string() };
+        if self.is(Bug::MountSeven) {
+            return "0700000000".to_string();
+        }
+        self.state = None;
+        let mut means = match meaning(self.image(), blocks) {
+            Ok(means) => means,
+            Err(refusal) => return format!("{refusal:02X}00000000"),
+        };
+        if self.is(Bug::MountHighestFirst) {
+            means.void.reverse();
+        }
+        let torn = self.torn.clone();
+        let mut power = Power::new(allowance, &torn);
+        let image = &mut self.buffer[..self.lent];
+        let finished = means.void.iter().all(|place| power.run(image, &Operation::Mark(*place, OBSOLETE)));
+        let told = power.told() + self.is(Bug::MountTold) as u32;
+        if !finished {
+            return format!("0A{told:08X}");
+        }
+        if !self.is(Bug::MountLeavesOff) {
+            self.state = Some(State { tree: means.tree, pending: 0, number: means.greatest, blocks });
+        }
+        format!("00{told:08X}")
+    }
+
+    /// Commit.
+    fn commit(&mut self, allowance: u32) -> String {
+        if let Some(refusal) = self.refused(true) {
+            return format!("{refusal:02X}00000000");
+        }
+        let state = self.state.as_ref().unwrap();
+        if state.pending == 0 && !(self.is(Bug::TenWithNothingPending) && allowance == 0) {
+            return "0000000000".to_string();
+        }
+        let last = if self.is(Bug::LastNumber) { 7 } else { u32::MAX };
+        let pages = self.pages();
+        let block = meaning(self.image(), state.blocks).ok().and_then(|means| self.spent_block(&means));
+        let (Some(block), true, true) = (block, state.number < last, pages.len() <= PAGES) else {
+            return "0600000000".to_string();
+        };
+        let number = state.number + 1 - self.is(Bug::SameNumber) as u32;
+        let torn = self.torn.clone();
+        let allowed = if self.is(Bug::TenAt2000) { allowance.min(3) } else { allowance };
+        let mut power = Power::new(allowed, &torn);
+        self.write(&mut power, block, number, &pages);
+        self.stray(&power, block);
+        self.told(&power, allowance, number)
+    }
+
+    /// What a faulty commit writes besides its operations.
+    fn stray(&mut self, power: &Power, block: usize) {
+        let last = (block * PAGES + PAGES - 1) * 528;
+        if self.is(Bug::ContinuesAfterCut) && power.gone() {
+            self.buffer[last + 512] = 0;
+        }
+        let dead = (0..self.lent / 528).find(|place| self.buffer[place * 528] != 255 && self.buffer[place * 528 + 513] == 255);
+        if let (Bug::OldPageValid, Some(place)) = (self.bug, dead) {
+            self.buffer[place * 528 + 513..place * 528 + 515].fill(0);
+        }
+        if self.is(Bug::PageOfOtherCommit) && !power.gone() {
+            let reset = encode(&Unit { node: 0, deed: Deed::Reset(0) });
+            self.buffer[last..last + 512].copy_from_slice(&page_data(1, 7, 8, &[reset]));
+            self.buffer[last + 512..last + 514].fill(0);
+        }
+    }
+
+    /// The commit's reply, and the state after it.
+    fn told(&mut self, power: &Power, allowance: u32, number: u32) -> String {
+        if power.gone() {
+            self.state = None;
+            let told = if self.is(Bug::TenAt2000) { allowance } else { power.told() };
+            return format!("0A{:08X}", told.saturating_sub(self.is(Bug::CutTold) as u32));
+        }
+        let state = self.state.as_mut().unwrap();
+        state.number = number;
+        state.pending = 0;
+        let mut told = power.told();
+        if self.is(Bug::CommitToldHigh) {
+            told = allowance.saturating_add(1);
+        }
+        if self.is(Bug::CommitToldLow) {
+            told = 2;
+        }
+        format!("00{told:08X}")
+    }
+
+    /// The units of all nodes of the present tree, page by page.
+    fn pages(&self) -> Vec<Vec<[u8; UNIT]>> {
+        let mut pages: Vec<Vec<[u8; UNIT]>> = vec![Vec::new()];
+        let tree = &self.state.as_ref().unwrap().tree;
+        for (number, node) in tree.nodes.iter().enumerate().filter_map(|(number, node)| node.as_ref().map(|node| (number, node))) {
+            let unit = |deed| encode(&Unit { node: number as u16, deed });
+            let mut units = vec![unit(Deed::Reset(node.level))];
+            units.extend(node.entries.iter().map(|entry| unit(Deed::Insert(entry.0, entry.1))));
+            if pages.last().unwrap().len() + units.len() > ROOM {
+                pages.push(Vec::new());
+            }
+            if self.is(Bug::NodeInTwoPages) && number == 0 && units.len() > 1 {
+                pages.last_mut().unwrap().push(units.remove(0));
+                pages.push(Vec::new());
+            }
+            pages.last_mut().unwrap().extend(units);
+        }
+        pages
+    }
+
+    /// A block that no list needs and that has no page of the greatest commit.
+    fn spent_block(&self, means: &Meaning) -> Option<usize> {
+        let state = self.state.as_ref().unwrap();
+        let early = self.is(Bug::EraseBeforeCopy);
+        (0..state.blocks).rev().find(|block| {
+            let mut places = block * PAGES..(block + 1) * PAGES;
+            let needed = |place: usize| {
+                let page = chip::page(self.image(), place);
+                let greatest = image::live(page) && page[0..4] == means.greatest.to_le_bytes();
+                greatest || means.lists.iter().any(|list| list.contains(&place))
+            };
+            early ^ !places.any(needed)
+        })
+    }
+
+    /// Erases a block, writes the commit into it and sets the obsolete mark of each older page.
+    fn write(&mut self, power: &mut Power, block: usize, number: u32, pages: &[Vec<[u8; UNIT]>]) {
+        let torn_page = self.is(Bug::ProgramTornPage);
+        let in_place = self.is(Bug::ProgramInPlace);
+        let spare_byte = self.is(Bug::SpareByteOnCommit);
+        let image = &mut self.buffer[..self.lent];
+        let blank = (0..PAGES).all(|at| chip::free(chip::page(image, block * PAGES + at)));
+        let torn_mark = in_place || (torn_page && image[block * BLOCK] == 255);
+        if !blank && !torn_mark && !power.run(image, &Operation::Erase(block)) {
+            return;
+        }
+        for (index, units) in pages.iter().enumerate() {
+            let data = page_data(number, index as u8, pages.len() as u8, units);
+            if !chip::write_page(image, power, block * PAGES + index, &data) {
+                return;
+            }
+        }
+        if spare_byte {
+            image[block * BLOCK + 512 + 9] = 3;
+        }
+        for place in (0..image.len() / 528).filter(|place| place / PAGES != block) {
+            let page = chip::page(image, place);
+            if chip::mark(page, VALID) == 0 && image::live(page) && !power.run(image, &Operation::Mark(place, OBSOLETE)) {
+                return;
+            }
+        }
+    }
+
+    /// Frames 10 to 16.
+    fn lend(&mut self, frame: Frame) -> String {
+        let bug = self.bug;
+        let fits = match frame {
+            Frame::Blocks(blocks) => blocks <= 40,
+            Frame::Length(length) => length as usize <= 40 * BLOCK,
+            Frame::SetImage(at, _) => (at as usize) < self.lent,
+            Frame::SetTorn(at, _) => (at as usize) < self.torn_lent,
+            Frame::TornLength(length) => length <= 600,
+            _ => true,
+        };
+        if !fits {
+            return "FF".to_string();
+        }
+        match frame {
+            Frame::Blocks(blocks) => {
+                self.buffer.fill(255);
+                self.lent = blocks as usize * BLOCK;
+            }
+            Frame::Length(length) => self.lent = length as usize,
+            Frame::SetImage(at, byte) => self.buffer[at as usize] = byte,
+            Frame::SetTorn(at, byte) => self.torn[at as usize] = byte,
+            Frame::TornLength(length) => self.torn_lent = length as usize,
+            Frame::Noise(seed) => self.noise(seed),
+            _ => return format!("00{:08X}", crc32(self.image()) ^ (bug == Bug::WrongSum) as u32),
+        }
+        "00".to_string()
+    }
+
+    /// Frame 16.
+    fn noise(&mut self, seed: u32) {
+        let shift = if self.is(Bug::Noise) { 8 } else { 16 };
+        let mut x = seed;
+        for at in 0..self.lent {
+            x = x.wrapping_mul(1664525).wrapping_add(1013904223);
+            self.buffer[at] = (x >> shift) as u8;
+        }
+    }
+}
