@@ -3,7 +3,6 @@
 pub mod bench;
 pub mod crash;
 pub mod crc;
-pub mod figures;
 pub mod frame;
 pub mod model;
 pub mod probe;

@@ -1,9 +1,9 @@
-//! The commands: `run`, `crash`, `script`, `bench`, `figures`.
+//! The commands: `run`, `crash`, `script`, `bench`.
 
 use model::crash::Case;
 use model::random::Random;
 use model::scripts::{self, KINDS};
-use model::{figures, runner};
+use model::runner;
 use std::path::{Path, PathBuf};
 use std::process::ExitCode;
 use std::time::{Duration, Instant, SystemTime, UNIX_EPOCH};
@@ -199,11 +199,7 @@ fn main() -> ExitCode {
         Some("crash") => crash(&words[1..]),
         Some("script") => script(&words[1..]),
         Some("bench") => bench(&words[1..]),
-        Some("figures") => {
-            figures::print();
-            Ok(ExitCode::SUCCESS)
-        }
-        _ => Err("commands: run, crash, script, bench, figures".into()),
+        _ => Err("commands: run, crash, script, bench".into()),
     };
     result.unwrap_or_else(|why| {
         eprintln!("{why}");

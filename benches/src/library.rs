@@ -1,0 +1,159 @@
+//! The proved library, called through its static library: a state in parts, which are lent, and the calls on it.
+
+/// The parts of a state: its numbers, the lengths and the pages of the lists, the reservation buffer.
+type Numbers = [u32; 6];
+type Lens = [u32; 256];
+type Slots = [u32; 1024];
+type Buffer = [u8; 11520];
+
+extern "C" {
+    fn vehinoke_look_up(
+        numbers: &Numbers,
+        lens: &Lens,
+        slots: &Slots,
+        buffer: &Buffer,
+        image: *const u8,
+        image_len: usize,
+        key: u32,
+        told: &mut [u32; 2],
+    ) -> u32;
+    fn vehinoke_insert(
+        numbers: &mut Numbers,
+        lens: &Lens,
+        slots: &Slots,
+        buffer: &mut Buffer,
+        image: *const u8,
+        image_len: usize,
+        key: u32,
+        value: u32,
+    ) -> u32;
+    fn vehinoke_delete(
+        numbers: &mut Numbers,
+        lens: &Lens,
+        slots: &Slots,
+        buffer: &mut Buffer,
+        image: *const u8,
+        image_len: usize,
+        key: u32,
+    ) -> u32;
+    fn vehinoke_block_report(numbers: &Numbers, image: *const u8, image_len: usize, block: u32, told: &mut [u32; 2]) -> u32;
+    fn vehinoke_format(
+        numbers: &mut Numbers,
+        lens: &mut Lens,
+        slots: &mut Slots,
+        image: *mut u8,
+        image_len: usize,
+        torn: *const u8,
+        torn_len: usize,
+        allowance: u32,
+        ops: &mut [u32; 1],
+    ) -> u32;
+    fn vehinoke_mount(
+        numbers: &mut Numbers,
+        lens: &mut Lens,
+        slots: &mut Slots,
+        image: *mut u8,
+        image_len: usize,
+        torn: *const u8,
+        torn_len: usize,
+        allowance: u32,
+        ops: &mut [u32; 1],
+    ) -> u32;
+    fn vehinoke_commit(
+        numbers: &mut Numbers,
+        lens: &mut Lens,
+        slots: &mut Slots,
+        buffer: &Buffer,
+        image: *mut u8,
+        image_len: usize,
+        torn: *const u8,
+        torn_len: usize,
+        allowance: u32,
+        ops: &mut [u32; 1],
+    ) -> u32;
+}
+
+/// A state of the proved library, as its caller keeps it.
+#[derive(Clone)]
+pub struct Library {
+    numbers: Numbers,
+    lens: Box<Lens>,
+    slots: Box<Slots>,
+    buffer: Box<Buffer>,
+}
+
+/// What format, mount and commit tell: the refusal, 0 for none, and the operations done.
+#[derive(Clone, Copy, PartialEq, Eq, Debug)]
+pub struct Told {
+    pub refusal: u32,
+    pub ops: u32,
+}
+
+impl Library {
+    /// A state that is off.
+    pub fn new() -> Library {
+        Library { numbers: [0; 6], lens: Box::new([0; 256]), slots: Box::new([0; 1024]), buffer: Box::new([0; 11520]) }
+    }
+
+    /// The state made equal to another, in place.
+    pub fn set(&mut self, other: &Library) {
+        self.numbers = other.numbers;
+        self.lens.clone_from(&other.lens);
+        self.slots.clone_from(&other.slots);
+        self.buffer.clone_from(&other.buffer);
+    }
+
+    /// Each pointer below is followed by the length of the slice that it comes from.
+    pub fn format(&mut self, image: &mut [u8], torn: &[u8], allowance: u32) -> Told {
+        let mut ops = [0];
+        let (i, t) = (image.as_mut_ptr(), torn.as_ptr());
+        let (n, l, s) = (&mut self.numbers, &mut self.lens, &mut self.slots);
+        let refusal = unsafe { vehinoke_format(n, l, s, i, image.len(), t, torn.len(), allowance, &mut ops) };
+        Told { refusal, ops: ops[0] }
+    }
+
+    pub fn mount(&mut self, image: &mut [u8], torn: &[u8], allowance: u32) -> Told {
+        let mut ops = [0];
+        let (i, t) = (image.as_mut_ptr(), torn.as_ptr());
+        let (n, l, s) = (&mut self.numbers, &mut self.lens, &mut self.slots);
+        let refusal = unsafe { vehinoke_mount(n, l, s, i, image.len(), t, torn.len(), allowance, &mut ops) };
+        Told { refusal, ops: ops[0] }
+    }
+
+    pub fn commit(&mut self, image: &mut [u8], torn: &[u8], allowance: u32) -> Told {
+        let mut ops = [0];
+        let (i, t) = (image.as_mut_ptr(), torn.as_ptr());
+        let (n, l, s, b) = (&mut self.numbers, &mut self.lens, &mut self.slots, &self.buffer);
+        let refusal = unsafe { vehinoke_commit(n, l, s, b, i, image.len(), t, torn.len(), allowance, &mut ops) };
+        Told { refusal, ops: ops[0] }
+    }
+
+    /// The refusal, 0 for none, the value found and the pages read.
+    pub fn look_up(&self, image: &[u8], key: u32) -> (u32, u32, u32) {
+        let mut told = [0, 0];
+        let (n, l, s, b) = (&self.numbers, &self.lens, &self.slots, &self.buffer);
+        let refusal = unsafe { vehinoke_look_up(n, l, s, b, image.as_ptr(), image.len(), key, &mut told) };
+        (refusal, told[0], told[1])
+    }
+
+    /// The refusal, 0 for none.
+    pub fn insert(&mut self, image: &[u8], key: u32, value: u32) -> u32 {
+        let (n, l, s, b) = (&mut self.numbers, &self.lens, &self.slots, &mut self.buffer);
+        unsafe { vehinoke_insert(n, l, s, b, image.as_ptr(), image.len(), key, value) }
+    }
+
+    /// The refusal, 0 for none.
+    pub fn delete(&mut self, image: &[u8], key: u32) -> u32 {
+        let (n, l, s, b) = (&mut self.numbers, &self.lens, &self.slots, &mut self.buffer);
+        unsafe { vehinoke_delete(n, l, s, b, image.as_ptr(), image.len(), key) }
+    }
+
+    /// The free pages of a block and the first free one; else the refusal.
+    pub fn block_report(&self, image: &[u8], block: u32) -> Result<(u32, u32), u32> {
+        let mut told = [0, 0];
+        match unsafe { vehinoke_block_report(&self.numbers, image.as_ptr(), image.len(), block, &mut told) } {
+            0 => Ok((told[0], told[1])),
+            refusal => Err(refusal),
+        }
+    }
+}

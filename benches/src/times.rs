@@ -1,0 +1,178 @@
+//! Times of the calls: the proved library against the twin, alternately in one process.
+
+use crate::both::{Both, ALLOWANCE, PENDING, TORN};
+use crate::clock::{median, nanos, reading};
+use crate::random::Random;
+use crate::twin;
+use std::hint::black_box;
+
+/// The median, least and greatest of the rounds of one call: nanoseconds a call, and the ratio of library to twin.
+#[derive(Clone)]
+pub struct Row {
+    pub call: String,
+    pub blocks: usize,
+    pub note: String,
+    pub library: f64,
+    pub twin: f64,
+    pub ratio: f64,
+    pub low: f64,
+    pub high: f64,
+}
+
+/// One round: nanoseconds a call of the library and of the twin.
+pub type Round = (f64, f64);
+
+/// The row of a call from its rounds.
+pub fn row(call: &str, blocks: usize, note: String, rounds: &[Round]) -> Row {
+    let mut ratios: Vec<f64> = rounds.iter().map(|r| r.0 / r.1).collect();
+    let ratio = median(&mut ratios);
+    Row {
+        call: call.to_string(),
+        blocks,
+        note,
+        library: median(&mut rounds.iter().map(|r| r.0).collect::<Vec<_>>()),
+        twin: median(&mut rounds.iter().map(|r| r.1).collect::<Vec<_>>()),
+        ratio,
+        low: ratios[0],
+        high: ratios[ratios.len() - 1],
+    }
+}
+
+/// Look ups of random keys of the tree.
+pub fn look_up(both: &Both, keys: &[u32], rounds: usize, random: &mut Random) -> Vec<Round> {
+    let list: Vec<u32> = (0..512).map(|_| random.pick(keys)).collect();
+    let mut looks = vec![(0, 0, 0); list.len()];
+    let mut others = looks.clone();
+    let n = list.len() as f64;
+    let mut turn = || {
+        let clock = reading();
+        let library = nanos(|| {
+            for (key, told) in list.iter().zip(&mut looks) {
+                *told = both.library.look_up(black_box(&both.image), *key);
+            }
+        }) - clock;
+        let twin = nanos(|| {
+            for (key, told) in list.iter().zip(&mut others) {
+                *told = twin::look_up(&both.twin, black_box(&both.twin_image), *key);
+            }
+        }) - clock;
+        assert!(looks == others, "look up");
+        (library / n, twin / n)
+    };
+    (0..rounds).map(|_| turn()).collect()
+}
+
+/// The times of inserts of `list`, of library and twin, each into the state of `both`; what they leave is compared by look ups.
+fn insert_list(both: &Both, at: &mut Both, list: &[u32], clock: f64) -> Round {
+    at.library.set(&both.library);
+    let library = nanos(|| {
+        for &key in list {
+            assert_eq!(at.library.insert(black_box(&both.image), key, key), 0);
+        }
+    }) - clock;
+    at.twin.clone_from(&both.twin);
+    let twin = nanos(|| {
+        for &key in list {
+            assert_eq!(at.twin.insert(black_box(&both.twin_image), key, key), 0);
+        }
+    }) - clock;
+    at.look_ups(list);
+    (library, twin)
+}
+
+/// Inserts of `count` random keys of the tree, each list into the same state; a round is 32 lists.
+pub fn insert(both: &Both, keys: &[u32], count: usize, rounds: usize, random: &mut Random) -> Vec<Round> {
+    let mut at = both.clone();
+    let mut turn = || {
+        let clock = reading();
+        let (mut library, mut twin) = (0.0, 0.0);
+        for _ in 0..32 {
+            let list: Vec<u32> = (0..count).map(|_| random.pick(keys)).collect();
+            let (l, t) = insert_list(both, &mut at, &list, clock);
+            library += l;
+            twin += t;
+        }
+        let n = (32 * count) as f64;
+        (library / n, twin / n)
+    };
+    (0..rounds).map(|_| turn()).collect()
+}
+
+/// A commit of 16 events: the times of library and twin, and the pages that it wrote.
+pub fn one_commit(both: &mut Both, keys: &[u32], random: &mut Random) -> (f64, f64, u32) {
+    for _ in 0..PENDING {
+        assert_eq!(both.insert(random.pick(keys), random.next() as u32), 0);
+    }
+    let clock = reading();
+    let (mut told, mut other) = (None, None);
+    let library = nanos(|| told = Some(both.library.commit(&mut both.image, &TORN, ALLOWANCE))) - clock;
+    let twin = nanos(|| other = Some(both.twin.commit(&mut both.twin_image, &TORN, ALLOWANCE))) - clock;
+    let (told, other) = (told.unwrap(), other.unwrap());
+    assert_eq!((told.refusal, told.ops), (other.refusal, other.ops));
+    assert!(both.image == both.twin_image, "the images differ after a commit");
+    both.pending = 0;
+    (library, twin, both.last_pages())
+}
+
+/// Commits of 16 events, each a random key of the tree with another value; a round is 20 of them in turn.
+pub fn commit(both: &mut Both, keys: &[u32], rounds: usize, random: &mut Random) -> Vec<Round> {
+    (0..rounds)
+        .map(|_| {
+            let (mut library, mut twin) = (0.0, 0.0);
+            for _ in 0..20 {
+                let (l, t, _) = one_commit(both, keys, random);
+                library += l;
+                twin += t;
+            }
+            (library / 20.0, twin / 20.0)
+        })
+        .collect()
+}
+
+/// Mounts of the image; a round is 4 of them.
+pub fn mount(both: &mut Both, rounds: usize) -> Vec<Round> {
+    let mut turn = || {
+        let clock = reading();
+        let (mut library, mut twin) = (0.0, 0.0);
+        for _ in 0..4 {
+            library += nanos(|| assert_eq!(both.library.mount(&mut both.image, &TORN, ALLOWANCE).refusal, 0)) - clock;
+            twin += nanos(|| assert_eq!(both.twin.mount(&mut both.twin_image, &TORN, ALLOWANCE).refusal, 0)) - clock;
+        }
+        assert!(both.image == both.twin_image, "the images differ after a mount");
+        (library / 4.0, twin / 4.0)
+    };
+    (0..rounds).map(|_| turn()).collect()
+}
+
+/// Formats of the image; a round is 4 of them.
+pub fn format(blocks: usize, rounds: usize) -> Vec<Round> {
+    let mut both = Both::formatted(blocks);
+    let mut turn = || {
+        let clock = reading();
+        let (mut library, mut twin) = (0.0, 0.0);
+        for _ in 0..4 {
+            library += nanos(|| assert_eq!(both.library.format(&mut both.image, &TORN, ALLOWANCE).refusal, 0)) - clock;
+            twin += nanos(|| assert_eq!(both.twin.format(&mut both.twin_image, &TORN, ALLOWANCE).refusal, 0)) - clock;
+        }
+        assert!(both.image == both.twin_image, "the images differ after a format");
+        (library / 4.0, twin / 4.0)
+    };
+    (0..rounds).map(|_| turn()).collect()
+}
+
+/// The first table: each call at B = 3, 8, 32 on a full tree.
+pub fn table(rounds: usize) -> Vec<Row> {
+    let mut rows = Vec::new();
+    for blocks in [3, 8, 32] {
+        let mut random = Random::new(blocks as u64);
+        let (mut both, keys) = Both::filled(blocks, usize::MAX, &mut random);
+        both.churn(&keys, 100, &mut random);
+        let note = format!("{} keys, {} live pages, root of level {}", keys.len(), both.live_pages(), both.root_level());
+        rows.push(row("look up", blocks, note.clone(), &look_up(&both, &keys, rounds, &mut random)));
+        rows.push(row("insert", blocks, note.clone(), &insert(&both, &keys, PENDING, rounds, &mut random)));
+        rows.push(row("commit", blocks, note.clone(), &commit(&mut both, &keys, rounds, &mut random)));
+        rows.push(row("mount", blocks, note.clone(), &mount(&mut both, rounds)));
+        rows.push(row("format", blocks, String::new(), &format(blocks, rounds)));
+    }
+    rows
+}

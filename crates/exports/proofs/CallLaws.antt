@@ -1,0 +1,95 @@
+-- What the store's call says of the numbers loaded, told of the caller's words.
+use mathlib.Core.Path.{_≡_, subst, ap, _∙_}
+use mathlib.Core.List.{List, [], _∷_}
+use Prim.Native.Nat.{ℕ}
+use Rattle.store.specs.Answers.{refusalNumber}
+use Rattle.store.specs.Contracts.{Formats, Mounts, Looks, Inserts, Deletes, Commits, Reports}
+use Rattle.store.specs.Parts.{joined, updatedWith, wroteWith}
+use Rattle.store.specs.declared.answer.Look.{Look}
+use Rattle.store.specs.declared.answer.Report.{Report}
+use Rattle.store.specs.declared.state.Numbers.{Numbers}
+use Rattle.store.specs.declared.state.UpdatedParts.{UpdatedParts}
+use Rattle.store.specs.declared.state.WroteParts.{WroteParts}
+use Rattle.exports.specs.declared.finds.Told.{Told}
+use Rattle.exports.specs.Told.{lookTold, reportTold}
+use Rattle.exports.specs.Words.{numbersIn, wordsOf}
+use Rattle.exports.specs.Calls.{LooksUp, BlockReports, InsertsTold, DeletesTold, Tells, FormatsTold, MountsTold, CommitsTold}
+
+module _ (words : List ℕ) (n : Numbers) (e : n ≡ numbersIn words) where
+  pub looked : (key : ℕ) (buffer lens slots image : List ℕ) (l : Look) (t : Told) → t ≡ lookTold l → Looks key (joined n buffer lens slots) image l
+      → LooksUp key words buffer lens slots image (t .refusal) (t .first ∷ t .second ∷ [])
+  looked key buffer lens slots image l t f h =
+      record {
+        look = l;
+        says = subst (λ (m : Numbers). Looks key (joined m buffer lens slots) image l) e h;
+        refusal = ap (λ (x : Told). x .refusal) f;
+        tells = ap (λ (x : Told). x .first ∷ x .second ∷ []) f;
+      }
+
+  pub reported : (block : ℕ) (image : List ℕ) (l : Report) (t : Told) → t ≡ reportTold l
+      → ((buffer lens slots : List ℕ) → Reports block (joined n buffer lens slots) image l)
+      → BlockReports block words image (t .refusal) (t .first ∷ t .second ∷ [])
+  reported block image l t f h =
+      record {
+        report = l;
+        says = λ (buffer lens slots : List ℕ). subst (λ (m : Numbers). Reports block (joined m buffer lens slots) image l) e (h buffer lens slots);
+        refusal = ap (λ (x : Told). x .refusal) f;
+        tells = ap (λ (x : Told). x .first ∷ x .second ∷ []) f;
+      }
+
+  pub inserted : (key value : ℕ) (buffer lens slots image : List ℕ) (u : UpdatedParts) (r : ℕ) (words' buffer' : List ℕ)
+      → r ≡ refusalNumber (u .answer) → words' ≡ wordsOf (u .numbers)
+      → Inserts key value (joined n buffer lens slots) image (updatedWith u buffer' lens slots)
+      → InsertsTold key value words buffer lens slots image r words' buffer'
+  inserted key value buffer lens slots image u r words' buffer' f g h =
+      record {
+        result = u;
+        says = subst (λ (m : Numbers). Inserts key value (joined m buffer lens slots) image (updatedWith u buffer' lens slots)) e h;
+        refusal = f;
+        saved = g;
+      }
+
+  pub deleted : (key : ℕ) (buffer lens slots image : List ℕ) (u : UpdatedParts) (r : ℕ) (words' buffer' : List ℕ)
+      → r ≡ refusalNumber (u .answer) → words' ≡ wordsOf (u .numbers)
+      → Deletes key (joined n buffer lens slots) image (updatedWith u buffer' lens slots)
+      → DeletesTold key words buffer lens slots image r words' buffer'
+  deleted key buffer lens slots image u r words' buffer' f g h =
+      record {
+        result = u;
+        says = subst (λ (m : Numbers). Deletes key (joined m buffer lens slots) image (updatedWith u buffer' lens slots)) e h;
+        refusal = f;
+        saved = g;
+      }
+
+  pub formatted : (allowance : ℕ) (torn lens slots image : List ℕ) (w : WroteParts) (r : ℕ) (ops words' lens' slots' image' : List ℕ)
+      → Tells w r ops words'
+      → ((buffer : List ℕ) → Formats allowance torn (joined n buffer lens slots) image (wroteWith w buffer lens' slots') image')
+      → FormatsTold allowance torn words lens slots image r ops words' lens' slots' image'
+  formatted allowance torn lens slots image w r ops words' lens' slots' image' t h =
+      record {
+        result = w;
+        says = λ (buffer : List ℕ). subst (λ (m : Numbers). Formats allowance torn (joined m buffer lens slots) image (wroteWith w buffer lens' slots') image') e (h buffer);
+        tells = t;
+      }
+
+  pub mounted : (allowance : ℕ) (torn lens slots image : List ℕ) (w : WroteParts) (r : ℕ) (ops words' lens' slots' image' : List ℕ)
+      → Tells w r ops words'
+      → ((buffer : List ℕ) → Mounts allowance torn (joined n buffer lens slots) image (wroteWith w buffer lens' slots') image')
+      → MountsTold allowance torn words lens slots image r ops words' lens' slots' image'
+  mounted allowance torn lens slots image w r ops words' lens' slots' image' t h =
+      record {
+        result = w;
+        says = λ (buffer : List ℕ). subst (λ (m : Numbers). Mounts allowance torn (joined m buffer lens slots) image (wroteWith w buffer lens' slots') image') e (h buffer);
+        tells = t;
+      }
+
+  pub committed : (allowance : ℕ) (torn buffer lens slots image : List ℕ) (w : WroteParts) (r : ℕ) (ops words' lens' slots' image' : List ℕ)
+      → Tells w r ops words'
+      → Commits allowance torn (joined n buffer lens slots) image (wroteWith w buffer lens' slots') image'
+      → CommitsTold allowance torn words buffer lens slots image r ops words' lens' slots' image'
+  committed allowance torn buffer lens slots image w r ops words' lens' slots' image' t h =
+      record {
+        result = w;
+        says = subst (λ (m : Numbers). Commits allowance torn (joined m buffer lens slots) image (wroteWith w buffer lens' slots') image') e h;
+        tells = t;
+      }

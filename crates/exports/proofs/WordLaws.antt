@@ -1,0 +1,26 @@
+-- The numbers of a state and a caller's words.
+use mathlib.Core.Path.{_≡_}
+use mathlib.Core.Bool.{Bool}
+use mathlib.Core.List.{List, [], _∷_}
+use Prim.Native.Nat.{ℕ, _%_}
+use lib.Dec.{eqb}
+use lib.ListN.{getD}
+use Rattle.store.specs.declared.state.Numbers.{Numbers}
+use Rattle.exports.specs.Words.{bit, numbersIn, wordsOf}
+
+-- numbers read from the words one by one
+pub loaded : (words : List ℕ) (b n : ℕ) → b ≡ getD words 1 0 → n ≡ getD words 5 0
+    → _≡_ {A = Numbers} (record {
+      on = eqb (getD words 0 0) 1;
+      blocks = b;
+      commit = getD words 2 0;
+      pending = getD words 3 0;
+      next = getD words 4 0;
+      count = n;
+    }) (numbersIn words)
+loaded words b n e f = cc
+
+-- words written one by one
+pub saved : (n : Numbers) (a b c : ℕ) → a ≡ bit (n .on) → b ≡ n .blocks % 4294967296 → c ≡ n .count % 4294967296
+    → _≡_ {A = List ℕ} (a ∷ b ∷ n .commit ∷ n .pending ∷ n .next ∷ c ∷ []) (wordsOf n)
+saved n a b c e f g = cc

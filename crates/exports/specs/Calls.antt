@@ -1,0 +1,65 @@
+-- What each exported call ensures: it tells in numbers a result that the contract of the store's call holds of.
+use mathlib.Core.Path.{_≡_}
+use mathlib.Core.List.{List, [], _∷_}
+use Prim.Native.Nat.{ℕ}
+use Rattle.store.specs.Answers.{refusalNumber}
+use Rattle.store.specs.Contracts.{Formats, Mounts, Looks, Inserts, Deletes, Commits, Reports}
+use Rattle.store.specs.Parts.{joined, updatedWith, wroteWith}
+use Rattle.store.specs.declared.answer.Look.{Look}
+use Rattle.store.specs.declared.answer.Report.{Report}
+use Rattle.store.specs.declared.state.UpdatedParts.{UpdatedParts}
+use Rattle.store.specs.declared.state.WroteParts.{WroteParts}
+use Rattle.exports.specs.Told.{lookTold, reportTold}
+use Rattle.exports.specs.Words.{numbersIn, wordsOf}
+
+-- look up: the refusal r, and the value and the pages read in `told`
+pub record LooksUp (key : ℕ) (words buffer lens slots image : List ℕ) (r : ℕ) (told : List ℕ) : Type 0 where
+  pub look : Look
+  pub says : Looks key (joined (numbersIn words) buffer lens slots) image look
+  pub refusal : r ≡ lookTold look .refusal
+  pub tells : told ≡ lookTold look .first ∷ lookTold look .second ∷ []
+
+-- block report, whatever the arrays: the refusal r, and the free pages and the first of them in `told`
+pub record BlockReports (block : ℕ) (words image : List ℕ) (r : ℕ) (told : List ℕ) : Type 0 where
+  pub report : Report
+  pub says : (buffer lens slots : List ℕ) → Reports block (joined (numbersIn words) buffer lens slots) image report
+  pub refusal : r ≡ reportTold report .refusal
+  pub tells : told ≡ reportTold report .first ∷ reportTold report .second ∷ []
+
+-- insert: the refusal r, and the words and the buffer that it leaves
+pub record InsertsTold (key value : ℕ) (words buffer lens slots image : List ℕ) (r : ℕ) (words' buffer' : List ℕ) : Type 0 where
+  pub result : UpdatedParts
+  pub says : Inserts key value (joined (numbersIn words) buffer lens slots) image (updatedWith result buffer' lens slots)
+  pub refusal : r ≡ refusalNumber (result .answer)
+  pub saved : words' ≡ wordsOf (result .numbers)
+
+-- delete: the same
+pub record DeletesTold (key : ℕ) (words buffer lens slots image : List ℕ) (r : ℕ) (words' buffer' : List ℕ) : Type 0 where
+  pub result : UpdatedParts
+  pub says : Deletes key (joined (numbersIn words) buffer lens slots) image (updatedWith result buffer' lens slots)
+  pub refusal : r ≡ refusalNumber (result .answer)
+  pub saved : words' ≡ wordsOf (result .numbers)
+
+-- what format, mount and commit tell of a result: the refusal r, the operations, and the words
+pub record Tells (result : WroteParts) (r : ℕ) (ops words' : List ℕ) : Type 0 where
+  pub refusal : r ≡ refusalNumber (result .answer)
+  pub saved : words' ≡ wordsOf (result .numbers)
+  pub done : ops ≡ result .ops ∷ []
+
+-- format, whatever the buffer: the node table and the image that it leaves
+pub record FormatsTold (allowance : ℕ) (torn words lens slots image : List ℕ) (r : ℕ) (ops words' lens' slots' image' : List ℕ) : Type 0 where
+  pub result : WroteParts
+  pub says : (buffer : List ℕ) → Formats allowance torn (joined (numbersIn words) buffer lens slots) image (wroteWith result buffer lens' slots') image'
+  pub tells : Tells result r ops words'
+
+-- mount, whatever the buffer: the same
+pub record MountsTold (allowance : ℕ) (torn words lens slots image : List ℕ) (r : ℕ) (ops words' lens' slots' image' : List ℕ) : Type 0 where
+  pub result : WroteParts
+  pub says : (buffer : List ℕ) → Mounts allowance torn (joined (numbersIn words) buffer lens slots) image (wroteWith result buffer lens' slots') image'
+  pub tells : Tells result r ops words'
+
+-- commit: the same with the buffer
+pub record CommitsTold (allowance : ℕ) (torn words buffer lens slots image : List ℕ) (r : ℕ) (ops words' lens' slots' image' : List ℕ) : Type 0 where
+  pub result : WroteParts
+  pub says : Commits allowance torn (joined (numbersIn words) buffer lens slots) image (wroteWith result buffer lens' slots') image'
+  pub tells : Tells result r ops words'

@@ -1,0 +1,29 @@
+-- The numbers of a state in a caller's six words: on, blocks, commit, pending, next, count.
+use mathlib.Core.Bool.{Bool, true, false}
+use mathlib.Core.List.{List, [], _∷_}
+use Prim.Native.Nat.{ℕ, _%_}
+use lib.Dec.{eqb}
+use lib.ListN.{getD}
+use Rattle.store.specs.declared.state.Numbers.{Numbers}
+
+-- on as a word
+abbrev pub bit : Bool → ℕ
+bit true = 1
+bit false = 0
+
+-- the numbers that the words hold
+abbrev pub numbersIn : List ℕ → Numbers
+numbersIn words =
+    record {
+      on = eqb (getD words 0 0) 1;
+      blocks = getD words 1 0;
+      commit = getD words 2 0;
+      pending = getD words 3 0;
+      next = getD words 4 0;
+      count = getD words 5 0;
+    }
+
+-- the words of these numbers, blocks and count modulo 2 to the power 32
+abbrev pub wordsOf : Numbers → List ℕ
+wordsOf n =
+    bit (n .on) ∷ n .blocks % 4294967296 ∷ n .commit ∷ n .pending ∷ n .next ∷ n .count % 4294967296 ∷ []

@@ -1,0 +1,6 @@
+// The calls for programs in other languages. A caller keeps a state in parts and lends them to each call: six words (on, blocks, commit,
+// pending, next, count), 256 list lengths, 1,024 pages of lists and the 11,520 bytes of the reservation buffer.
+pub mod finds;
+mod numbers;
+pub mod updates;
+pub mod writes;
