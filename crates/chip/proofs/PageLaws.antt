@@ -1,6 +1,7 @@
 -- Pages, byte by byte: free pages, blank and torn pages, sizes. Assumes nothing.
 use mathlib.Core.Path.{_≡_, refl, sym, ap, _∙_}
 use mathlib.Core.Bool.{Bool, true, false, _&&_}
+use mathlib.Core.Logic.{⊎-elim}
 use mathlib.Core.List.{List, [], _∷_, _++_, map}
 use Prim.Native.Nat.{ℕ, zero, suc, _+_, _-_, _≤_, _<_}
 use native.Mathlib.Nat.{add-sub-cancel-left}
@@ -28,6 +29,7 @@ use lib.Seq.{drop-cons, take-length, length-take-le, getD-take, getD-drop, getD-
 use borrow.Author.Tests.{eq-eqb, ne-eqb, eqb-true}
 use Rattle.lists.specs.Lists.{all}
 use Rattle.lists.proofs.Alls.{all-replicate}
+use Rattle.lists.proofs.Tests.{same-or-not}
 use Rattle.lists.proofs.Places.{getD-default}
 use Rattle.chip.specs.declared.page.Mark.{Mark}
 use Rattle.chip.specs.Geometry.{Geometry, pageSize}
@@ -45,6 +47,25 @@ free-pass xs i h e = rw (add-one, drop-cons xs i 0 h, eq-eqb (getD xs i 0) 255 e
 pub free-end : (xs : List ℕ) (i : ℕ) → length xs ≤ i → isFree (drop i xs) ≡ true
 unfolding isFree
 free-end xs i h = rw (drop-of-length-le xs h)
+
+-- the least of the bytes so far, m, and with one byte more, r: the bytes are all 255 where the least is
+pub free-least : (xs : List ℕ) (i m r : ℕ) → i < length xs → m ≤ 255 → getD xs i 0 ≤ 255 → r ≤ m → (getD xs i 0 < m → r ≡ getD xs i 0) → (m ≤ getD xs i 0 → r ≡ m)
+    → (eqb r 255 && isFree (drop (i + 1) xs)) ≡ (eqb m 255 && isFree (drop i xs))
+free-least xs i m r h b v l s t =
+    ⊎-elim
+    (λ e. ⊎-elim
+    (λ u. rw (eq-eqb r 255 (omega (arith, t (omega arith))), eq-eqb m 255 e) (sym (free-pass xs i h u)))
+    (λ n. rw (ne-eqb r 255 (λ u. n (omega (arith, s (omega (arith, n))))), eq-eqb m 255 e) (sym (free-stop xs i h n)))
+    (same-or-not (getD xs i 0) 255))
+    (λ n. rw (ne-eqb r 255 (λ u. n (omega arith)), ne-eqb m 255 n))
+    (same-or-not m 255)
+
+pub free-least-end : (xs : List ℕ) (i m : ℕ) → length xs ≤ i → (eqb m 255 && isFree (drop i xs)) ≡ eqb m 255
+free-least-end xs i m h = rw (free-end xs i h) (and-true (eqb m 255))
+  where
+    and-true : (c : Bool) → (c && true) ≡ c
+    and-true true = refl
+    and-true false = refl
 
 -- a byte of a torn erase that is not 0 stays
 pub mend-other : (n : ℕ) → (n ≡ 0 → ⊥) → mend n ≡ n

@@ -1,6 +1,6 @@
 // One page: programmed, marked, tested for being free. Each function gets the part of the image that is the page.
 ghost use mathlib.Core.Path.{_≡_};
-ghost use Prim.Native.Nat.{_≤_};
+ghost use Prim.Native.Nat.{_<_, _≤_};
 ghost use lib.ListN.{length, take, getD};
 ghost use Rattle.chip.specs.Geometry.{small};
 ghost use Rattle.chip.specs.Page.{isFree, isLive, marked, programmed, spareByte};
@@ -69,18 +69,24 @@ pub fn program(page: &mut [u8], bytes: &[u8], torn: &[u8], power: Power) -> Powe
     }
 }
 
-// Are all bytes of the page 255? The test ends at the first that is not.
+// The lesser of two bytes.
+fn lesser(a: u8, b: u8) -> u8
+    ensures { λ r. ⌜ (r ≤ b) × (a < b → r ≡ a) × (b ≤ a → r ≡ b) ⌝ }
+{
+    if a < b { a } else { b }
+}
+
+// Are all bytes of the page 255? Their least one says so.
 pub fn is_free(page: &[u8]) -> bool
     ensures { λ r. ⌜ r ≡ isFree (now (page .entry)) ⌝ }
 {
+    let mut least: u8 = 255;
     let mut i = 0;
     while i < page.len() {
-        if page[i] != 255 {
-            return false;
-        }
+        least = lesser(page[i], least);
         i += 1;
     }
-    true
+    least == 255
 }
 
 // Is the page live: valid mark set, obsolete mark not?
