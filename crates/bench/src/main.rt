@@ -1,5 +1,6 @@
 // The bench program: a store that starts off, on a chip of 3 blocks, each byte 255, with torn bytes of 90. It reads frames of hexadecimal
 // from standard input, one a line, and answers each by a line.
+ghost use Rattle.bench.specs.Input.{EndsLine, TakesIn, TakesSome};
 use frames::frame;
 use frames::line;
 use frames::line::Line;
@@ -25,7 +26,9 @@ fn print(t: Text) {
 }
 
 // A line that has ended: its frame is called, and its answer printed.
-fn answer_line(state: State, image: &mut [u8], torn: &[u8], line: Line) -> State {
+fn answer_line(state: State, image: &mut [u8], torn: &[u8], line: Line) -> State
+    ensures { λ r. ⌜ EndsLine (now (torn .entry)) line state (now (image .entry)) r (now (image .exit)) ⌝ }
+{
     let f = frame::frame_of(line);
     if !f.good {
         print(text::bad_text());
@@ -39,19 +42,21 @@ fn answer_line(state: State, image: &mut [u8], torn: &[u8], line: Line) -> State
 }
 
 // The bytes of one read: a line feed ends a line.
-fn take_bytes(bench: Bench, image: &mut [u8], torn: &[u8], bytes: &[u8]) -> Bench {
+fn take_bytes(bench: Bench, image: &mut [u8], torn: &[u8], bytes: &[u8]) -> Bench
+    ensures { λ r. ⌜ TakesIn (now (torn .entry)) (now (bytes .entry)) (bench .line) (bench .state) (now (image .entry)) (r .line) (r .state) (now (image .exit)) ⌝ }
+{
     let mut state = bench.state;
     let mut line = bench.line;
     let mut i = 0;
     while i < bytes.len() {
         let byte = bytes[i];
+        i += 1;
         if byte == 10 {
             state = answer_line(state, image, torn, line);
             line = line::no_line();
         } else {
             line = line::with_byte(line, byte);
         }
-        i += 1;
     }
     Bench { state, line }
 }
@@ -63,7 +68,9 @@ struct Took {
 }
 
 // One read of standard input into a buffer.
-fn read_into(bench: Bench, image: &mut [u8], torn: &[u8], buffer: &mut [u8]) -> Took {
+fn read_into(bench: Bench, image: &mut [u8], torn: &[u8], buffer: &mut [u8]) -> Took
+    ensures { λ r. ⌜ TakesSome (now (torn .entry)) (bench .line) (bench .state) (now (image .entry)) (r .bench .line) (r .bench .state) (now (image .exit)) ⌝ }
+{
     let got = libc::read(0, buffer);
     let n = io::count(got, buffer);
     let after = take_bytes(bench, image, torn, &buffer[..n]);
@@ -74,7 +81,9 @@ fn read_into(bench: Bench, image: &mut [u8], torn: &[u8], buffer: &mut [u8]) -> 
 }
 
 // One read of standard input, as much as a buffer holds.
-fn turn(bench: Bench, image: &mut [u8], torn: &[u8]) -> Took {
+fn turn(bench: Bench, image: &mut [u8], torn: &[u8]) -> Took
+    ensures { λ r. ⌜ TakesSome (now (torn .entry)) (bench .line) (bench .state) (now (image .entry)) (r .bench .line) (r .bench .state) (now (image .exit)) ⌝ }
+{
     let mut buffer = [0u8; 4096];
     read_into(bench, image, torn, &mut buffer)
 }

@@ -1,6 +1,5 @@
 // The cases of the first demand, each as a call: a line for each with the refusal in two digits, and behind it what the call tells.
 use store::answer;
-use store::answer::Answer;
 use store::answer::Look;
 use store::answer::Report;
 use store::find;

@@ -3,10 +3,10 @@ use mathlib.Core.Path.{_≡_, refl}
 use mathlib.Core.Bool.{true, false}
 use mathlib.Core.List.{List, [], _∷_}
 use Prim.Native.Nat.{ℕ}
-use Rattle.chip.specs.declared.page.Mark.the-variants.{Used, Valid, Obsolete}
+use Rattle.chip.specs.declared.page.Mark.the-variants.{Used, Valid}
 use Rattle.chip.specs.declared.power.Power.the-variants.{Left, Gone}
 use Rattle.chip.specs.Geometry.{Geometry, small, blocksOf}
-use Rattle.chip.specs.Page.{Page, isSet, isLive, isFree, blank, tornPage}
+use Rattle.chip.specs.Page.{Page, isSet, isLive, isFree, tornPage}
 use Rattle.chip.specs.Chip.{program, mark, erase, inBlock, tear, run, pagesOf}
 
 abbrev tiny : Geometry

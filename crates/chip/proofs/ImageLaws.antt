@@ -1,12 +1,12 @@
 -- From a part of the image to the whole: what was done to a page or to a block is a step of the chip. Assumes nothing.
 use mathlib.Core.Path.{_≡_, refl, sym, ap, ap₂, _∙_}
-use mathlib.Core.Bool.{Bool, true, false, cond, _&&_}
+use mathlib.Core.Bool.{cond}
 use mathlib.Core.List.{List, [], _∷_, _++_}
 use Prim.Native.Nat.{ℕ, zero, suc, _+_, _*_, _-_, _/_, _≤_, _<_}
-use native.Mathlib.Nat.{mul-assoc, add-mul, add-sub-cancel-left}
+use native.Mathlib.Nat.{mul-assoc, add-mul}
 use native.Mathlib.Omega.{arith}
 use lib.Dec.{leb, ltb, eqb}
-use lib.ListN.{length, take, drop, getD, replicate, length-replicate}
+use lib.ListN.{length, drop, getD, replicate}
 use borrow.Author.Tests.{le-leb, lt-leb, lt-ltb, le-ltb}
 use Rattle.lists.specs.Lists.{modify, mapFrom, part, patch, cut, repeat, flat}
 use Rattle.lists.proofs.Tests.{cases}
@@ -16,9 +16,9 @@ use Rattle.chip.specs.declared.power.Power.{Power}
 use Rattle.chip.specs.declared.power.Outcome.{Outcome}
 use Rattle.chip.specs.declared.power.Outcome.the-variants.{Whole, Torn, Nothing}
 use Rattle.chip.specs.Geometry.{Geometry, pageSize, blockSize}
-use Rattle.chip.specs.Power.{spend, outcome, choose, effect}
+use Rattle.chip.specs.Power.{outcome, choose, effect}
 use Rattle.chip.specs.Page.{Page, blank, tornPage}
-use Rattle.chip.specs.Chip.{pagesOf, inBlock, filled, Op, erase, whole, tear, wholeBlock, tornBlock, Operated, Stepped, machine, step}
+use Rattle.chip.specs.Chip.{pagesOf, inBlock, filled, Op, erase, whole, tear, wholeBlock, tornBlock, Operated, Stepped, step}
 use Rattle.chip.proofs.PageLaws.{length-blank, length-torn}
 
 -- what an operation leaves, by its outcome: where something holds of all three results, it holds of the one

@@ -1,11 +1,11 @@
 -- What marking, programming and erasing do to a page's marks, to its data area and to whether it is live. Assumes nothing.
-use mathlib.Core.Path.{_≡_, refl, sym, ap, ap₂, _∙_}
+use mathlib.Core.Path.{_≡_, refl, sym, ap, _∙_}
 use mathlib.Core.Bool.{Bool, true, false, _&&_, not}
 use mathlib.Core.List.{List, [], _++_, map}
 use Prim.Native.Nat.{ℕ, zero, suc, _+_, _≤_, _<_}
 use native.Mathlib.Omega.{arith}
 use lib.Dec.{eqb, leb}
-use lib.ListN.{length, take, drop, getD, replicate, length-append, length-drop, length-set, length-take, length-replicate, replicate-append-replicate, List·getD-map, List·getD-eq-default, drop-of-length-le}
+use lib.ListN.{length, take, drop, getD, replicate, length-append, length-take, replicate-append-replicate, List·getD-map, List·getD-eq-default, drop-of-length-le}
 use lib.Seq.{take-at, getD-append-add, getD-drop, getD-set-same, getD-set-other, take-set-le, length-take-le}
 use borrow.Author.Tests.{ne-eqb, leb-true, leb-false}
 use Rattle.lists.specs.Lists.{At, mapFrom}
@@ -178,6 +178,3 @@ pub torn-erase-quiet : (g : Geometry) (torn : List ℕ) (b n : ℕ) (x : Page) (
     → inBlock g b n ≡ true → At n x ps → Quiet g n (tear g torn (erase b) ps)
 torn-erase-quiet g torn b n x ps z h a =
     rw z (record { page = tornPage g torn; stands = fill-quiet g b n (tornPage g torn) x ps (torn-quiet g torn) h a; dead = torn-quiet g torn })
-
-pub torn-erase-same : (g : Geometry) (torn : List ℕ) (b : ℕ) (ps : List Page) → eqb (getD torn 0 0) 0 ≡ true → tear g torn (erase b) ps ≡ ps
-torn-erase-same g torn b ps z = rw z

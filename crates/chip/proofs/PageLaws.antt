@@ -2,9 +2,8 @@
 use mathlib.Core.Path.{_≡_, refl, sym, ap, _∙_}
 use mathlib.Core.Bool.{Bool, true, false, _&&_}
 use mathlib.Core.Logic.{⊎-elim}
-use mathlib.Core.List.{List, [], _∷_, _++_, map}
+use mathlib.Core.List.{List, _++_, map}
 use Prim.Native.Nat.{ℕ, zero, suc, _+_, _-_, _≤_, _<_}
-use native.Mathlib.Nat.{add-sub-cancel-left}
 use native.Mathlib.Numerals.{add-one}
 use native.Mathlib.Omega.{arith}
 use lib.Dec.{eqb}
@@ -25,7 +24,7 @@ use lib.ListN.{
   List·getD-map,
   List·getD-append,
 }
-use lib.Seq.{drop-cons, take-length, length-take-le, getD-take, getD-drop, getD-append-add}
+use lib.Seq.{drop-cons, length-take-le, getD-take, getD-drop, getD-append-add}
 use borrow.Author.Tests.{eq-eqb, ne-eqb, eqb-true}
 use Rattle.lists.specs.Lists.{all}
 use Rattle.lists.proofs.Alls.{all-replicate}

@@ -2,10 +2,8 @@
 use mathlib.Core.Path.{_≡_, refl}
 use Prim.Native.Nat.{ℕ, zero, suc, _-_}
 use native.Mathlib.Numerals.{sub-one}
-use Rattle.chip.specs.declared.power.Power.{Power}
-use Rattle.chip.specs.declared.power.Power.the-variants.{Left, Gone}
-use Rattle.chip.specs.declared.power.Outcome.{Outcome}
-use Rattle.chip.specs.declared.power.Outcome.the-variants.{Whole, Torn, Nothing}
+use Rattle.chip.specs.declared.power.Power.the-variants.{Left}
+use Rattle.chip.specs.declared.power.Outcome.the-variants.{Whole}
 use Rattle.chip.specs.Power.{spend, outcome}
 
 -- with something left an operation is done whole, and one less is left

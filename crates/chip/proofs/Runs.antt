@@ -1,8 +1,8 @@
 -- Runs of operations, over any geometry: power, lengths, and which pages stay as they were. Assumes nothing.
 use mathlib.Core.Path.{_≡_, refl, sym, ap, _∙_}
-use mathlib.Core.Bool.{Bool, true, false, cond}
+use mathlib.Core.Bool.{false}
 use mathlib.Core.List.{List, [], _∷_, _++_, foldl, foldl-append}
-use Prim.Native.Nat.{ℕ, zero, suc, _+_, _-_, _≤_, _<_, min}
+use Prim.Native.Nat.{ℕ, zero, suc, _+_, _-_, _≤_, min}
 use native.Mathlib.Omega.{arith}
 use lib.Dec.{ltb, eqb, leb·suc-suc}
 use lib.ListN.{length, take, getD}
@@ -12,11 +12,10 @@ use Rattle.lists.specs.Lists.{All, none, more, At, modify, mapFrom}
 use Rattle.lists.proofs.Tests.{cases}
 use Rattle.lists.proofs.Alls.{All-head, All-tail, All-modify, All-mapFrom}
 use Rattle.lists.proofs.Places.{length-modify, length-mapFrom, At-other, At-mapFrom}
-use Rattle.chip.specs.declared.page.Mark.{Mark}
 use Rattle.chip.specs.declared.power.Power.{Power}
 use Rattle.chip.specs.declared.power.Power.the-variants.{Left, Gone}
 use Rattle.chip.specs.Geometry.{Geometry, pageSize}
-use Rattle.chip.specs.Power.{spend, outcome, effect, done, isGone}
+use Rattle.chip.specs.Power.{outcome, effect, done, isGone}
 use Rattle.chip.specs.Page.{Page, blank, tornPage, marked, programmed}
 use Rattle.chip.specs.Chip.{Op, program, mark, erase, whole, tear, filled, inBlock, touches, Machine, machine, step, run, Stepped, Ran}
 use Rattle.chip.proofs.PageLaws.{length-blank, length-torn, length-marked, length-programmed}
@@ -61,11 +60,6 @@ module _ (g : Geometry) (torn : List ℕ) where
       → run g torn (with-power n ps) os ≡ record { power = left n os; pages = after n ps os }
   unfolding run
   run-parts n ps os = parts n ps os
-
-  -- without power nothing is done
-  pub run-off : (ps : List Page) (os : List Op) → run g torn (record { power = Gone; pages = ps }) os ≡ record { power = Gone; pages = ps }
-  unfolding run
-  run-off ps os = gone-stays ps os
 
   -- ---- the operations told are the smaller of the allowance and the list's length
   left-most : (n k : ℕ) (os : List Op) → k ≤ n → done n (left k os) ≡ n - k + min k (length os)
@@ -167,10 +161,10 @@ abbrev pub Sized : Geometry → Page → Type 0
 Sized g x = length x ≡ pageSize g
 
 -- what is programmed is as long as a data area
-abbrev pub Fits : Geometry → Op → Type 0
-Fits g (program p bytes) = length bytes ≡ g .area
-Fits g (mark p m) = Unit {0}
-Fits g (erase b) = Unit {0}
+abbrev pub DataSized : Geometry → Op → Type 0
+DataSized g (program p bytes) = length bytes ≡ g .area
+DataSized g (mark p m) = Unit {0}
+DataSized g (erase b) = Unit {0}
 
 module _ (g : Geometry) (torn : List ℕ) (lt : length torn ≡ pageSize g) where
   filled-sized : (b : ℕ) (y : Page) → Sized g y → (i : ℕ) (x : Page) → Sized g x → Sized g (filled g b y i x)
@@ -179,7 +173,7 @@ module _ (g : Geometry) (torn : List ℕ) (lt : length torn ≡ pageSize g) wher
   programmed-sized : (bytes : List ℕ) → length bytes ≡ g .area → (x : Page) → Sized g x → Sized g (programmed g bytes x)
   programmed-sized bytes e x h = length-programmed g bytes x e (omega arith) ∙ h
 
-  pub whole-sized : (o : Op) (ps : List Page) → Fits g o → All (Sized g) ps → All (Sized g) (whole g o ps)
+  pub whole-sized : (o : Op) (ps : List Page) → DataSized g o → All (Sized g) ps → All (Sized g) (whole g o ps)
   whole-sized (program p bytes) ps f h = All-modify p (programmed g bytes) (programmed-sized bytes f) ps h
   whole-sized (mark p m) ps f h = All-modify p (marked g m 0) (λ x e. length-marked g m 0 x ∙ e) ps h
   whole-sized (erase b) ps f h = All-mapFrom 0 (filled g b (blank g)) (filled-sized b (blank g) (length-blank g)) ps h
@@ -192,10 +186,10 @@ module _ (g : Geometry) (torn : List ℕ) (lt : length torn ≡ pageSize g) wher
       cases (eqb (getD torn 0 0) 0) (λ t. rw t h)
       (λ t. rw t (All-mapFrom 0 (filled g b (tornPage g torn)) (filled-sized b (tornPage g torn) (length-torn g torn lt)) ps h))
 
-  pub run-sized : (m : Machine) (os : List Op) → All (Fits g) os → All (Sized g) (m .pages) → All (Sized g) (run g torn m os .pages)
+  pub run-sized : (m : Machine) (os : List Op) → All (DataSized g) os → All (Sized g) (m .pages) → All (Sized g) (run g torn m os .pages)
   run-sized m os f h = run-keeps g torn (All (Sized g)) os (keeps f) m h
     where
-      keeps : {os : List Op} → All (Fits g) os
+      keeps : {os : List Op} → All (DataSized g) os
           → All (λ (o : Op). (ps : List Page) → All (Sized g) ps → All (Sized g) (whole g o ps) × All (Sized g) (tear g torn o ps)) os
       keeps none = none
       keeps (more {x = o} t ts) = more (λ ps b. (whole-sized o ps t b, tear-sized o ps b)) (keeps ts)

@@ -2,7 +2,7 @@
 use mathlib.Core.Path.{_≡_, refl, sym, ap, ap₂, _∙_}
 use mathlib.Core.Bool.{Bool, true, false, cond}
 use mathlib.Core.List.{List, [], _∷_, _++_}
-use Prim.Native.Nat.{ℕ, zero, suc, _+_, _*_, _/_, _%_, _^_, _<_, _≤_}
+use Prim.Native.Nat.{ℕ, zero, suc, _+_, _*_, _%_, _^_, _<_}
 use native.Mathlib.Nat.{pow-suc, mul-assoc, zero-add, zero-mul}
 use native.Mathlib.Numerals.{add-one}
 use native.Mathlib.Omega.{arith}
@@ -13,7 +13,7 @@ use lib.ListN.{length, take, getD}
 use lib.Pow.{shl-exact}
 use lib.Seq.{take-suc, length-take-le}
 use Rattle.lists.specs.Lists.{bit, count, first}
-use Rattle.chip.specs.Sets.{setOf}
+use Rattle.chip.specs.SetCode.{setOf}
 
 bit-lt : (b : Bool) → bit b < 2
 bit-lt true = omega arith

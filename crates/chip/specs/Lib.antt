@@ -2,4 +2,4 @@ pub mod Geometry
 pub mod Power
 pub mod Page
 pub mod Chip
-pub mod Sets
+pub mod SetCode

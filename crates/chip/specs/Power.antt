@@ -1,6 +1,7 @@
 -- Power: the allowance of format, commit and mount as it is spent, operation by operation.
-use mathlib.Core.Bool.{Bool, true, false}
+use mathlib.Core.Bool.{Bool, true, false, _&&_, _||_}
 use Prim.Native.Nat.{ℕ, zero, suc, _-_}
+use lib.Dec.{leb, eqb}
 use Rattle.chip.specs.declared.power.Power.{Power}
 use Rattle.chip.specs.declared.power.Power.the-variants.{Left, Gone}
 use Rattle.chip.specs.declared.power.Outcome.{Outcome}
@@ -37,3 +38,7 @@ done n Gone = n
 abbrev pub isGone : Power → Bool
 isGone (Left k) = false
 isGone Gone = true
+
+-- a list of `need` operations of which the last is a mark takes effect where all are done, or all but the mark, and that is torn to 0; torn is byte 0 of the torn bytes
+abbrev pub takesEffect : (torn allowance need : ℕ) → Bool
+takesEffect t n need = leb need n || (eqb (suc n) need && eqb t 0)

@@ -6,7 +6,7 @@ ghost use Rattle.lists.specs.Lists.{count, first, repeat};
 ghost use Rattle.chip.specs.Geometry.{small};
 ghost use Rattle.chip.specs.Page.{blank, isFree, tornPage};
 ghost use Rattle.chip.specs.Chip.{Operated, pagesOf, tornBlock, wholeBlock};
-ghost use Rattle.chip.specs.Sets.{setOf};
+ghost use Rattle.chip.specs.SetCode.{setOf};
 use crate::geometry::DATA;
 use crate::geometry::PAGE;
 use crate::geometry::PAGES;

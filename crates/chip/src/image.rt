@@ -21,17 +21,6 @@ pub fn set_mark(image: &mut [u8], at: usize, mark: Mark, torn: &[u8], power: Pow
     page::set_mark(&mut image[a..e], mark, torn, power)
 }
 
-// The data area of page `at` programmed.
-pub fn program(image: &mut [u8], at: usize, bytes: &[u8], torn: &[u8], power: Power) -> Power
-    requires { ⌜ (at * 528 + 528 ≤ length (now image)) × (length (now image) % 528 ≡ 0)
-        × (length (now bytes) ≡ 512) × (length (now torn) ≡ 528) ⌝ }
-    ensures { λ r. ⌜ Stepped small (now (torn .entry)) (Op.program at (now (bytes .entry))) power r (now (image .entry)) (now (image .exit)) ⌝ }
-{
-    let a = at * PAGE;
-    let e = a + PAGE;
-    page::program(&mut image[a..e], bytes, torn, power)
-}
-
 // Block `at` erased.
 pub fn erase(image: &mut [u8], at: usize, torn: &[u8], power: Power) -> Power
     requires { ⌜ (at * 16896 + 16896 ≤ length (now image)) × (length (now image) % 528 ≡ 0) × (length (now torn) ≡ 528) ⌝ }

@@ -5,11 +5,11 @@ use mathlib.Core.List.{List, [], _∷_, _++_, foldl}
 use Prim.Native.Nat.{ℕ, zero, suc, _<_, _≤_}
 use native.Mathlib.Omega.{arith}
 use lib.Dec.{leb, ltb}
-use lib.ListN.{length, take, getD, List·getD-eq-default}
+use lib.ListN.{length, getD, List·getD-eq-default}
 use borrow.Author.Tests.{ltb-true, ltb-false}
 use Rattle.lists.specs.Lists.{All, none, more, At}
 use Rattle.lists.proofs.Tests.{cases}
-use Rattle.lists.proofs.Alls.{All-map, All-zip, All-append, All-left, All-right, All-take}
+use Rattle.lists.proofs.Alls.{All-map, All-left}
 use Rattle.lists.proofs.Places.{At-getD, At-is}
 use Rattle.chip.specs.Geometry.{Geometry}
 use Rattle.chip.specs.Page.{Page}
@@ -18,10 +18,11 @@ use Rattle.chip.proofs.Runs.{run-other, run-length}
 use Rattle.pages.specs.declared.unit.Update.{Update}
 use Rattle.views.specs.Nodes.{View}
 use Rattle.views.specs.Stored.{bufferView, nodeView, pageView, storedList}
-use Rattle.log.specs.Commit.{Pack, unitsOf}
-use Rattle.log.specs.Plan.{keep, rewrite, smaller}
-use Rattle.plan.specs.Group.{between, groupIn, ownIn, pagesBy}
-use Rattle.commits.specs.Write.{Clear}
+use Rattle.log.specs.Commit.{Pack}
+use Rattle.log.specs.Policy.{keep, rewrite, smaller}
+use Rattle.plan.specs.GroupCode.{groupIn, ownIn}
+use Rattle.plan.specs.PackCode.{between}
+use Rattle.commits.specs.WriteCode.{Clear}
 
 -- ---- a page by its index
 -- the same page, or none, in both images
@@ -51,19 +52,19 @@ module _ (g : Geometry) (limit n : ℕ) (ps qs : List Page) where
       → nodeView g limit ps lens slots count bytes n ≡ nodeView g limit qs lens slots count bytes n
   view-same lens slots count bytes h = ap (bufferView limit n count bytes) (fold-same View.untouched h)
 
-  pub group-same : (anew : Bool) (lens slots : List ℕ) (count : ℕ) (bytes : List ℕ) → All (Alike ps qs) (storedList lens slots n)
-      → groupIn anew g limit ps lens slots count bytes n ≡ groupIn anew g limit qs lens slots count bytes n
+  pub group-same : (snapshot : Bool) (lens slots : List ℕ) (count : ℕ) (bytes : List ℕ) → All (Alike ps qs) (storedList lens slots n)
+      → groupIn snapshot g limit ps lens slots count bytes n ≡ groupIn snapshot g limit qs lens slots count bytes n
   unfolding groupIn
-  group-same anew lens slots count bytes h =
-      ap (λ (v : View). cond anew (rewrite v) (smaller (length (storedList lens slots n)) (ownIn limit n count bytes) (rewrite v)))
+  group-same snapshot lens slots count bytes h =
+      ap (λ (v : View). cond snapshot (rewrite v) (smaller (length (storedList lens slots n)) (ownIn limit n count bytes) (rewrite v)))
       (view-same lens slots count bytes h)
 
 -- ---- operations that leave the pages of the stored lists
 module _ (g : Geometry) (limit : ℕ) (lens slots : List ℕ) where
-  pub clear-group : (os : List Op) → Clear g limit lens slots os → (anew : Bool) (torn : List ℕ) (m : Machine) (count : ℕ) (bytes : List ℕ) (n : ℕ) → n < limit
-      → groupIn anew g limit (run g torn m os .pages) lens slots count bytes n ≡ groupIn anew g limit (m .pages) lens slots count bytes n
-  clear-group os c anew torn m count bytes n l =
-      group-same g limit n (run g torn m os .pages) (m .pages) anew lens slots count bytes (All-map (λ p h. run-alike g torn m os p h) (c .is n l))
+  pub clear-group : (os : List Op) → Clear g limit lens slots os → (snapshot : Bool) (torn : List ℕ) (m : Machine) (count : ℕ) (bytes : List ℕ) (n : ℕ) → n < limit
+      → groupIn snapshot g limit (run g torn m os .pages) lens slots count bytes n ≡ groupIn snapshot g limit (m .pages) lens slots count bytes n
+  clear-group os c snapshot torn m count bytes n l =
+      group-same g limit n (run g torn m os .pages) (m .pages) snapshot lens slots count bytes (All-map (λ p h. run-alike g torn m os p h) (c .is n l))
 
   pub clear-none : Clear g limit lens slots []
   clear-none = record { is = λ n l. all-of (storedList lens slots n) }
@@ -72,31 +73,11 @@ module _ (g : Geometry) (limit : ℕ) (lens slots : List ℕ) where
       all-of [] = none
       all-of (x ∷ xs) = more none (all-of xs)
 
-  pub clear-append : (os qs : List Op) → Clear g limit lens slots os → Clear g limit lens slots qs → Clear g limit lens slots (os ++ qs)
-  clear-append os qs a b = record { is = λ n l. All-zip (λ p h k. All-append h k) (a .is n l) (b .is n l) }
-
   pub clear-front : (os qs : List Op) → Clear g limit lens slots (os ++ qs) → Clear g limit lens slots os
   clear-front os qs a = record { is = λ n l. All-map (λ p h. All-left os qs h) (a .is n l) }
-
-  pub clear-back : (os qs : List Op) → Clear g limit lens slots (os ++ qs) → Clear g limit lens slots qs
-  clear-back os qs a = record { is = λ n l. All-map (λ p h. All-right os qs h) (a .is n l) }
-
-  pub clear-take : (k : ℕ) (os : List Op) → Clear g limit lens slots os → Clear g limit lens slots (take k os)
-  clear-take k os a = record { is = λ n l. All-map (λ p h. All-take k h) (a .is n l) }
 
 -- ---- pages of groups that agree below limit
 pub between-same : (f h : ℕ → List Update) (limit a b : ℕ) → ((n : ℕ) → n < limit → f n ≡ h n) → b ≤ limit → between f a b ≡ between h a b
 between-same f h limit a zero e l = refl
 between-same f h limit a (suc n) e l =
     ap₂ (λ (us : List Update) (ks : List Pack). cond (leb a n) (keep n us ks) []) (e n (omega arith)) (between-same f h limit a n e (omega arith))
-
-pub units-same : (f h : ℕ → List Update) (limit a b : ℕ) → ((n : ℕ) → n < limit → f n ≡ h n) → b ≤ limit
-    → unitsOf (between f a b) ≡ unitsOf (between h a b)
-units-same f h limit a b e l = ap unitsOf (between-same f h limit a b e l)
-
-pub pagesBy-same : (f h : ℕ → List Update) (limit : ℕ) (bounds : List ℕ) (r : ℕ) → ((n : ℕ) → n < limit → f n ≡ h n)
-    → ((k : ℕ) → k < r → getD bounds (suc k) 0 ≤ limit) → pagesBy f bounds r ≡ pagesBy h bounds r
-pagesBy-same f h limit bounds zero e l = refl
-pagesBy-same f h limit bounds (suc k) e l =
-    ap₂ (λ (p : List Pack) (ps : List (List Pack)). p ∷ ps) (between-same f h limit (getD bounds k 0) (getD bounds (suc k) 0) e (l k (omega arith)))
-    (pagesBy-same f h limit bounds k e (λ j i. l j (omega arith)))

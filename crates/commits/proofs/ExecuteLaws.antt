@@ -17,42 +17,40 @@ use Rattle.chip.specs.declared.power.Power.{Power}
 use Rattle.chip.specs.Geometry.{Geometry, small}
 use Rattle.chip.specs.Page.{Page}
 use Rattle.chip.specs.Chip.{Ran, erase, pagesOf}
-use Rattle.chip.proofs.Runs.{ran-none}
 use Rattle.pages.specs.declared.unit.Unit as U
 use Rattle.pages.specs.declared.unit.Update.{Update}
 use Rattle.pages.specs.Steps.{liveFrom}
 use Rattle.views.specs.Table.{Node}
 use Rattle.views.specs.Stored.{Stores}
-use Rattle.log.specs.Commit.{Sheet}
-use Rattle.log.specs.Plan.{Plan, groups, headBlock, newsOf, nodeAt, pack, places as placesOf, planOf, spareBlocks, stuck}
-use Rattle.log.proofs.CommitBuilt.{Holds}
-use Rattle.log.proofs.PlanChoice.{Chip}
-use Rattle.log.proofs.PlanKept.{chip-small, wide-small}
+use Rattle.log.specs.Commit.{Sheet, ValidSheet}
+use Rattle.log.specs.Policy.{Plan, groups, headBlock, newsOf, nodeAt, pack, places as placesOf, planOf, spareBlocks, stuck, isEmpty}
+use Rattle.log.proofs.PlanChoice.{Chip, Committable}
+use Rattle.log.proofs.PlanKept.{chip-small, wide-small, ready}
 use Rattle.log.proofs.PlanLaws.{Safe, foreign}
-use Rattle.plan.specs.declared.ground.Ground.{Ground}
-use Rattle.plan.specs.Ground.{Lays, Surveys, firstErases, firstPlaces, freePages, unusedIn}
-use Rattle.plan.specs.Group.{groupIn}
+use Rattle.plan.specs.declared.survey.Surveyed.{Surveyed}
+use Rattle.plan.specs.SurveyCode.{Surveys, freePages, unusedIn}
 use Rattle.plan.specs.PackCode.{Packs}
-use Rattle.plan.proofs.GroundLaws.{survey-take}
+use Rattle.plan.proofs.SurveyLaws.{survey-take}
 use Rattle.plan.proofs.PlaceLaws.{first-erases-is, first-places-is, places-size}
+use Rattle.plan.specs.GroupCode.{groupIn}
+use Rattle.plan.specs.PlacesCode.{Lays, firstErases, firstPlaces}
 use Rattle.commits.specs.declared.execute.Choice.{Choice}
-use Rattle.commits.specs.declared.execute.Ended.{Ended}
-use Rattle.commits.specs.Execute.{Executed, Executes, Plannable, isEmpty}
-use Rattle.commits.specs.Write.{Arrays, Held, Prepared}
-use Rattle.commits.specs.Turn.{Advances, Carries, Chooses, Done, Named, Reaches}
-use Rattle.commits.proofs.NoteLaws.{stores-after, turned-none}
+use Rattle.commits.specs.Execute.{Executed, Executes, Plannable}
+use Rattle.commits.specs.WriteCode.{Prepared, Advances, Named, Reaches}
+use Rattle.commits.specs.ExecuteCode.{Carries, Chooses, PlanDone, Arrays}
+use Rattle.commits.proofs.NoteLaws.{stores-after}
 use Rattle.commits.proofs.PlanClear.{plan-clear}
 use Rattle.commits.proofs.PlanCode.{plan-stuck}
-use Rattle.commits.proofs.TurnLaws.{going-done, going-start, prepared-delta, prepared-snapshot}
+use Rattle.commits.proofs.GoingLaws.{going-done, going-start, prepared-delta, prepared-snapshot}
 use Rattle.commits.proofs.WriteLaws.{pagesBy-length}
 
 -- ---- what is chosen
 module _ (limit : ℕ) (ps : List Page) (lens slots : List ℕ) (count : ℕ) (bytes : List ℕ) (un spare free wide : ℕ) (w : wide ≡ un - spare) where
   abbrev f : Bool → ℕ → List Update
-  f anew = groupIn anew small limit ps lens slots count bytes
+  f snapshot = groupIn snapshot small limit ps lens slots count bytes
 
   pub chooses-delta : (bounds : List ℕ) (d : ℕ) → Packs (f false) limit bounds d → d + 1 ≤ free + 32 * wide
-      → Chooses limit ps lens slots count bytes un spare free bounds (record { found = true; anew = false; pages = d; width = wide })
+      → Chooses limit ps lens slots count bytes un spare free bounds (record { found = true; snapshot = false; pages = d; width = wide })
   chooses-delta bounds d k l =
       record {
         packs = k;
@@ -68,7 +66,7 @@ module _ (limit : ℕ) (ps : List Page) (lens slots : List ℕ) (count : ℕ) (b
 
   pub chooses-snapshot : (b bounds : List ℕ) (d s : ℕ) → Packs (f false) limit b d → free + 32 * wide < d + 1 → Packs (f true) limit bounds s
       → Chooses limit ps lens slots count bytes un spare free bounds
-      (record { found = leb (s + 1) (free + 32 * (un - wide)); anew = true; pages = s; width = un - wide })
+      (record { found = leb (s + 1) (free + 32 * (un - wide)); snapshot = true; pages = s; width = un - wide })
   chooses-snapshot b bounds d s j h k =
       record {
         packs = k;
@@ -98,14 +96,6 @@ reaches B head w limit long other ps ring places bounds r f e o h b l k =
     }
 
 -- what the execution of a choice asks
-pub not-true : (b : Bool) → not b ≡ true → b ≡ false
-not-true true e = sym e
-not-true false e = refl
-
-pub not-false : (b : Bool) → not b ≡ false → b ≡ true
-not-false true e = refl
-not-false false e = sym e
-
 pub width-most : {w n B : ℕ} → w ≤ n → n < B → B ≤ 32 → w ≤ 32
 width-most h l m = omega arith
 
@@ -117,52 +107,54 @@ empty-length : (ts : List Sheet) → isEmpty ts ≡ eqb (length ts) 0
 empty-length [] = refl
 empty-length (t ∷ ts) = sym (ne-eqb (suc (length ts)) 0 (λ e. omega arith))
 
-module _ (anew : Bool) (g : Geometry) (limit : ℕ) (lens slots : List ℕ) (count : ℕ) (bytes : List ℕ) (head : ℕ) (bs bounds : List ℕ) (r G : ℕ) (torn : List ℕ)
+module _ (snapshot : Bool) (g : Geometry) (limit : ℕ) (lens slots : List ℕ) (count : ℕ) (bytes : List ℕ) (head : ℕ) (bs bounds : List ℕ) (r G : ℕ) (torn : List ℕ)
     (p p' p'' : Power) (xs ys zs l s u v places : List ℕ) where
   abbrev first : List ℕ
   first = firstErases g (pagesOf g xs) head bs (suc r)
 
   carried : take (suc r) places ≡ firstPlaces g (pagesOf g xs) head bs (suc r) → Ran g torn (map erase first) p p' xs ys
-      → Advances anew g limit lens slots count bytes bounds places r (suc G) torn 0 r p' p'' ys zs l s u v
-      → Carries anew g limit lens slots count bytes head bs bounds r G torn p xs zs l s u v p''
+      → Advances snapshot g limit lens slots count bytes bounds places r (suc G) torn 0 r p' p'' ys zs l s u v
+      → Carries snapshot g limit lens slots count bytes head bs bounds r G torn p xs zs l s u v p''
   carried laid er a =
       record {
         size = a .size ∙ er .size;
         is = λ q name. done q (name places first (length first) laid (take-all (length first) first (omega arith)));
       }
     where
-      done : (q : Plan) → Named anew g limit (pagesOf g xs) lens slots count bytes bounds places r first (length first) G q
-          → Done g limit G q torn p xs zs l s u v p''
+      done : (q : Plan) → Named snapshot g limit (pagesOf g xs) lens slots count bytes bounds places r first (length first) G q
+          → PlanDone g limit G q torn p xs zs l s u v p''
       done q n =
           let e : take (length first) first ≡ first = take-all (length first) first (omega arith) in
           let w : Ran g torn (map erase (take (length first) first)) p p' xs ys = subst (λ (cs : List ℕ). Ran g torn (map erase cs) p p' xs ys) (sym e) er in
-          let k = going-start anew g limit (pagesOf g xs) lens slots count bytes bounds places r first (length first) q (n .prepared) G torn p p' xs ys l s w in
+          let k = going-start snapshot g limit (pagesOf g xs) lens slots count bytes bounds places r first (length first) q (n .prepared) G torn p p' xs ys l s w in
           let m = a .is G q first (length first) p xs l s refl n k in
-          let d = going-done anew g limit (pagesOf g xs) lens slots count bytes bounds places r first (length first) q (n .prepared) G torn r p p'' xs zs l s u v (omega arith) m in
+          let d = going-done snapshot g limit (pagesOf g xs) lens slots count bytes bounds places r first (length first) q (n .prepared) G torn r p p'' xs zs l s u v (omega arith) m in
           record { ran = d .0; turned = d .1 }
 
   pub carries : take (r + 1) places ≡ firstPlaces g (pagesOf g xs) head bs (r + 1) → Ran g torn (map erase (firstErases g (pagesOf g xs) head bs (r + 1))) p p' xs ys
-      → Advances anew g limit lens slots count bytes bounds places r (G + 1) torn 0 r p' p'' ys zs l s u v
-      → Carries anew g limit lens slots count bytes head bs bounds r G torn p xs zs l s u v p''
+      → Advances snapshot g limit lens slots count bytes bounds places r (G + 1) torn 0 r p' p'' ys zs l s u v
+      → Carries snapshot g limit lens slots count bytes head bs bounds r G torn p xs zs l s u v p''
   carries laid er a =
       carried
       (subst (λ (n : ℕ). take n places ≡ firstPlaces g (pagesOf g xs) head bs n) (add-one r) laid)
       (subst (λ (n : ℕ). Ran g torn (map erase (firstErases g (pagesOf g xs) head bs n)) p p' xs ys) (add-one r) er)
-      (subst (λ (c : ℕ). Advances anew g limit lens slots count bytes bounds places r c torn 0 r p' p'' ys zs l s u v) (add-one G) a)
+      (subst (λ (c : ℕ). Advances snapshot g limit lens slots count bytes bounds places r c torn 0 r p' p'' ys zs l s u v) (add-one G) a)
 
 -- ---- arrays that hold a table: the plan of the policy is named
 module _ {limit B : ℕ} {lens slots : List ℕ} {count : ℕ} {bytes : List ℕ} {ps : List Page} {tb : List Node} {G : ℕ} {us : List U.Unit}
     (pl : Plannable limit B lens slots count bytes ps tb G us) where
-  pub plan-held : Held small limit ps lens slots count bytes tb G us
-  plan-held = record { is = pl .ready .kept .is; clean = pl .ready .kept .clean; lists = pl .lists; units = pl .units; few = pl .few }
+  plan-ready : Committable small limit B ps tb G us
+  plan-ready =
+      ready small limit B ps tb G us (record { is = pl .held .is; clean = pl .held .clean }) (pl .number) (pl .bytes) (pl .sizes) (pl .long)
+      (record { pending = pl .some; valid = pl .valid; whole = pl .whole })
 
   -- each page of the plan has units that fit it and obey the layout
-  pub plan-holds : (torn : List ℕ) → length torn ≡ 528 → 3 ≤ B → All (Holds small limit) (planOf small limit B ps tb G us .written)
+  pub plan-holds : (torn : List ℕ) → length torn ≡ 528 → 3 ≤ B → All (ValidSheet small limit) (planOf small limit B ps tb G us .written)
   plan-holds torn size many =
       ⊎-elim
-      (λ (e : planOf small limit B ps tb G us ≡ stuck). subst (λ (q : Plan). All (Holds small limit) (q .written)) (sym e) none)
+      (λ (e : planOf small limit B ps tb G us ≡ stuck). subst (λ (q : Plan). All (ValidSheet small limit) (q .written)) (sym e) none)
       (λ (sf : Safe small limit B (spareBlocks small B) torn ps tb G us (planOf small limit B ps tb G us)). sf .pages-hold)
-      (foreign small limit B torn (subst (λ (n : ℕ). Chip small n B torn) (sym (pl .limits)) (chip-small B torn size)) ps tb G us (pl .ready) (pl .some) (wide-small B many))
+      (foreign small limit B torn (subst (λ (n : ℕ). Chip small n B torn) (sym (pl .limits)) (chip-small B torn size)) ps tb G us plan-ready (pl .some) (wide-small B many))
 
 -- ---- what is chosen on arrays that hold a table
 -- the places of a delta and of a snapshot
@@ -180,7 +172,7 @@ take-least n xs =
     (below-or-not (length xs) n)
 
 -- the survey: the unused blocks, and those that the first w numbers of the ring are
-module _ {limit B : ℕ} {lens slots : List ℕ} {ps : List Page} {G : ℕ} {ring : List ℕ} {gr : Ground} (sv : Surveys B limit lens slots G ps ring gr) where
+module _ {limit B : ℕ} {lens slots : List ℕ} {ps : List Page} {G : ℕ} {ring : List ℕ} {gr : Surveyed} (sv : Surveys B limit lens slots G ps ring gr) where
   abbrev un : List ℕ
   un = unusedIn small B limit lens slots G (liveFrom small 0 ps) (headBlock small ps)
 
@@ -212,10 +204,10 @@ module _ {limit B : ℕ} {lens slots : List ℕ} {ps : List Page} {G : ℕ} {rin
       ∙ places-on small ps (headBlock small ps) (gr .free) free-size un (length un - (length un - spare)) (omega arith) ∙ omega (arith, unused-size)
 
   -- the arrays name r pages on the head and on the blocks bs
-  module _ (anew : Bool) (count : ℕ) (bytes bounds places : List ℕ) (r : ℕ) (erased : List ℕ) (e w : ℕ) (bs : List ℕ) (same : take w ring ≡ bs) where
-    arrays : Packs (groupIn anew small limit ps lens slots count bytes) limit bounds r → suc r ≤ length (placesOf small ps (headBlock small ps) bs)
+  module _ (snapshot : Bool) (count : ℕ) (bytes bounds places : List ℕ) (r : ℕ) (erased : List ℕ) (e w : ℕ) (bs : List ℕ) (same : take w ring ≡ bs) where
+    arrays : Packs (groupIn snapshot small limit ps lens slots count bytes) limit bounds r → suc r ≤ length (placesOf small ps (headBlock small ps) bs)
         → take (suc r) places ≡ firstPlaces small ps (gr .head) (take w ring) (suc r) → take e erased ≡ firstErases small ps (gr .head) (take w ring) (suc r)
-        → Arrays anew small limit ps lens slots count bytes (headBlock small ps) bs bounds places r erased e
+        → Arrays snapshot small limit ps lens slots count bytes (headBlock small ps) bs bounds places r erased e
     arrays k enough a b =
         record {
           packs = k .is;
@@ -238,7 +230,7 @@ room-lacks : (a f w v r n : ℕ) → a ≡ f + 32 * v → w ≡ v → n ≡ r �
 room-lacks a f w v r n e i j h = omega arith
 
 -- ---- the plan of the policy
-module _ {limit B : ℕ} {lens slots : List ℕ} {count : ℕ} {bytes : List ℕ} {ps : List Page} {tb : List Node} {G : ℕ} {us : List U.Unit} {ring : List ℕ} {gr : Ground}
+module _ {limit B : ℕ} {lens slots : List ℕ} {count : ℕ} {bytes : List ℕ} {ps : List Page} {tb : List Node} {G : ℕ} {us : List U.Unit} {ring : List ℕ} {gr : Surveyed}
     (pl : Plannable limit B lens slots count bytes ps tb G us) (sv : Surveys B limit lens slots G ps ring gr) (torn : List ℕ) (size : length torn ≡ 528) (many : 3 ≤ B)
     (bounds : List ℕ) (k : Choice) (ch : Chooses limit ps lens slots count bytes (gr .unused) (spareBlocks small B) (gr .free) bounds k) where
   abbrev Q : Plan
@@ -247,10 +239,10 @@ module _ {limit B : ℕ} {lens slots : List ℕ} {count : ℕ} {bytes : List ℕ
   abbrev uns : List ℕ
   uns = unusedIn small B limit lens slots G (liveFrom small 0 ps) (headBlock small ps)
 
-  packs-as : (anew : Bool) → k .anew ≡ anew → Packs (groupIn anew small limit ps lens slots count bytes) limit bounds (k .pages)
-  packs-as anew t = subst (λ (b : Bool). Packs (groupIn b small limit ps lens slots count bytes) limit bounds (k .pages)) t (ch .packs)
+  packs-as : (snapshot : Bool) → k .snapshot ≡ snapshot → Packs (groupIn snapshot small limit ps lens slots count bytes) limit bounds (k .pages)
+  packs-as snapshot t = subst (λ (b : Bool). Packs (groupIn b small limit ps lens slots count bytes) limit bounds (k .pages)) t (ch .packs)
 
-  lacks-delta : k .anew ≡ true
+  lacks-delta : k .snapshot ≡ true
       → length (placesOf small ps (headBlock small ps) (take (length uns - spareBlocks small B) uns)) < suc (length (pack 42 (groups (groupIn false small limit ps lens slots count bytes) limit)))
   lacks-delta t = subst (λ (n : ℕ). n < suc (length (pack 42 (groups (groupIn false small limit ps lens slots count bytes) limit)))) (sym (places-delta sv (spareBlocks small B))) (ch .snapshot t .1)
 
@@ -259,7 +251,7 @@ module _ {limit B : ℕ} {lens slots : List ℕ} {count : ℕ} {bytes : List ℕ
   none-stuck f =
       let t = ch .lacks f .0 in
       let p = packs-as true t in
-      plan-stuck small limit B ps lens slots count bytes tb G us (plan-held pl) (lacks-delta t)
+      plan-stuck small limit B ps lens slots count bytes tb G us (pl .held) (lacks-delta t)
       (room-lacks _ (gr .free) (k .width) _ (k .pages) _ (places-snapshot sv (spareBlocks small B)) (ch .snapshot t .0)
       (ap length (p .is) ∙ pagesBy-length (groupIn true small limit ps lens slots count bytes) bounds (k .pages)) (ch .lacks f .1))
 
@@ -267,45 +259,45 @@ module _ {limit B : ℕ} {lens slots : List ℕ} {count : ℕ} {bytes : List ℕ
   module _ (found : k .found ≡ true) (places erased : List ℕ) (e : ℕ)
       (laid : take (suc (k .pages)) places ≡ firstPlaces small ps (gr .head) (take (k .width) ring) (suc (k .pages)))
       (list : take e erased ≡ firstErases small ps (gr .head) (take (k .width) ring) (suc (k .pages))) where
-    name-delta : k .anew ≡ false → Prepared false small limit ps lens slots count bytes bounds places (k .pages) erased e Q
+    name-delta : k .snapshot ≡ false → Prepared false small limit ps lens slots count bytes bounds places (k .pages) erased e Q
     name-delta t =
-        prepared-delta small limit B ps lens slots count bytes tb G us (plan-held pl) bounds places (k .pages) erased e
+        prepared-delta small limit B ps lens slots count bytes tb G us (pl .held) bounds places (k .pages) erased e
         (arrays sv false count bytes bounds places (k .pages) erased e (k .width) (take (length uns - spareBlocks small B) uns)
         (ring-delta sv (k .width) (spareBlocks small B) (ch .delta t)) (packs-as false t)
         (room-fits _ (gr .free) (k .width) _ (k .pages) (places-delta sv (spareBlocks small B)) (ch .delta t) (ch .fits found)) laid list)
 
-    name-snapshot : k .anew ≡ true → Prepared true small limit ps lens slots count bytes bounds places (k .pages) erased e Q
+    name-snapshot : k .snapshot ≡ true → Prepared true small limit ps lens slots count bytes bounds places (k .pages) erased e Q
     name-snapshot t =
-        prepared-snapshot small limit B ps lens slots count bytes tb G us (plan-held pl) bounds places (k .pages) erased e (lacks-delta t)
+        prepared-snapshot small limit B ps lens slots count bytes tb G us (pl .held) bounds places (k .pages) erased e (lacks-delta t)
         (arrays sv true count bytes bounds places (k .pages) erased e (k .width) (take (spareBlocks small B) uns)
         (ring-snapshot sv (k .width) (spareBlocks small B) (ch .snapshot t .0)) (packs-as true t)
         (room-fits _ (gr .free) (k .width) _ (k .pages) (places-snapshot sv (spareBlocks small B)) (ch .snapshot t .0) (ch .fits found)) laid list)
 
-    pub named : Named (k .anew) small limit ps lens slots count bytes bounds places (k .pages) erased e G Q
+    pub named : Named (k .snapshot) small limit ps lens slots count bytes bounds places (k .pages) erased e G Q
     named =
         record {
-          prepared = cases (k .anew)
+          prepared = cases (k .snapshot)
               (λ t. subst (λ (b : Bool). Prepared b small limit ps lens slots count bytes bounds places (k .pages) erased e Q) (sym t) (name-snapshot t))
               (λ t. subst (λ (b : Bool). Prepared b small limit ps lens slots count bytes bounds places (k .pages) erased e Q) (sym t) (name-delta t));
-          clear = plan-clear B (plan-held pl);
+          clear = plan-clear B (pl .held);
           holds = plan-holds pl torn size many;
-          number = pl .ready .number;
+          number = pl .number;
         }
 
 -- ---- the execution
 -- the lists of the table, with the pages of a plan that is done noted
 done-executed : {limit B : ℕ} {lens slots : List ℕ} {count : ℕ} {bytes : List ℕ} {ps : List Page} {tb : List Node} {G : ℕ} {us : List U.Unit}
     → Plannable limit B lens slots count bytes ps tb G us → limit ≤ 256 → (q : Plan) (torn : List ℕ) (p : Power) (xs ys l s u v : List ℕ) (r : Power)
-    → l ≡ lens → s ≡ slots → Done small limit G q torn p xs ys l s u v r → Executed limit G tb q torn p xs ys u v r
+    → l ≡ lens → s ≡ slots → PlanDone small limit G q torn p xs ys l s u v r → Executed limit G tb q torn p xs ys u v r
 done-executed {limit} {B} {lens} {slots} {count} {bytes} {ps} {tb} {G} {us} pl b q torn p xs ys l s u v r el es d =
     record {
       ran = d .ran;
       lists = stores-after limit (nodeAt tb) (newsOf small G q) l s u v b
-          (λ m i. subst (λ (a : List ℕ). Stores a s m (nodeAt tb m .pages)) (sym el) (subst (λ (a : List ℕ). Stores lens a m (nodeAt tb m .pages)) (sym es) (pl .lists m i)))
+          (λ m i. subst (λ (a : List ℕ). Stores a s m (nodeAt tb m .pages)) (sym el) (subst (λ (a : List ℕ). Stores lens a m (nodeAt tb m .pages)) (sym es) (pl .held .lists m i)))
           (d .turned);
     }
 
-module _ {limit B : ℕ} {lens slots : List ℕ} {count : ℕ} {bytes : List ℕ} {G : ℕ} (torn : List ℕ) (p : Power) (xs l s : List ℕ) {ring : List ℕ} {gr : Ground}
+module _ {limit B : ℕ} {lens slots : List ℕ} {count : ℕ} {bytes : List ℕ} {G : ℕ} (torn : List ℕ) (p : Power) (xs l s : List ℕ) {ring : List ℕ} {gr : Surveyed}
     (bounds : List ℕ) (spare : ℕ) (k : Choice) (size : length torn ≡ 528) (many : 3 ≤ B) (most : B ≤ 32) (limits : limit ≡ 8 * B) (sp : spare ≡ B / 8 + 1)
     (sv : Surveys B limit lens slots G (pagesOf small xs) ring gr)
     (ch : Chooses limit (pagesOf small xs) lens slots count bytes (gr .unused) spare (gr .free) bounds k) where
@@ -338,7 +330,7 @@ module _ {limit B : ℕ} {lens slots : List ℕ} {count : ℕ} {bytes : List ℕ
   executes-empty f z = quiet (λ tb us pl. pages-found f tb us pl ∙ eq-eqb (k .pages) 0 z)
 
   pub executes-plan : k .found ≡ true → (k .pages ≡ 0 → ⊥) → (ys u v : List ℕ) (left : Power)
-      → Carries (k .anew) small limit lens slots count bytes (gr .head) (take (k .width) ring) bounds (k .pages) G torn p xs ys l s u v left
+      → Carries (k .snapshot) small limit lens slots count bytes (gr .head) (take (k .width) ring) bounds (k .pages) G torn p xs ys l s u v left
       → Executes limit B lens slots count bytes G torn p xs ys l s u v (record { stuck = false; left = left })
   executes-plan f some ys u v left c =
       record {

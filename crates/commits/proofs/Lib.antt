@@ -3,6 +3,6 @@ pub mod PlanCode
 pub mod PlanClear
 pub mod WriteLaws
 pub mod NoteLaws
-pub mod TurnLaws
+pub mod GoingLaws
 pub mod PageLaws
 pub mod ExecuteLaws

@@ -1,33 +1,26 @@
 -- Noting the pages of a commit in the arrays, page by page: the pages obey the layout, and the lists become those of the new table. Assumes nothing.
-use mathlib.Core.Path.{_≡_, refl, sym, ap, _∙_, subst}
+use mathlib.Core.Path.{_≡_, sym, ap, _∙_, subst}
 use mathlib.Core.Bool.{Bool, true}
 use mathlib.Core.List.{List, [], _∷_, _++_, foldl, foldl-append, append-nil}
-use Prim.Native.Nat.{ℕ, zero, suc, _+_, _*_, _^_, _<_, _≤_}
+use Prim.Native.Nat.{ℕ, zero, suc, _+_, _^_, _<_, _≤_}
 use native.Mathlib.Omega.{arith}
 use lib.ListN.{length, take, getD}
 use lib.Seq.{take-all}
-use Rattle.lists.specs.Lists.{All, all, flat, more, tab}
-use Rattle.lists.proofs.Flats.{flat-append, getD-tab}
+use Rattle.lists.specs.Lists.{All, all, flat, more}
+use Rattle.lists.proofs.Flats.{flat-append}
 use Rattle.chip.specs.Geometry.{Geometry}
-use Rattle.chip.specs.Page.{Page}
 use Rattle.pages.specs.declared.header.Head.{Head}
 use Rattle.pages.specs.declared.unit.Unit as U
 use Rattle.pages.specs.Units.{Valid, encode, half}
 use Rattle.pages.specs.Data.{dataOf}
 use Rattle.pages.specs.Steps.{Live}
-use Rattle.pages.proofs.HeaderLaws.{laid-head, laid-size}
-use Rattle.pages.proofs.UnitLaws.{length-units}
-use Rattle.views.specs.Table.{Event, Node, events, eventsOf, fresh, isSound, turn}
-use Rattle.views.specs.Pass.{Notes, Turned}
+use Rattle.pages.proofs.HeaderLaws.{laid-head}
+use Rattle.views.specs.Table.{Event, Node, events, eventsOf, isSound, turn}
+use Rattle.views.specs.PassCode.{Notes, Turned}
 use Rattle.views.specs.Stored.{Stores}
 use Rattle.views.proofs.Folds.{events-laid, good-sound}
-use Rattle.views.proofs.Meanings.{nodeIn}
-use Rattle.log.specs.Commit.{Sheet, newPages, pagesFrom, unitsOf}
-use Rattle.log.specs.Plan.{Plan, newsOf, nodeAt, opsOf}
-use Rattle.log.proofs.CommitBuilt.{Holds}
-use Rattle.log.proofs.PlanLaws.{Safe, imageAfter, nodeAfter}
-use Rattle.commits.specs.Write.{Held, liveAt, sheetAt}
-use Rattle.commits.proofs.PlanCode.{held-node}
+use Rattle.log.specs.Commit.{Sheet, newPages, pagesFrom, unitsOfPacks, ValidSheet}
+use Rattle.commits.specs.WriteCode.{livePage, sheetAt}
 use Rattle.commits.proofs.WriteLaws.{pages-more}
 
 -- ---- no units, and units behind others
@@ -50,9 +43,6 @@ module _ (g : Geometry) (limit p c i n : ℕ) (us : List U.Unit) where
   pub page-half : c < 2 ^ 32 → half (dataOf g c i n us) 6 ≡ length us
   page-half hc = ap (λ (h : Head). h .units) (laid-head g c i n (length us) (flat encode us) hc)
 
-  pub page-size : 8 + 12 * g .units ≤ g .area → length us ≤ g .units → length (dataOf g c i n us) ≡ g .area
-  page-size fits few = laid-size g c i n (length us) (flat encode us) fits few (length-units us)
-
 -- an element of a list, by index
 pub all-at : {A : Type 0} {P : A → Type 0} {xs : List A} (d : A) (i : ℕ) → All P xs → i < length xs → P (getD xs i d)
 all-at d i All.none l = absurd (omega arith)
@@ -60,35 +50,32 @@ all-at d zero (more h hs) l = h
 all-at d (suc i) (more h hs) l = all-at d i hs (omega arith)
 
 -- page i of the pages of a plan, each of which holds units that fit it and obey the layout
-module _ (g : Geometry) (limit c n : ℕ) (ts : List Sheet) (hc : c < 2 ^ 32) (holds : All (Holds g limit) ts) (i : ℕ) (on : i < length ts) where
+module _ (g : Geometry) (limit c n : ℕ) (ts : List Sheet) (hc : c < 2 ^ 32) (holds : All (ValidSheet g limit) ts) (i : ℕ) (on : i < length ts) where
   abbrev us : List U.Unit
-  us = unitsOf (sheetAt ts i .packs)
+  us = unitsOfPacks (sheetAt ts i .packs)
 
-  sheet-holds : Holds g limit (sheetAt ts i)
+  sheet-holds : ValidSheet g limit (sheetAt ts i)
   sheet-holds = all-at (record { place = 0; packs = [] }) i holds on
 
-  pub at-sound : all isSound (eventsOf limit (liveAt g c n ts i)) ≡ true
+  pub at-sound : all isSound (eventsOf limit (livePage g c n ts i)) ≡ true
   at-sound = page-sound g limit (sheetAt ts i .place) c i n us hc (sheet-holds .valid)
 
-  pub at-units : half (liveAt g c n ts i .bytes) 6 ≤ g .units
+  pub at-units : half (livePage g c n ts i .bytes) 6 ≤ g .units
   at-units = omega (arith, page-half g limit (sheetAt ts i .place) c i n us hc, sheet-holds .few)
-
-  pub at-size : 8 + 12 * g .units ≤ g .area → length (liveAt g c n ts i .bytes) ≡ g .area
-  at-size fits = page-size g limit (sheetAt ts i .place) c i n us fits (sheet-holds .few)
 
 -- ---- the pages so far, one page more
 module _ (g : Geometry) (limit c n : ℕ) (ts : List Sheet) where
   pub events-more : (i : ℕ) → i < length ts
-      → events limit (pagesFrom g c n 0 (take (i + 1) ts)) ≡ events limit (pagesFrom g c n 0 (take i ts)) ++ eventsOf limit (liveAt g c n ts i)
+      → events limit (pagesFrom g c n 0 (take (i + 1) ts)) ≡ events limit (pagesFrom g c n 0 (take i ts)) ++ eventsOf limit (livePage g c n ts i)
   events-more i h =
-      ap (events limit) (pages-more g c n i ts h) ∙ flat-append (eventsOf limit) (pagesFrom g c n 0 (take i ts)) (liveAt g c n ts i ∷ [])
-      ∙ ap (λ (es : List Event). events limit (pagesFrom g c n 0 (take i ts)) ++ es) (append-nil (eventsOf limit (liveAt g c n ts i)))
+      ap (events limit) (pages-more g c n i ts h) ∙ flat-append (eventsOf limit) (pagesFrom g c n 0 (take i ts)) (livePage g c n ts i ∷ [])
+      ∙ ap (λ (es : List Event). events limit (pagesFrom g c n 0 (take i ts)) ++ es) (append-nil (eventsOf limit (livePage g c n ts i)))
 
   pub noted-more : (i : ℕ) (l s r t u v : List ℕ) → i < length ts → Turned (events limit (pagesFrom g c n 0 (take i ts))) l s r t
-      → Turned (eventsOf limit (liveAt g c n ts i)) r t u v → Turned (events limit (pagesFrom g c n 0 (take (i + 1) ts))) l s u v
+      → Turned (eventsOf limit (livePage g c n ts i)) r t u v → Turned (events limit (pagesFrom g c n 0 (take (i + 1) ts))) l s u v
   noted-more i l s r t u v h a b =
       subst (λ (es : List Event). Turned es l s u v) (sym (events-more i h))
-      (turned-append (events limit (pagesFrom g c n 0 (take i ts))) (eventsOf limit (liveAt g c n ts i)) l s r t u v a b)
+      (turned-append (events limit (pagesFrom g c n 0 (take i ts))) (eventsOf limit (livePage g c n ts i)) l s r t u v a b)
 
 -- all pages
 pub noted-all : (g : Geometry) (limit c : ℕ) (ts : List Sheet) (i : ℕ) (l s r t : List ℕ) → length ts ≤ i
@@ -100,20 +87,3 @@ noted-all g limit c ts i l s r t h a =
 pub stores-after : (limit : ℕ) (T : ℕ → Node) (news : List Live) (l s r t : List ℕ) → limit ≤ 256 → ((m : ℕ) → m < limit → Stores l s m (T m .pages))
     → Turned (events limit news) l s r t → (m : ℕ) → m < limit → Stores r t m (foldl (turn m) (T m) (events limit news) .pages)
 stores-after limit T news l s r t b h k m i = k m (omega arith) (T m) (h m i)
-
--- a finished commit: the arrays hold the new table, and the buffer is empty
-module _ {g : Geometry} {limit : ℕ} {ps : List Page} {lens slots : List ℕ} {count : ℕ} {bytes : List ℕ} {tb : List Node} {G : ℕ} {us : List U.Unit}
-    (h : Held g limit ps lens slots count bytes tb G us) (b : limit ≤ 256) (q : Plan) (r t : List ℕ)
-    (turned : Turned (events limit (newsOf g G q)) lens slots r t) where
-  pub lists-after : (n : ℕ) → n < limit → Stores r t n (nodeAt (tab 0 limit (nodeAfter g limit ps G q)) n .pages)
-  lists-after n l =
-      let z : 0 + n ≡ n = omega arith in
-      subst (λ (y : Node). Stores r t n (y .pages)) (sym (getD-tab (nodeAfter g limit ps G q) 0 limit n fresh l ∙ ap (nodeAfter g limit ps G q) z))
-      (stores-after limit (nodeIn g limit ps) (newsOf g G q) lens slots r t b
-      (λ m i. subst (λ (y : Node). Stores lens slots m (y .pages)) (held-node h m i) (h .lists m i)) turned n l)
-
-  pub held-after : (B k : ℕ) (torn : List ℕ) → Safe g limit B k torn ps tb G us q → (n : ℕ) → length (opsOf g G q) ≤ n → (bytes' : List ℕ)
-      → Held g limit (imageAfter g torn ps G q n) r t 0 bytes' (tab 0 limit (nodeAfter g limit ps G q)) (suc G) []
-  held-after B k torn s n l bytes' =
-      let e = s .kept n l in
-      record { is = e .is; clean = e .clean; lists = lists-after; units = refl; few = omega arith }

@@ -15,15 +15,15 @@ use Rattle.pages.specs.Steps.{Live}
 use Rattle.pages.specs.Units.{half}
 use Rattle.pages.specs.Write.{writes}
 use Rattle.views.specs.Table.{Event, eventsOf, isSound}
-use Rattle.views.specs.Pass.{Notes, Turned}
-use Rattle.log.specs.Commit.{unitsOf}
-use Rattle.log.specs.Plan.{Plan}
-use Rattle.plan.specs.Group.{between, groupIn}
+use Rattle.views.specs.PassCode.{Notes, Turned}
+use Rattle.log.specs.Commit.{unitsOfPacks}
+use Rattle.log.specs.Policy.{Plan}
 use Rattle.plan.specs.BuildCode.{Built}
-use Rattle.commits.specs.Write.{Going, pageOf}
-use Rattle.commits.specs.Turn.{Advances, Named, NotesPage, Reaches}
+use Rattle.plan.specs.GroupCode.{groupIn}
+use Rattle.plan.specs.PackCode.{between}
+use Rattle.commits.specs.WriteCode.{Going, pageOf, Advances, Named, NotesPage, Reaches}
 use Rattle.commits.proofs.NoteLaws.{page-half}
-use Rattle.commits.proofs.TurnLaws.{going-more, turn-half, turn-sound}
+use Rattle.commits.proofs.GoingLaws.{going-more, turn-half, turn-sound}
 
 -- ---- bounds and places in reach
 module _ {limit long : ℕ} {bounds places : List ℕ} {r : ℕ} (h : Reaches limit long bounds places r) where
@@ -35,14 +35,14 @@ module _ {limit long : ℕ} {bounds places : List ℕ} {r : ℕ} (h : Reaches li
   reach-same e = subst (λ (n : ℕ). Reaches limit n bounds places r) (sym e) h
 
 -- ---- one after the other
-module _ {anew : Bool} {g : Geometry} {limit : ℕ} {lens slots : List ℕ} {count : ℕ} {bytes bounds places : List ℕ} {r c : ℕ} {torn : List ℕ} where
-  pub advances-none : (i : ℕ) (p : Power) (xs l s : List ℕ) → Advances anew g limit lens slots count bytes bounds places r c torn i i p p xs xs l s l s
+module _ {snapshot : Bool} {g : Geometry} {limit : ℕ} {lens slots : List ℕ} {count : ℕ} {bytes bounds places : List ℕ} {r c : ℕ} {torn : List ℕ} where
+  pub advances-none : (i : ℕ) (p : Power) (xs l s : List ℕ) → Advances snapshot g limit lens slots count bytes bounds places r c torn i i p p xs xs l s l s
   advances-none i p xs l s = record { size = refl; is = λ G q erased e p₀ first l₀ s₀ z n k. k }
 
   pub advances-join : {i j k : ℕ} {p p' p'' : Power} {xs ys zs l s u v l' s' : List ℕ}
-      → Advances anew g limit lens slots count bytes bounds places r c torn i j p p' xs ys l s u v
-      → Advances anew g limit lens slots count bytes bounds places r c torn j k p' p'' ys zs u v l' s'
-      → Advances anew g limit lens slots count bytes bounds places r c torn i k p p'' xs zs l s l' s'
+      → Advances snapshot g limit lens slots count bytes bounds places r c torn i j p p' xs ys l s u v
+      → Advances snapshot g limit lens slots count bytes bounds places r c torn j k p' p'' ys zs u v l' s'
+      → Advances snapshot g limit lens slots count bytes bounds places r c torn i k p p'' xs zs l s l' s'
   advances-join a b =
       record {
         size = b .size ∙ a .size;
@@ -54,24 +54,24 @@ noted-sound : (es : List Event) (l s u v : List ℕ) → all isSound es ≡ true
 noted-sound es l s u v e t = record { good = sym e; is = λ z. t }
 
 -- the page that is built from the image ys, at turn i of a commit
-module _ (anew : Bool) (g : Geometry) (limit : ℕ) (lens slots : List ℕ) (count : ℕ) (bytes bounds places : List ℕ) (r : ℕ) (torn : List ℕ) (i : ℕ) (on : i < r)
+module _ (snapshot : Bool) (g : Geometry) (limit : ℕ) (lens slots : List ℕ) (count : ℕ) (bytes bounds places : List ℕ) (r : ℕ) (torn : List ℕ) (i : ℕ) (on : i < r)
     (G : ℕ) (q : Plan) (erased : List ℕ) (e : ℕ) (p₀ p : Power) (first ys l₀ s₀ l s : List ℕ)
-    (n : Named anew g limit (pagesOf g first) lens slots count bytes bounds places r erased e G q)
+    (n : Named snapshot g limit (pagesOf g first) lens slots count bytes bounds places r erased e G q)
     (k : Going g torn limit (suc G) q i p₀ p first ys l₀ s₀ l s) where
   abbrev us : List U.Unit
-  us = unitsOf (between (groupIn anew g limit (pagesOf g ys) lens slots count bytes) (getD bounds (r - 1 - i) 0) (getD bounds (r - i) 0))
+  us = unitsOfPacks (between (groupIn snapshot g limit (pagesOf g ys) lens slots count bytes) (getD bounds (r - 1 - i) 0) (getD bounds (r - i) 0))
 
   abbrev built : Live
-  built = pageOf anew g limit (pagesOf g ys) lens slots count bytes (suc G) bounds places r i
+  built = pageOf snapshot g limit (pagesOf g ys) lens slots count bytes (suc G) bounds places r i
 
   built-half : half (built .bytes) 6 ≤ g .units
   built-half =
-      turn-half anew g limit (pagesOf g first) lens slots count bytes bounds places r erased e q (n .prepared) G torn (n .clear) i on p₀ p first ys refl l₀ s₀ l s k
+      turn-half snapshot g limit (pagesOf g first) lens slots count bytes bounds places r erased e q (n .prepared) G torn (n .clear) i on p₀ p first ys refl l₀ s₀ l s k
       (n .number) (n .holds)
 
   built-sound : all isSound (eventsOf limit built) ≡ true
   built-sound =
-      turn-sound anew g limit (pagesOf g first) lens slots count bytes bounds places r erased e q (n .prepared) G torn (n .clear) i on p₀ p first ys refl l₀ s₀ l s k
+      turn-sound snapshot g limit (pagesOf g first) lens slots count bytes bounds places r erased e q (n .prepared) G torn (n .clear) i on p₀ p first ys refl l₀ s₀ l s k
       (n .number) (n .holds)
 
   -- its units fit a page
@@ -88,23 +88,23 @@ module _ (anew : Bool) (g : Geometry) (limit : ℕ) (lens slots : List ℕ) (cou
       let is : page ≡ built .bytes = b built-few in
       let t' = subst (λ (x : List ℕ). half x 6 ≤ g .units → all isSound (eventsOf limit (record { place = getD places i 0; bytes = x })) ≡ true
       → Turned (eventsOf limit (record { place = getD places i 0; bytes = x })) l s u v) is t in
-      going-more anew g limit (pagesOf g first) lens slots count bytes bounds places r erased e q (n .prepared) G torn (n .clear) i on p₀ p first ys refl l₀ s₀ l s k
+      going-more snapshot g limit (pagesOf g first) lens slots count bytes bounds places r erased e q (n .prepared) G torn (n .clear) i on p₀ p first ys refl l₀ s₀ l s k
       (n .number) (n .holds) p' zs u v true
       (subst (λ (x : List ℕ). Ran g torn (writes (getD places i 0) x) p p' ys zs) is w)
       (noted-sound (eventsOf limit built) l s u v built-sound (t' built-half built-sound))
 
 -- every plan goes one page on
-pub advances-page : (anew : Bool) (limit : ℕ) (lens slots : List ℕ) (count : ℕ) (bytes bounds places : List ℕ) (r c : ℕ) (torn : List ℕ) (i : ℕ) → i < r
+pub advances-page : (snapshot : Bool) (limit : ℕ) (lens slots : List ℕ) (count : ℕ) (bytes bounds places : List ℕ) (r c : ℕ) (torn : List ℕ) (i : ℕ) → i < r
     → (p p' : Power) (xs ys l s u v page : List ℕ)
-    → Built c i r (unitsOf (between (groupIn anew small limit (pagesOf small xs) lens slots count bytes) (getD bounds (r - 1 - i) 0) (getD bounds (r - i) 0))) page
+    → Built c i r (unitsOfPacks (between (groupIn snapshot small limit (pagesOf small xs) lens slots count bytes) (getD bounds (r - 1 - i) 0) (getD bounds (r - i) 0))) page
     → Ran small torn (writes (getD places i 0) page) p p' xs ys → NotesPage limit (getD places i 0) page l s u v
-    → Advances anew small limit lens slots count bytes bounds places r c torn i (i + 1) p p' xs ys l s u v
-advances-page anew limit lens slots count bytes bounds places r c torn i on p p' xs ys l s u v page b w t =
+    → Advances snapshot small limit lens slots count bytes bounds places r c torn i (i + 1) p p' xs ys l s u v
+advances-page snapshot limit lens slots count bytes bounds places r c torn i on p p' xs ys l s u v page b w t =
     record {
       size = w .size;
       is = λ G q erased e p₀ first l₀ s₀ z n k.
-          built-more anew small limit lens slots count bytes bounds places r torn i on G q erased e p₀ p first xs l₀ s₀ l s n k page p' ys u v
+          built-more snapshot small limit lens slots count bytes bounds places r torn i on G q erased e p₀ p first xs l₀ s₀ l s n k page p' ys u v
           (λ few. b few ∙ ap (λ (d : ℕ). dataOf small d i r
-          (unitsOf (between (groupIn anew small limit (pagesOf small xs) lens slots count bytes) (getD bounds (r - 1 - i) 0) (getD bounds (r - i) 0)))) z)
+          (unitsOfPacks (between (groupIn snapshot small limit (pagesOf small xs) lens slots count bytes) (getD bounds (r - 1 - i) 0) (getD bounds (r - i) 0)))) z)
           w t;
     }

@@ -1,6 +1,6 @@
 -- No operation of a plan alters a page of a stored list: it erases unused blocks, and writes free pages of the head and pages of unused blocks. Assumes nothing.
 use mathlib.Core.Path.{_≡_, refl, sym, ap, _∙_, subst}
-use mathlib.Core.Bool.{Bool, true, false, _&&_, _||_, not}
+use mathlib.Core.Bool.{Bool, true, false, _&&_, not}
 use mathlib.Core.List.{List, [], _∷_, map}
 use Prim.Native.Nat.{ℕ, zero, suc, _+_, _-_, _<_, _≤_}
 use native.Mathlib.Omega.{arith}
@@ -8,7 +8,7 @@ use lib.Dec.{eqb, leb}
 use lib.ListN.{length, take, getD}
 use borrow.Author.Tests.{eqb-true, ne-eqb}
 use Rattle.lists.specs.Lists.{All, all, any, flat, none, more}
-use Rattle.lists.proofs.Tests.{and-left, and-right, cases, clash}
+use Rattle.lists.proofs.Tests.{and-left, and-right, cases, clash, neither-left}
 use Rattle.lists.proofs.Alls.{All-append, All-filter, All-head, All-map, All-tail, All-take, All-zip, any-false}
 use Rattle.lists.proofs.Filters.{filter-is}
 use Rattle.lists.proofs.Sorts.{All-sort}
@@ -23,15 +23,16 @@ use Rattle.views.specs.Stored.{storedList}
 use Rattle.views.proofs.Meanings.{inOrder, nodeIn}
 use Rattle.views.proofs.Rooms.{still-unlisted}
 use Rattle.log.specs.Commit.{Pack, pagesFrom, writesOf}
-use Rattle.log.specs.Plan.{Plan, freeAt, from, groups, headBlock, holds, nodeAt, opsOf, orElse, pack, pagesIn, places as placesOf, planOf, planOn, ring, sheets, spareBlocks, stuck}
+use Rattle.log.specs.Policy.{Plan, freeAt, countFrom, groups, headBlock, holdsCommit, nodeAt, opsOf, planElse, pack, pagesIn, places as placesOf, planOf, planOn, ring, sheets, spareBlocks, stuck}
 use Rattle.log.proofs.PlanPlaces.{Origin, in-block, new, old, places-from}
-use Rattle.log.proofs.Sets.{mem-at, tab-at}
-use Rattle.plan.specs.Ground.{listedIn, unusedIn, usedIn}
-use Rattle.plan.specs.Group.{groupIn}
-use Rattle.commits.specs.Write.{Clear, Held}
+use Rattle.lists.proofs.Sets.{mem-at, tab-at}
+use Rattle.plan.specs.SurveyCode.{listedIn, unusedIn, usedIn}
+use Rattle.commits.specs.WriteCode.{Clear}
 use Rattle.commits.proofs.ClearLaws.{clear-none}
-use Rattle.plan.proofs.GroundLaws.{any-reverse}
+use Rattle.plan.proofs.SurveyLaws.{any-reverse}
+use Rattle.plan.specs.GroupCode.{groupIn}
 use Rattle.commits.proofs.PlanCode.{held-node, held-short, plan-is}
+use Rattle.commits.specs.Execute.{HoldsTable}
 
 -- ---- a free page is not live
 full-at : (x : List ℕ) (k : ℕ) → all (λ (b : ℕ). eqb b 255) x ≡ true → getD x k 255 ≡ 255
@@ -69,7 +70,7 @@ live-not-free g ps = All-map (λ x f. f (x .place) (omega arith)) (lives-busy g 
 
 -- ---- pages of a stored list are live, so not free
 module _ {g : Geometry} {limit : ℕ} {ps : List Page} {lens slots : List ℕ} {count : ℕ} {bytes : List ℕ} {tb : List Node} {G : ℕ} {us : List U.Unit}
-    (h : Held g limit ps lens slots count bytes tb G us) where
+    (h : HoldsTable g limit ps lens slots count bytes tb G us) where
   node-busy : (n : ℕ) → any (freeAt ps) (nodeIn g limit ps n .pages) ≡ false
   unfolding nodeIn nodeOf
   node-busy n = still-unlisted (freeAt ps) limit n fresh (inOrder g ps) (All-sort before (live-not-free g ps)) refl
@@ -81,10 +82,6 @@ module _ {g : Geometry} {limit : ℕ} {ps : List Page} {lens slots : List ℕ} {
       ∙ ap (λ (s : Node). any (freeAt ps) (s .pages)) (held-node h n l) ∙ node-busy n)
 
 -- ---- no page of a stored list is in an unused block
-or-left : (a b : Bool) → (a || b) ≡ false → a ≡ false
-or-left true b e = e
-or-left false b e = refl
-
 module _ (g : Geometry) (limit : ℕ) (lens slots : List ℕ) (c : ℕ) (xs : List Live) where
   pub unused-stored : (b : ℕ) → usedIn g limit lens slots c xs b ≡ false → (n : ℕ) → n < limit
       → All (λ (p : ℕ). inBlock g b p ≡ false) (storedList lens slots n)
@@ -92,7 +89,7 @@ module _ (g : Geometry) (limit : ℕ) (lens slots : List ℕ) (c : ℕ) (xs : Li
   unused-stored b e n l =
       any-false (inBlock g b) (storedList lens slots n)
       (tab-at (λ (i : ℕ). any (inBlock g b) (storedList lens slots i) ≡ false) (λ (i : ℕ). i) 0 limit n
-      (any-false (λ (i : ℕ). any (inBlock g b) (storedList lens slots i)) (from 0 limit) (or-left (listedIn g limit lens slots b) (holds g c xs b) e))
+      (any-false (λ (i : ℕ). any (inBlock g b) (storedList lens slots i)) (countFrom 0 limit) (neither-left (listedIn g limit lens slots b) (holdsCommit g c xs b) e))
       (omega arith) (omega arith))
 
   pub unused-free : (B head : ℕ) → All (λ (b : ℕ). usedIn g limit lens slots c xs b ≡ false) (unusedIn g B limit lens slots c xs head)
@@ -133,7 +130,7 @@ module _ (g : Geometry) (p : ℕ) where
 
 -- ---- the plan
 module _ {g : Geometry} {limit : ℕ} (B : ℕ) {ps : List Page} {lens slots : List ℕ} {count : ℕ} {bytes : List ℕ} {tb : List Node} {G : ℕ} {us : List U.Unit}
-    (h : Held g limit ps lens slots count bytes tb G us) where
+    (h : HoldsTable g limit ps lens slots count bytes tb G us) where
   -- into any unused blocks
   pub on-clear : (head : ℕ) (bs : List ℕ) (ks : List (List Pack)) → All (λ (b : ℕ). usedIn g limit lens slots G (liveFrom g 0 ps) b ≡ false) bs
       → Clear g limit lens slots (opsOf g G (planOn g ps head bs ks))
@@ -161,10 +158,10 @@ module _ {g : Geometry} {limit : ℕ} (B : ℕ) {ps : List Page} {lens slots : L
       let ss = pack (g .units) (groups (groupIn true g limit ps lens slots count bytes) limit) in
       let a = unused-free g limit lens slots G (liveFrom g 0 ps) B head in
       subst (λ (q : Plan). Clear g limit lens slots (opsOf g G q)) (sym (plan-is g limit B ps lens slots count bytes tb G us h))
-      (or-else head (take k un) ds (orElse g ps head (take (spareBlocks g B) un) ss stuck) (on-clear head (take k un) ds (All-take k a))
+      (or-else head (take k un) ds (planElse g ps head (take (spareBlocks g B) un) ss stuck) (on-clear head (take k un) ds (All-take k a))
       (or-else head (take (spareBlocks g B) un) ss stuck (on-clear head (take (spareBlocks g B) un) ss (All-take (spareBlocks g B) a))
       (clear-none g limit lens slots)))
     where
       or-else : (head : ℕ) (bs : List ℕ) (ks : List (List Pack)) (q : Plan) → Clear g limit lens slots (opsOf g G (planOn g ps head bs ks))
-          → Clear g limit lens slots (opsOf g G q) → Clear g limit lens slots (opsOf g G (orElse g ps head bs ks q))
+          → Clear g limit lens slots (opsOf g G q) → Clear g limit lens slots (opsOf g G (planElse g ps head bs ks q))
       or-else head bs ks q x y = cases (leb (suc (length ks)) (length (placesOf g ps head bs))) (λ t. rw t x) (λ t. rw t y)

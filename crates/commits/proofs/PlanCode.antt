@@ -15,16 +15,16 @@ use Rattle.views.proofs.Groups.{well-is}
 use Rattle.views.proofs.Meanings.{Kept, kept-node, kept-size, kept-well, nodeIn}
 use Rattle.views.proofs.ViewLaws.{view-stored}
 use Rattle.log.specs.Commit.{Pack}
-use Rattle.log.specs.Plan.{delta, groups, headBlock, isUsed, nodeAt, pack, places, planFor, planOf, planOn, snapshot, spareBlocks, stuck, unused}
+use Rattle.log.specs.Policy.{delta, groups, headBlock, nodeAt, pack, places, planFor, planOf, planOn, snapshot, spareBlocks, stuck, unused}
 use Rattle.log.proofs.PlanPacks.{groups-same}
-use Rattle.plan.specs.Ground.{unusedIn, usedIn}
-use Rattle.plan.specs.Group.{deltaIn, groupIn, snapshotIn}
-use Rattle.commits.specs.Write.{Held}
-use Rattle.plan.proofs.GroundLaws.{unused-is, used-is}
+use Rattle.plan.specs.SurveyCode.{unusedIn}
+use Rattle.plan.proofs.SurveyLaws.{unused-is}
 use Rattle.plan.proofs.GroupLaws.{delta-is, snapshot-is}
+use Rattle.plan.specs.GroupCode.{deltaIn, groupIn, snapshotIn}
+use Rattle.commits.specs.Execute.{HoldsTable}
 
 module _ {g : Geometry} {limit : ℕ} {ps : List Page} {lens slots : List ℕ} {count : ℕ} {bytes : List ℕ} {tb : List Node} {G : ℕ} {us : List U.Unit}
-    (h : Held g limit ps lens slots count bytes tb G us) where
+    (h : HoldsTable g limit ps lens slots count bytes tb G us) where
   pub held-kept : Kept g limit ps tb G
   held-kept = record { is = h .is; clean = h .clean }
 
@@ -66,15 +66,13 @@ module _ {g : Geometry} {limit : ℕ} {ps : List Page} {lens slots : List ℕ} {
   groups-snapshot = groups-same (groupIn true g limit ps lens slots count bytes) (snapshot (nodeAt tb) us) limit group-snapshot
 
   -- ---- blocks
-  pub held-used : (b : ℕ) → usedIn g limit lens slots G (liveFrom g 0 ps) b ≡ isUsed g tb G (liveFrom g 0 ps) b
-  held-used b = used-is g limit lens slots G (liveFrom g 0 ps) tb (kept-size g limit ps tb G held-kept) (h .lists) held-short b
 
   pub held-unused : (B head : ℕ) → unusedIn g B limit lens slots G (liveFrom g 0 ps) head ≡ unused g B tb G (liveFrom g 0 ps) head
   held-unused B head = unused-is g limit lens slots G (liveFrom g 0 ps) tb (kept-size g limit ps tb G held-kept) (h .lists) held-short B head
 
 -- ---- the plan
 module _ (g : Geometry) (limit B : ℕ) (ps : List Page) (lens slots : List ℕ) (count : ℕ) (bytes : List ℕ) (tb : List Node) (G : ℕ) (us : List U.Unit)
-    (h : Held g limit ps lens slots count bytes tb G us) where
+    (h : HoldsTable g limit ps lens slots count bytes tb G us) where
   abbrev head : ℕ
   head = headBlock g ps
 

@@ -18,10 +18,11 @@ use Rattle.pages.specs.declared.unit.Update.{Update}
 use Rattle.pages.specs.Steps.{Live}
 use Rattle.pages.specs.Data.{dataOf}
 use Rattle.pages.specs.Write.{writes}
-use Rattle.log.specs.Commit.{Pack, Sheet, commitOps, newPages, pagesFrom, unitsOf, writesOf}
-use Rattle.log.specs.Plan.{sheets}
-use Rattle.plan.specs.Group.{between, groupIn, pagesBy}
-use Rattle.commits.specs.Write.{Clear, liveAt, sheetAt}
+use Rattle.log.specs.Commit.{Pack, Sheet, commitOps, newPages, pagesFrom, unitsOfPacks, writesOf}
+use Rattle.log.specs.Policy.{sheets}
+use Rattle.plan.specs.GroupCode.{groupIn}
+use Rattle.plan.specs.PackCode.{between, pagesBy}
+use Rattle.commits.specs.WriteCode.{Clear, livePage, sheetAt}
 use Rattle.commits.proofs.ClearLaws.{between-same, clear-group}
 
 -- ---- elements
@@ -76,45 +77,38 @@ erased-more g torn bs i p q r xs ys zs h a s =
 module _ (g : Geometry) (c n : ℕ) where
   from-more : (k i : ℕ) (ts : List Sheet) → i < length ts
       → pagesFrom g c n k (take (suc i) ts)
-      ≡ pagesFrom g c n k (take i ts) ++ (record { place = sheetAt ts i .place; bytes = dataOf g c (k + i) n (unitsOf (sheetAt ts i .packs)) } ∷ [])
+      ≡ pagesFrom g c n k (take i ts) ++ (record { place = sheetAt ts i .place; bytes = dataOf g c (k + i) n (unitsOfPacks (sheetAt ts i .packs)) } ∷ [])
   from-more k i [] h = absurd (omega arith)
   from-more k zero (t ∷ ts) h = let e : k + 0 ≡ k = omega arith in rw e
   from-more k (suc i) (t ∷ ts) h =
       let e : suc k + i ≡ k + suc i = omega arith in
-      ap (λ (l : List Live). record { place = t .place; bytes = dataOf g c k n (unitsOf (t .packs)) } ∷ l) (from-more (suc k) i ts (omega arith) ∙ rw e)
+      ap (λ (l : List Live). record { place = t .place; bytes = dataOf g c k n (unitsOfPacks (t .packs)) } ∷ l) (from-more (suc k) i ts (omega arith) ∙ rw e)
 
   pub pages-more : (i : ℕ) (ts : List Sheet) → i < length ts
-      → pagesFrom g c n 0 (take (i + 1) ts) ≡ pagesFrom g c n 0 (take i ts) ++ (liveAt g c n ts i ∷ [])
+      → pagesFrom g c n 0 (take (i + 1) ts) ≡ pagesFrom g c n 0 (take i ts) ++ (livePage g c n ts i ∷ [])
   pages-more i ts h =
       let e : 0 + i ≡ i = omega arith in
       ap (λ (m : ℕ). pagesFrom g c n 0 (take m ts)) (add-one i) ∙ from-more 0 i ts h ∙ rw e
 
   pub writes-more : (i : ℕ) (ts : List Sheet) → i < length ts
-      → flat writesOf (pagesFrom g c n 0 (take (i + 1) ts)) ≡ flat writesOf (pagesFrom g c n 0 (take i ts)) ++ writesOf (liveAt g c n ts i)
+      → flat writesOf (pagesFrom g c n 0 (take (i + 1) ts)) ≡ flat writesOf (pagesFrom g c n 0 (take i ts)) ++ writesOf (livePage g c n ts i)
   writes-more i ts h =
-      ap (flat writesOf) (pages-more i ts h) ∙ flat-append writesOf (pagesFrom g c n 0 (take i ts)) (liveAt g c n ts i ∷ [])
-      ∙ ap (λ (os : List Op). flat writesOf (pagesFrom g c n 0 (take i ts)) ++ os) (append-nil (writesOf (liveAt g c n ts i)))
+      ap (flat writesOf) (pages-more i ts h) ∙ flat-append writesOf (pagesFrom g c n 0 (take i ts)) (livePage g c n ts i ∷ [])
+      ∙ ap (λ (os : List Op). flat writesOf (pagesFrom g c n 0 (take i ts)) ++ os) (append-nil (writesOf (livePage g c n ts i)))
 
   pub ops-more : (bs : List ℕ) (i : ℕ) (ts : List Sheet) → i < length ts
-      → commitOps bs (pagesFrom g c n 0 (take (i + 1) ts)) ≡ commitOps bs (pagesFrom g c n 0 (take i ts)) ++ writesOf (liveAt g c n ts i)
+      → commitOps bs (pagesFrom g c n 0 (take (i + 1) ts)) ≡ commitOps bs (pagesFrom g c n 0 (take i ts)) ++ writesOf (livePage g c n ts i)
   ops-more bs i ts h =
       ap (λ (os : List Op). map erase bs ++ os) (writes-more i ts h)
-      ∙ sym (append-assoc (map erase bs) (flat writesOf (pagesFrom g c n 0 (take i ts))) (writesOf (liveAt g c n ts i)))
+      ∙ sym (append-assoc (map erase bs) (flat writesOf (pagesFrom g c n 0 (take i ts))) (writesOf (livePage g c n ts i)))
 
+  -- the operations so far, and one page more
   module _ (torn : List ℕ) (p q r : Power) (xs ys zs : List ℕ) where
-    -- the writes alone
-    pub written-more : (i : ℕ) (ts : List Sheet) → i < length ts → Ran g torn (flat writesOf (pagesFrom g c n 0 (take i ts))) p q xs ys
-        → Ran g torn (writes (sheetAt ts i .place) (dataOf g c i n (unitsOf (sheetAt ts i .packs)))) q r ys zs
-        → Ran g torn (flat writesOf (pagesFrom g c n 0 (take (i + 1) ts))) p r xs zs
-    written-more i ts h a b =
-        rw (writes-more i ts h) (ran-append g torn (flat writesOf (pagesFrom g c n 0 (take i ts))) (writesOf (liveAt g c n ts i)) p q r xs ys zs a b)
-
-    -- with the erases before them
     pub done-more : (bs : List ℕ) (i : ℕ) (ts : List Sheet) → i < length ts → Ran g torn (commitOps bs (pagesFrom g c n 0 (take i ts))) p q xs ys
-        → Ran g torn (writes (sheetAt ts i .place) (dataOf g c i n (unitsOf (sheetAt ts i .packs)))) q r ys zs
+        → Ran g torn (writes (sheetAt ts i .place) (dataOf g c i n (unitsOfPacks (sheetAt ts i .packs)))) q r ys zs
         → Ran g torn (commitOps bs (pagesFrom g c n 0 (take (i + 1) ts))) p r xs zs
     done-more bs i ts h a b =
-        rw (ops-more bs i ts h) (ran-append g torn (commitOps bs (pagesFrom g c n 0 (take i ts))) (writesOf (liveAt g c n ts i)) p q r xs ys zs a b)
+        rw (ops-more bs i ts h) (ran-append g torn (commitOps bs (pagesFrom g c n 0 (take i ts))) (writesOf (livePage g c n ts i)) p q r xs ys zs a b)
 
   -- the erases, and no page yet
   pub done-none : (torn bs : List ℕ) (ts : List Sheet) (p q : Power) (xs ys : List ℕ) → Ran g torn (map erase bs) p q xs ys
@@ -127,20 +121,20 @@ pub done-all : (g : Geometry) (torn : List ℕ) (c : ℕ) (bs : List ℕ) (ts : 
 done-all g torn c bs ts i p q xs ys h a = let e = take-all i ts h in rw e at a
 
 -- ---- the groups of nodes as they are read from the image at that time
-module _ (anew : Bool) (g : Geometry) (limit : ℕ) (lens slots : List ℕ) (count : ℕ) (bytes : List ℕ) (torn : List ℕ) (os : List Op) (p q : Power) (xs ys : List ℕ)
+module _ (snapshot : Bool) (g : Geometry) (limit : ℕ) (lens slots : List ℕ) (count : ℕ) (bytes : List ℕ) (torn : List ℕ) (os : List Op) (p q : Power) (xs ys : List ℕ)
     (clear : Clear g limit lens slots os) (ran : Ran g torn os p q xs ys) where
   pub ran-group : (n : ℕ) → n < limit
-      → groupIn anew g limit (pagesOf g ys) lens slots count bytes n ≡ groupIn anew g limit (pagesOf g xs) lens slots count bytes n
+      → groupIn snapshot g limit (pagesOf g ys) lens slots count bytes n ≡ groupIn snapshot g limit (pagesOf g xs) lens slots count bytes n
   ran-group n l =
       let s : pagesOf g ys ≡ run g torn (machine g p xs) os .pages = ap (λ (m : Machine). m .pages) (ran .is) in
-      ap (λ (ps : List Page). groupIn anew g limit ps lens slots count bytes n) s
-      ∙ clear-group g limit lens slots os clear anew torn (machine g p xs) count bytes n l
+      ap (λ (ps : List Page). groupIn snapshot g limit ps lens slots count bytes n) s
+      ∙ clear-group g limit lens slots os clear snapshot torn (machine g p xs) count bytes n l
 
   pub ran-between : (a b : ℕ) → b ≤ limit
-      → between (groupIn anew g limit (pagesOf g ys) lens slots count bytes) a b ≡ between (groupIn anew g limit (pagesOf g xs) lens slots count bytes) a b
+      → between (groupIn snapshot g limit (pagesOf g ys) lens slots count bytes) a b ≡ between (groupIn snapshot g limit (pagesOf g xs) lens slots count bytes) a b
   ran-between a b l =
-      between-same (groupIn anew g limit (pagesOf g ys) lens slots count bytes) (groupIn anew g limit (pagesOf g xs) lens slots count bytes) limit a b ran-group l
+      between-same (groupIn snapshot g limit (pagesOf g ys) lens slots count bytes) (groupIn snapshot g limit (pagesOf g xs) lens slots count bytes) limit a b ran-group l
 
   pub ran-units : (a b : ℕ) → b ≤ limit
-      → unitsOf (between (groupIn anew g limit (pagesOf g ys) lens slots count bytes) a b) ≡ unitsOf (between (groupIn anew g limit (pagesOf g xs) lens slots count bytes) a b)
-  ran-units a b l = ap unitsOf (ran-between a b l)
+      → unitsOfPacks (between (groupIn snapshot g limit (pagesOf g ys) lens slots count bytes) a b) ≡ unitsOfPacks (between (groupIn snapshot g limit (pagesOf g xs) lens slots count bytes) a b)
+  ran-units a b l = ap unitsOfPacks (ran-between a b l)

@@ -1,36 +1,44 @@
 -- What the execution of a commit ensures: the operations of the plan, and the node table that the commit leaves.
 use mathlib.Core.Path.{_≡_}
-use mathlib.Core.Bool.{Bool, true, false}
-use mathlib.Core.List.{List, [], _∷_, map, foldl}
-use Prim.Native.Nat.{ℕ, _*_, _<_, _≤_}
+use mathlib.Core.Bool.{true, false}
+use mathlib.Core.List.{List, [], map, foldl}
+use Prim.Native.Nat.{ℕ, suc, _*_, _^_, _<_, _≤_}
 use lib.ListN.{length}
+use Rattle.lists.specs.Lists.{All}
 use Rattle.chip.specs.declared.power.Power.{Power}
-use Rattle.chip.specs.Geometry.{small}
+use Rattle.chip.specs.Geometry.{Geometry, pageSize, small}
 use Rattle.chip.specs.Page.{Page}
 use Rattle.chip.specs.Chip.{pagesOf, Ran}
 use Rattle.pages.specs.declared.unit.Unit as U
 use Rattle.pages.specs.declared.unit.Decoded.the-variants.{Good}
-use Rattle.pages.specs.Units.{decodes}
-use Rattle.views.specs.Table.{Node, events, turn}
+use Rattle.pages.specs.Units.{Valid, decodes}
+use Rattle.pages.specs.Steps.{liveFrom, ordered, stand, steps}
+use Rattle.views.specs.Table.{Node, events, isWhole, meaning, means, turn}
+use Rattle.views.specs.Groups.{present}
 use Rattle.views.specs.Stored.{Stores}
-use Rattle.log.specs.Commit.{Sheet}
-use Rattle.log.specs.Plan.{Plan, planOf, opsOf, newsOf, nodeAt}
-use Rattle.log.proofs.PlanChoice.{Ready}
+use Rattle.log.specs.Policy.{Plan, isEmpty, planOf, opsOf, newsOf, nodeAt}
 use Rattle.commits.specs.declared.execute.Ended.{Ended}
 
--- nothing is written
-abbrev pub isEmpty : List Sheet → Bool
-isEmpty [] = true
-isEmpty (t ∷ ts) = false
-
--- the arrays hold the node lists of the table tb, and the buffer the units us: what a plan is made of
-pub record Plannable (limit B : ℕ) (lens slots : List ℕ) (count : ℕ) (buffer : List ℕ) (ps : List Page) (tb : List Node) (G : ℕ) (us : List U.Unit) : Type 0 where
-  pub ready : Ready small limit B ps tb G us
-  pub limits : limit ≡ 8 * B
+-- the image means the table tb and the commit number c, with no void page; the arrays hold the lists of tb, and the buffer holds the units us
+pub record HoldsTable (g : Geometry) (limit : ℕ) (ps : List Page) (lens slots : List ℕ) (count : ℕ) (bytes : List ℕ)
+    (tb : List Node) (c : ℕ) (us : List U.Unit) : Type 0 where
+  pub is : meaning g limit ps ≡ means tb c
+  pub clean : steps g ps ≡ stand [] (ordered (liveFrom g 0 ps))
   pub lists : (n : ℕ) → n < limit → Stores lens slots n (nodeAt tb n .pages)
-  pub units : decodes limit count buffer ≡ map Good us
+  pub units : decodes limit count bytes ≡ map Good us
   pub few : count ≤ 960
+
+-- what a plan is made of: these, on an image of B blocks whose bytes are below 256; the units obey the layout, and no view after them is broken
+pub record Plannable (limit B : ℕ) (lens slots : List ℕ) (count : ℕ) (buffer : List ℕ) (ps : List Page) (tb : List Node) (G : ℕ) (us : List U.Unit) : Type 0 where
+  pub held : HoldsTable small limit ps lens slots count buffer tb G us
+  pub limits : limit ≡ 8 * B
+  pub number : suc G < 2 ^ 32
+  pub long : length ps ≡ B * small .pages
+  pub sizes : All (λ (x : Page). length x ≡ pageSize small) ps
+  pub bytes : All (λ (x : Page). All (λ (b : ℕ). b < 256) x) ps
   pub some : 0 < length us
+  pub valid : All (Valid limit) us
+  pub whole : (n : ℕ) → n < limit → isWhole (present n (nodeAt tb n .now) us) ≡ true
 
 -- the plan q done as far as the power goes; and the lists with the pages of the plan noted
 pub record Executed (limit G : ℕ) (tb : List Node) (q : Plan) (torn : List ℕ) (p : Power) (before after lens slots : List ℕ) (left : Power) : Type 0 where

@@ -1,3 +1,3 @@
-pub mod Write
+pub mod WriteCode
+pub mod ExecuteCode
 pub mod Execute
-pub mod Turn

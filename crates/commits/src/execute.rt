@@ -6,18 +6,19 @@ ghost use Prim.Native.Nat.{_+_, _-_, _*_, _%_, _<_, _≤_};
 ghost use lib.ListN.{length, take};
 ghost use Rattle.chip.specs.Geometry.{small};
 ghost use Rattle.chip.specs.Chip.{Op, Ran, pagesOf};
-ghost use Rattle.plan.specs.Ground.{Spare, firstErases, freePages};
-ghost use Rattle.plan.specs.Group.{groupIn};
+ghost use Rattle.plan.specs.SurveyCode.{freePages};
 ghost use Rattle.plan.specs.PackCode.{Packs};
+ghost use Rattle.plan.specs.GroupCode.{groupIn};
+ghost use Rattle.plan.specs.PlacesCode.{Spare, firstErases};
 ghost use Rattle.commits.specs.Execute.{Executes};
-ghost use Rattle.commits.specs.Turn.{Carries, Chooses};
+ghost use Rattle.commits.specs.ExecuteCode.{Carries, Chooses};
 use crate::erase;
 use crate::write;
 use chip::power::Power;
-use plan::ground;
-use plan::ground::Ground;
 use plan::pack;
 use plan::places;
+use plan::survey;
+use plan::survey::Surveyed;
 
 // Whether the commit was stuck, for want of room or of a page to write, and the power that it left.
 pub struct Ended {
@@ -38,16 +39,9 @@ fn nothing(power: Power) -> Ended
 // What a commit writes: whether there are places for it, every node anew or not, how many pages, and on how many unused blocks.
 struct Choice {
     found: bool,
-    anew: bool,
+    snapshot: bool,
     pages: usize,
     width: usize,
-}
-
-// `a` less `b`, 0 where `b` is greater.
-fn less(a: usize, b: usize) -> usize
-    ensures { λ r. ⌜ r ≡ a - b ⌝ }
-{
-    if a < b { 0 } else { a - b }
 }
 
 // A delta where the unused blocks but the spare ones have places for it, else a snapshot on the spare ones.
@@ -67,12 +61,12 @@ fn choose(
     ensures { λ r. ⌜ Chooses limit (pagesOf small (now (image .entry))) (now (lens .entry)) (now (slots .entry)) count (now (buffer .entry))
         unused spare free (now (bounds .exit)) r ⌝ }
 {
-    let wide = less(unused, spare);
+    let wide = places::excess(unused, spare);
     let d = pack::pack_pages(image, lens, slots, buffer, count, limit, false, bounds);
     if d + 1 <= free + 32 * wide {
         return Choice {
             found: true,
-            anew: false,
+            snapshot: false,
             pages: d,
             width: wide,
         };
@@ -81,7 +75,7 @@ fn choose(
     let narrow = unused - wide;
     Choice {
         found: s + 1 <= free + 32 * narrow,
-        anew: true,
+        snapshot: true,
         pages: s,
         width: narrow,
     }
@@ -118,7 +112,7 @@ fn carry_out(
     count: usize,
     limit: u32,
     blocks: usize,
-    g: Ground,
+    g: Surveyed,
     ring: &[u32; 32],
     k: Choice,
     bounds: &[u32; 257],
@@ -131,15 +125,15 @@ fn carry_out(
     requires { ⌜ (length (now image) ≡ blocks * 16896) × (blocks ≤ 32) × (limit ≤ 256) × (g .head < blocks) × (k .width ≤ 32) × (length (now torn) ≡ 528)
         × (commit < 4294967295) × (g .free ≡ length (freePages small (pagesOf small (now image)) (g .head))) × (k .pages + 1 ≤ g .free + 32 * k .width)
         × Spare blocks (g .head) (take (k .width) (now ring))
-        × Packs (groupIn (k .anew) small limit (pagesOf small (now image)) (now lens) (now slots) count (now buffer)) limit (now bounds) (k .pages) ⌝ }
-    ensures { λ r. ⌜ Carries (k .anew) small limit (now (lens .entry)) (now (slots .entry)) count (now (buffer .entry)) (g .head) (take (k .width) (now (ring .entry)))
+        × Packs (groupIn (k .snapshot) small limit (pagesOf small (now image)) (now lens) (now slots) count (now buffer)) limit (now bounds) (k .pages) ⌝ }
+    ensures { λ r. ⌜ Carries (k .snapshot) small limit (now (lens .entry)) (now (slots .entry)) count (now (buffer .entry)) (g .head) (take (k .width) (now (ring .entry)))
         (now (bounds .entry)) (k .pages) commit (now (torn .entry)) power (now (image .entry)) (now (image .exit))
         (now («new_lens» .entry)) (now («new_slots» .entry)) (now («new_lens» .exit)) (now («new_slots» .exit)) r ⌝ }
 {
     let head = g.head;
     let free = g.free;
     let width = k.width;
-    let anew = k.anew;
+    let snapshot = k.snapshot;
     let pages = k.pages;
     let need = pages + 1;
     let mut places = [0; 160];
@@ -152,7 +146,7 @@ fn carry_out(
         buffer,
         count,
         limit,
-        anew,
+        snapshot,
         bounds,
         &places,
         pages,
@@ -184,7 +178,7 @@ pub fn execute(
         (now (image .entry)) (now (image .exit)) (now («new_lens» .entry)) (now («new_slots» .entry)) (now («new_lens» .exit)) (now («new_slots» .exit)) r ⌝ }
 {
     let mut ring = [0; 32];
-    let g = ground::survey(image, lens, slots, limit, blocks, commit, &mut ring);
+    let g = survey::survey(image, lens, slots, limit, blocks, commit, &mut ring);
     let unused = g.unused;
     let free = g.free;
     let spare = blocks / 8 + 1;

@@ -5,7 +5,7 @@ ghost use lib.ListN.{length};
 ghost use Rattle.chip.specs.Geometry.{small};
 ghost use Rattle.chip.specs.Chip.{Ran};
 ghost use Rattle.pages.specs.Write.{writes};
-ghost use Rattle.commits.specs.Turn.{Advances, NotesPage, Reaches};
+ghost use Rattle.commits.specs.WriteCode.{Advances, NotesPage, Reaches};
 use chip::power::Power;
 use pages::unit;
 use pages::write;
@@ -38,7 +38,7 @@ fn write_page(
     buffer: &[u8; 11520],
     count: usize,
     limit: u32,
-    anew: bool,
+    snapshot: bool,
     bounds: &[u32],
     places: &[u32],
     index: usize,
@@ -51,7 +51,7 @@ fn write_page(
 ) -> Power
     requires { ⌜ (length (now image) % 528 ≡ 0) × (limit ≤ 256) × (length (now bounds) ≡ 257) × (length (now places) ≡ 160) × (index < total)
         × (length (now torn) ≡ 528) × Reaches limit (length (now image)) (now bounds) (now places) total ⌝ }
-    ensures { λ r. ⌜ Advances anew small limit (now (lens .entry)) (now (slots .entry)) count (now (buffer .entry)) (now (bounds .entry)) (now (places .entry)) total commit
+    ensures { λ r. ⌜ Advances snapshot small limit (now (lens .entry)) (now (slots .entry)) count (now (buffer .entry)) (now (bounds .entry)) (now (places .entry)) total commit
         (now (torn .entry)) index (index + 1) power r (now (image .entry)) (now (image .exit))
         (now («new_lens» .entry)) (now («new_slots» .entry)) (now («new_lens» .exit)) (now («new_slots» .exit)) ⌝ }
 {
@@ -66,7 +66,7 @@ fn write_page(
         buffer,
         count,
         limit,
-        anew,
+        snapshot,
         from,
         to,
         commit,
@@ -87,7 +87,7 @@ fn write_listed(
     buffer: &[u8; 11520],
     count: usize,
     limit: u32,
-    anew: bool,
+    snapshot: bool,
     bounds: &[u32],
     places: &[u32],
     total: usize,
@@ -99,7 +99,7 @@ fn write_listed(
 ) -> Power
     requires { ⌜ (length (now image) % 528 ≡ 0) × (limit ≤ 256) × (length (now bounds) ≡ 257) × (length (now places) ≡ 160)
         × (length (now torn) ≡ 528) × Reaches limit (length (now image)) (now bounds) (now places) total ⌝ }
-    ensures { λ r. ⌜ Advances anew small limit (now (lens .entry)) (now (slots .entry)) count (now (buffer .entry)) (now (bounds .entry)) (now (places .entry)) total commit
+    ensures { λ r. ⌜ Advances snapshot small limit (now (lens .entry)) (now (slots .entry)) count (now (buffer .entry)) (now (bounds .entry)) (now (places .entry)) total commit
         (now (torn .entry)) 0 total power r (now (image .entry)) (now (image .exit))
         (now («new_lens» .entry)) (now («new_slots» .entry)) (now («new_lens» .exit)) (now («new_slots» .exit)) ⌝ }
 {
@@ -113,7 +113,7 @@ fn write_listed(
             buffer,
             count,
             limit,
-            anew,
+            snapshot,
             bounds,
             places,
             i,
@@ -137,7 +137,7 @@ pub fn write_pages(
     buffer: &[u8; 11520],
     count: usize,
     limit: u32,
-    anew: bool,
+    snapshot: bool,
     bounds: &[u32; 257],
     places: &[u32; 160],
     total: usize,
@@ -148,7 +148,7 @@ pub fn write_pages(
     new_slots: &mut [u32; 1024],
 ) -> Power
     requires { ⌜ (length (now image) % 528 ≡ 0) × (limit ≤ 256) × (length (now torn) ≡ 528) × Reaches limit (length (now image)) (now bounds) (now places) total ⌝ }
-    ensures { λ r. ⌜ Advances anew small limit (now (lens .entry)) (now (slots .entry)) count (now (buffer .entry)) (now (bounds .entry)) (now (places .entry)) total commit
+    ensures { λ r. ⌜ Advances snapshot small limit (now (lens .entry)) (now (slots .entry)) count (now (buffer .entry)) (now (bounds .entry)) (now (places .entry)) total commit
         (now (torn .entry)) 0 total power r (now (image .entry)) (now (image .exit))
         (now («new_lens» .entry)) (now («new_slots» .entry)) (now («new_lens» .exit)) (now («new_slots» .exit)) ⌝ }
 {
@@ -159,7 +159,7 @@ pub fn write_pages(
         buffer,
         count,
         limit,
-        anew,
+        snapshot,
         bounds,
         places,
         total,

@@ -12,27 +12,36 @@ use Rattle.store.specs.declared.state.UpdatedParts.{UpdatedParts}
 use Rattle.store.specs.declared.state.WroteParts.{WroteParts}
 use Rattle.exports.specs.declared.finds.Told.{Told}
 use Rattle.exports.specs.Told.{lookTold, reportTold}
-use Rattle.exports.specs.Words.{numbersIn, wordsOf}
-use Rattle.exports.specs.Calls.{LooksUp, BlockReports, InsertsTold, DeletesTold, Tells, FormatsTold, MountsTold, CommitsTold}
+use Rattle.exports.specs.Words.{numbersIn, Loads, wordsOf}
+use Rattle.exports.proofs.ExactLaws.{Narrow, words-back, bounds-narrow, format-narrow, mount-narrow}
+use Rattle.exports.specs.Calls.{LooksTold, ReportsTold, InsertsTold, DeletesTold, Tells, FormatsTold, MountsTold, CommitsTold}
 
-module _ (words : List ℕ) (n : Numbers) (e : n ≡ numbersIn words) where
+-- numbers loaded make a state with blocks and units in 32 bits
+loaded-narrow : (words : List ℕ) (n : Numbers) → Loads words n → (buffer lens slots : List ℕ) → Narrow (joined n buffer lens slots)
+loaded-narrow words n e buffer lens slots = record { blocks = e .blocks; units = e .count }
+
+-- words written as the numbers of a state in 32 bits
+exactly : (words' : List ℕ) (n : Numbers) (buffer lens slots : List ℕ) → words' ≡ wordsOf n → Narrow (joined n buffer lens slots) → numbersIn words' ≡ n
+exactly words' n buffer lens slots e h = ap numbersIn e ∙ words-back n (h .blocks) (h .units)
+
+module _ (words : List ℕ) (n : Numbers) (e : Loads words n) where
   pub looked : (key : ℕ) (buffer lens slots image : List ℕ) (l : Look) (t : Told) → t ≡ lookTold l → Looks key (joined n buffer lens slots) image l
-      → LooksUp key words buffer lens slots image (t .refusal) (t .first ∷ t .second ∷ [])
+      → LooksTold key words buffer lens slots image (t .refusal) (t .first ∷ t .second ∷ [])
   looked key buffer lens slots image l t f h =
       record {
         look = l;
-        says = subst (λ (m : Numbers). Looks key (joined m buffer lens slots) image l) e h;
+        says = subst (λ (m : Numbers). Looks key (joined m buffer lens slots) image l) (e .is) h;
         refusal = ap (λ (x : Told). x .refusal) f;
         tells = ap (λ (x : Told). x .first ∷ x .second ∷ []) f;
       }
 
   pub reported : (block : ℕ) (image : List ℕ) (l : Report) (t : Told) → t ≡ reportTold l
       → ((buffer lens slots : List ℕ) → Reports block (joined n buffer lens slots) image l)
-      → BlockReports block words image (t .refusal) (t .first ∷ t .second ∷ [])
+      → ReportsTold block words image (t .refusal) (t .first ∷ t .second ∷ [])
   reported block image l t f h =
       record {
         report = l;
-        says = λ (buffer lens slots : List ℕ). subst (λ (m : Numbers). Reports block (joined m buffer lens slots) image l) e (h buffer lens slots);
+        says = λ (buffer lens slots : List ℕ). subst (λ (m : Numbers). Reports block (joined m buffer lens slots) image l) (e .is) (h buffer lens slots);
         refusal = ap (λ (x : Told). x .refusal) f;
         tells = ap (λ (x : Told). x .first ∷ x .second ∷ []) f;
       }
@@ -44,9 +53,12 @@ module _ (words : List ℕ) (n : Numbers) (e : n ≡ numbersIn words) where
   inserted key value buffer lens slots image u r words' buffer' f g h =
       record {
         result = u;
-        says = subst (λ (m : Numbers). Inserts key value (joined m buffer lens slots) image (updatedWith u buffer' lens slots)) e h;
+        says = subst (λ (m : Numbers). Inserts key value (joined m buffer lens slots) image (updatedWith u buffer' lens slots)) (e .is) h;
         refusal = f;
         saved = g;
+        exact =
+            exactly words' (u .numbers) buffer' lens slots g
+            (bounds-narrow (joined n buffer lens slots) (joined (u .numbers) buffer' lens slots) (h .bounds) (loaded-narrow words n e buffer lens slots));
       }
 
   pub deleted : (key : ℕ) (buffer lens slots image : List ℕ) (u : UpdatedParts) (r : ℕ) (words' buffer' : List ℕ)
@@ -56,9 +68,12 @@ module _ (words : List ℕ) (n : Numbers) (e : n ≡ numbersIn words) where
   deleted key buffer lens slots image u r words' buffer' f g h =
       record {
         result = u;
-        says = subst (λ (m : Numbers). Deletes key (joined m buffer lens slots) image (updatedWith u buffer' lens slots)) e h;
+        says = subst (λ (m : Numbers). Deletes key (joined m buffer lens slots) image (updatedWith u buffer' lens slots)) (e .is) h;
         refusal = f;
         saved = g;
+        exact =
+            exactly words' (u .numbers) buffer' lens slots g
+            (bounds-narrow (joined n buffer lens slots) (joined (u .numbers) buffer' lens slots) (h .bounds) (loaded-narrow words n e buffer lens slots));
       }
 
   pub formatted : (allowance : ℕ) (torn lens slots image : List ℕ) (w : WroteParts) (r : ℕ) (ops words' lens' slots' image' : List ℕ)
@@ -68,8 +83,11 @@ module _ (words : List ℕ) (n : Numbers) (e : n ≡ numbersIn words) where
   formatted allowance torn lens slots image w r ops words' lens' slots' image' t h =
       record {
         result = w;
-        says = λ (buffer : List ℕ). subst (λ (m : Numbers). Formats allowance torn (joined m buffer lens slots) image (wroteWith w buffer lens' slots') image') e (h buffer);
+        says = λ (buffer : List ℕ). subst (λ (m : Numbers). Formats allowance torn (joined m buffer lens slots) image (wroteWith w buffer lens' slots') image') (e .is) (h buffer);
         tells = t;
+        exact =
+            exactly words' (w .numbers) [] lens' slots' (t .saved)
+            (format-narrow allowance torn (joined n [] lens slots) image (wroteWith w [] lens' slots') image' (loaded-narrow words n e [] lens slots) (h []));
       }
 
   pub mounted : (allowance : ℕ) (torn lens slots image : List ℕ) (w : WroteParts) (r : ℕ) (ops words' lens' slots' image' : List ℕ)
@@ -79,8 +97,11 @@ module _ (words : List ℕ) (n : Numbers) (e : n ≡ numbersIn words) where
   mounted allowance torn lens slots image w r ops words' lens' slots' image' t h =
       record {
         result = w;
-        says = λ (buffer : List ℕ). subst (λ (m : Numbers). Mounts allowance torn (joined m buffer lens slots) image (wroteWith w buffer lens' slots') image') e (h buffer);
+        says = λ (buffer : List ℕ). subst (λ (m : Numbers). Mounts allowance torn (joined m buffer lens slots) image (wroteWith w buffer lens' slots') image') (e .is) (h buffer);
         tells = t;
+        exact =
+            exactly words' (w .numbers) [] lens' slots' (t .saved)
+            (mount-narrow allowance torn (joined n [] lens slots) image (wroteWith w [] lens' slots') image' (loaded-narrow words n e [] lens slots) (h []));
       }
 
   pub committed : (allowance : ℕ) (torn buffer lens slots image : List ℕ) (w : WroteParts) (r : ℕ) (ops words' lens' slots' image' : List ℕ)
@@ -90,6 +111,9 @@ module _ (words : List ℕ) (n : Numbers) (e : n ≡ numbersIn words) where
   committed allowance torn buffer lens slots image w r ops words' lens' slots' image' t h =
       record {
         result = w;
-        says = subst (λ (m : Numbers). Commits allowance torn (joined m buffer lens slots) image (wroteWith w buffer lens' slots') image') e h;
+        says = subst (λ (m : Numbers). Commits allowance torn (joined m buffer lens slots) image (wroteWith w buffer lens' slots') image') (e .is) h;
         tells = t;
+        exact =
+            exactly words' (w .numbers) buffer lens' slots' (t .saved)
+            (bounds-narrow (joined n buffer lens slots) (joined (w .numbers) buffer lens' slots') (h .bounds) (loaded-narrow words n e buffer lens slots));
       }

@@ -1,2 +1,4 @@
 pub mod CallLaws
+pub mod ExportedLists
 pub mod WordLaws
+pub mod ExactLaws

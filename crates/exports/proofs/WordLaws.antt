@@ -1,24 +1,23 @@
 -- The numbers of a state and a caller's words.
 use mathlib.Core.Path.{_≡_}
-use mathlib.Core.Bool.{Bool}
 use mathlib.Core.List.{List, [], _∷_}
-use Prim.Native.Nat.{ℕ, _%_}
+use Prim.Native.Nat.{ℕ, _%_, _<_}
 use lib.Dec.{eqb}
 use lib.ListN.{getD}
 use Rattle.store.specs.declared.state.Numbers.{Numbers}
-use Rattle.exports.specs.Words.{bit, numbersIn, wordsOf}
+use Rattle.exports.specs.Words.{bit, Loads, wordsOf}
 
 -- numbers read from the words one by one
-pub loaded : (words : List ℕ) (b n : ℕ) → b ≡ getD words 1 0 → n ≡ getD words 5 0
-    → _≡_ {A = Numbers} (record {
+pub loaded : (words : List ℕ) (b n : ℕ) → (b ≡ getD words 1 0) × (b < 4294967296) → (n ≡ getD words 5 0) × (n < 4294967296)
+    → Loads words (record {
       on = eqb (getD words 0 0) 1;
       blocks = b;
       commit = getD words 2 0;
       pending = getD words 3 0;
       next = getD words 4 0;
       count = n;
-    }) (numbersIn words)
-loaded words b n e f = cc
+    })
+loaded words b n e f = record { is = (let p = e .0 in let q = f .0 in cc); blocks = e .1; count = f .1 }
 
 -- words written one by one
 pub saved : (n : Numbers) (a b c : ℕ) → a ≡ bit (n .on) → b ≡ n .blocks % 4294967296 → c ≡ n .count % 4294967296

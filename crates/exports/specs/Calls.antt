@@ -1,4 +1,5 @@
--- What each exported call ensures: it tells in numbers a result that the contract of the store's call holds of.
+-- What each exported call ensures: it tells in numbers a result that the contract of the store's call holds of. The words that it leaves read back
+-- exactly as the numbers of that result (`exact`), on any words and any image.
 use mathlib.Core.Path.{_≡_}
 use mathlib.Core.List.{List, [], _∷_}
 use Prim.Native.Nat.{ℕ}
@@ -13,14 +14,14 @@ use Rattle.exports.specs.Told.{lookTold, reportTold}
 use Rattle.exports.specs.Words.{numbersIn, wordsOf}
 
 -- look up: the refusal r, and the value and the pages read in `told`
-pub record LooksUp (key : ℕ) (words buffer lens slots image : List ℕ) (r : ℕ) (told : List ℕ) : Type 0 where
+pub record LooksTold (key : ℕ) (words buffer lens slots image : List ℕ) (r : ℕ) (told : List ℕ) : Type 0 where
   pub look : Look
   pub says : Looks key (joined (numbersIn words) buffer lens slots) image look
   pub refusal : r ≡ lookTold look .refusal
   pub tells : told ≡ lookTold look .first ∷ lookTold look .second ∷ []
 
 -- block report, whatever the arrays: the refusal r, and the free pages and the first of them in `told`
-pub record BlockReports (block : ℕ) (words image : List ℕ) (r : ℕ) (told : List ℕ) : Type 0 where
+pub record ReportsTold (block : ℕ) (words image : List ℕ) (r : ℕ) (told : List ℕ) : Type 0 where
   pub report : Report
   pub says : (buffer lens slots : List ℕ) → Reports block (joined (numbersIn words) buffer lens slots) image report
   pub refusal : r ≡ reportTold report .refusal
@@ -32,6 +33,7 @@ pub record InsertsTold (key value : ℕ) (words buffer lens slots image : List �
   pub says : Inserts key value (joined (numbersIn words) buffer lens slots) image (updatedWith result buffer' lens slots)
   pub refusal : r ≡ refusalNumber (result .answer)
   pub saved : words' ≡ wordsOf (result .numbers)
+  pub exact : numbersIn words' ≡ result .numbers
 
 -- delete: the same
 pub record DeletesTold (key : ℕ) (words buffer lens slots image : List ℕ) (r : ℕ) (words' buffer' : List ℕ) : Type 0 where
@@ -39,6 +41,7 @@ pub record DeletesTold (key : ℕ) (words buffer lens slots image : List ℕ) (r
   pub says : Deletes key (joined (numbersIn words) buffer lens slots) image (updatedWith result buffer' lens slots)
   pub refusal : r ≡ refusalNumber (result .answer)
   pub saved : words' ≡ wordsOf (result .numbers)
+  pub exact : numbersIn words' ≡ result .numbers
 
 -- what format, mount and commit tell of a result: the refusal r, the operations, and the words
 pub record Tells (result : WroteParts) (r : ℕ) (ops words' : List ℕ) : Type 0 where
@@ -51,15 +54,18 @@ pub record FormatsTold (allowance : ℕ) (torn words lens slots image : List ℕ
   pub result : WroteParts
   pub says : (buffer : List ℕ) → Formats allowance torn (joined (numbersIn words) buffer lens slots) image (wroteWith result buffer lens' slots') image'
   pub tells : Tells result r ops words'
+  pub exact : numbersIn words' ≡ result .numbers
 
 -- mount, whatever the buffer: the same
 pub record MountsTold (allowance : ℕ) (torn words lens slots image : List ℕ) (r : ℕ) (ops words' lens' slots' image' : List ℕ) : Type 0 where
   pub result : WroteParts
   pub says : (buffer : List ℕ) → Mounts allowance torn (joined (numbersIn words) buffer lens slots) image (wroteWith result buffer lens' slots') image'
   pub tells : Tells result r ops words'
+  pub exact : numbersIn words' ≡ result .numbers
 
 -- commit: the same with the buffer
 pub record CommitsTold (allowance : ℕ) (torn words buffer lens slots image : List ℕ) (r : ℕ) (ops words' lens' slots' image' : List ℕ) : Type 0 where
   pub result : WroteParts
   pub says : Commits allowance torn (joined (numbersIn words) buffer lens slots) image (wroteWith result buffer lens' slots') image'
   pub tells : Tells result r ops words'
+  pub exact : numbersIn words' ≡ result .numbers

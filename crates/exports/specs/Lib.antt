@@ -1,3 +1,4 @@
 pub mod Calls
+pub mod Exported
 pub mod Told
 pub mod Words

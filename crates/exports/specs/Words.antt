@@ -1,7 +1,8 @@
 -- The numbers of a state in a caller's six words: on, blocks, commit, pending, next, count.
+use mathlib.Core.Path.{_≡_}
 use mathlib.Core.Bool.{Bool, true, false}
 use mathlib.Core.List.{List, [], _∷_}
-use Prim.Native.Nat.{ℕ, _%_}
+use Prim.Native.Nat.{ℕ, _%_, _<_}
 use lib.Dec.{eqb}
 use lib.ListN.{getD}
 use Rattle.store.specs.declared.state.Numbers.{Numbers}
@@ -22,6 +23,12 @@ numbersIn words =
       next = getD words 4 0;
       count = getD words 5 0;
     }
+
+-- n are the numbers loaded from the words: blocks and count have 32 bits
+pub record Loads (words : List ℕ) (n : Numbers) : Type 0 where
+  pub is : n ≡ numbersIn words
+  pub blocks : n .blocks < 4294967296
+  pub count : n .count < 4294967296
 
 -- the words of these numbers, blocks and count modulo 2 to the power 32
 abbrev pub wordsOf : Numbers → List ℕ

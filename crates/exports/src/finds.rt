@@ -1,7 +1,7 @@
 // Look up and block report.
 ghost use mathlib.Core.Path.{_≡_};
 ghost use Rattle.exports.specs.Told.{lookTold, reportTold};
-ghost use Rattle.exports.specs.Calls.{LooksUp, BlockReports};
+ghost use Rattle.exports.specs.Calls.{LooksTold, ReportsTold};
 use crate::numbers;
 use store::answer::Look;
 use store::answer::Report;
@@ -82,7 +82,7 @@ pub extern "C" fn vehinoke_look_up<'a>(
     key: u32,
     told: &mut [u32; 2],
 ) -> u32
-    ensures { λ r. ⌜ LooksUp key (now (numbers .entry)) (now (buffer .entry)) (now (lens .entry)) (now (slots .entry)) (now (image .entry)) r (now (told .exit)) ⌝ }
+    ensures { λ r. ⌜ LooksTold key (now (numbers .entry)) (now (buffer .entry)) (now (lens .entry)) (now (slots .entry)) (now (image .entry)) r (now (told .exit)) ⌝ }
 {
     let n = numbers::load(numbers);
     let t = look_told(find::look_up_lent(n, lens, slots, buffer, image, key));
@@ -98,7 +98,7 @@ pub extern "C" fn vehinoke_block_report(
     block: u32,
     told: &mut [u32; 2],
 ) -> u32
-    ensures { λ r. ⌜ BlockReports block (now (numbers .entry)) (now (image .entry)) r (now (told .exit)) ⌝ }
+    ensures { λ r. ⌜ ReportsTold block (now (numbers .entry)) (now (image .entry)) r (now (told .exit)) ⌝ }
 {
     let n = numbers::load(numbers);
     let t = report_told(report::block_report_lent(n, image, block));

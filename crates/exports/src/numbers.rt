@@ -1,12 +1,12 @@
 // The numbers of a state as the caller keeps them, in six words: on (1, else off), blocks, commit, pending, next, count.
 ghost use mathlib.Core.Path.{_≡_};
-ghost use Prim.Native.Nat.{_%_};
-ghost use Rattle.exports.specs.Words.{numbersIn, wordsOf, bit};
+ghost use Prim.Native.Nat.{_%_, _<_};
+ghost use Rattle.exports.specs.Words.{Loads, wordsOf, bit};
 use store::state::Numbers;
 
 // A word at the width of an index.
 fn wide(x: u32) -> usize
-    ensures { λ r. ⌜ r ≡ x ⌝ }
+    ensures { λ r. ⌜ (r ≡ x) × (r < 4294967296) ⌝ }
 {
     x as usize
 }
@@ -27,7 +27,7 @@ fn word(on: bool) -> u32
 
 // The numbers that the words hold.
 pub fn load(words: &[u32; 6]) -> Numbers
-    ensures { λ r. ⌜ r ≡ numbersIn (now (words .entry)) ⌝ }
+    ensures { λ r. ⌜ Loads (now (words .entry)) r ⌝ }
 {
     Numbers {
         on: words[0] == 1,

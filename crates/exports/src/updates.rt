@@ -1,5 +1,4 @@
 // Insert and delete.
-ghost use mathlib.Core.Path.{_≡_};
 ghost use Rattle.exports.specs.Calls.{InsertsTold, DeletesTold};
 use crate::numbers;
 use store::answer;

@@ -4,7 +4,7 @@ use mathlib.Core.List.{List, [], _∷_, _++_}
 use Prim.Native.Nat.{ℕ}
 use lib.ListN.{replicate}
 use Rattle.store.specs.declared.step.Call.the-variants.{Format, Insert, Delete, LookUp, Commit, Mount}
-use Rattle.store.specs.declared.answer.Answer.the-variants.{Accepted, Found, Off, Power}
+use Rattle.store.specs.declared.answer.Answer.the-variants.{Accepted, Found, Off, Cut}
 use Rattle.frames.specs.Frames.{none, frame, frameOf, answerText, badText}
 
 -- n zeros
@@ -51,7 +51,7 @@ answers :
     × (answerText (Found 99) ≡ zeros 8 ++ (54 ∷ 51 ∷ []))
     × (answerText (Found 4294967295) ≡ 48 ∷ 48 ∷ replicate 8 70)
     × (answerText Off ≡ 48 ∷ 50 ∷ [])
-    × (answerText Power ≡ 48 ∷ 65 ∷ [])
+    × (answerText Cut ≡ 48 ∷ 65 ∷ [])
     × (badText ≡ 70 ∷ 70 ∷ [])
 unfolding answerText
 answers = (refl, refl, refl, refl, refl, refl)

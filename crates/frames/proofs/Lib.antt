@@ -3,3 +3,4 @@ pub mod LineLaws
 pub mod FrameLaws
 pub mod TextLaws
 pub mod Examples
+pub mod LinesLaws

@@ -11,7 +11,7 @@ use borrow.Author.Tests.{ne-eqb}
 use Rattle.frames.specs.declared.line.Line.{Line}
 use Rattle.frames.specs.declared.frame.Frame.{Frame}
 use Rattle.frames.specs.Frames.{allDigits, none, frameOf}
-use Rattle.frames.specs.Lines.{Longer, Empties, framed, Frames}
+use Rattle.frames.specs.LineCode.{Longer, Empties, framed, Frames}
 use Rattle.lists.proofs.Tests.{cases}
 
 -- a length below 19 is that of the bytes

@@ -8,7 +8,7 @@ use Rattle.lists.specs.Lists.{all}
 use Rattle.store.specs.declared.step.Call.{Call}
 use Rattle.store.specs.declared.step.Call.the-variants.{Format, Insert, Delete, LookUp, Commit, Mount}
 use Rattle.store.specs.declared.answer.Answer.{Answer}
-use Rattle.store.specs.declared.answer.Answer.the-variants.{Accepted, Found, Size, Off, Full, Absent, Nodes, Numbers, Blank, Layout, Shape, Power}
+use Rattle.store.specs.declared.answer.Answer.the-variants.{Accepted, Found, Size, Off, Full, Absent, Nodes, Last, Blank, Layout, Shape, Cut}
 use Rattle.store.specs.Answers.{refusalNumber}
 
 -- the number of a digit, 0 to 9 and A to F; 16 for a byte that is no digit
@@ -87,11 +87,11 @@ valueText Off = []
 valueText Full = []
 valueText Absent = []
 valueText Nodes = []
-valueText Numbers = []
+valueText Last = []
 valueText Blank = []
 valueText Layout = []
 valueText Shape = []
-valueText Power = []
+valueText Cut = []
 
 -- the refusal in two digits, 00 for none, then the value found
 unfoldable pub answerText : Answer → List ℕ

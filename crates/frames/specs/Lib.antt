@@ -1,2 +1,3 @@
 pub mod Frames
+pub mod LineCode
 pub mod Lines

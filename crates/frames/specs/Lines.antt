@@ -1,41 +1,15 @@
--- What the structs of the code hold: a line read, a frame, a text to write.
-use mathlib.Core.Path.{_≡_}
-use mathlib.Core.Bool.{Bool, true, false, cond}
+-- Bytes as lines: a line feed ends a line.
+use mathlib.Core.Bool.{cond}
 use mathlib.Core.List.{List, [], _∷_, _++_}
-use Prim.Native.Nat.{ℕ, _≤_, min}
-use lib.ListN.{length, take}
-use Rattle.frames.specs.declared.line.Line.{Line}
-use Rattle.frames.specs.declared.frame.Frame.{Frame}
-use Rattle.frames.specs.declared.text.Text.{Text}
-use Rattle.frames.specs.Frames.{Framed, none, frame, frameOf}
+use Prim.Native.Nat.{ℕ}
+use lib.Dec.{eqb}
 
--- a line holds the bytes bs: the first 18 of them, and their number, 19 for more than 18
-pub record Holds (l : Line) (bs : List ℕ) : Type 0 where
-  pub len : l .len ≡ min 19 (length bs)
-  pub bytes : take (l .len) (l .bytes) ≡ take 18 bs
+-- the lines that end in these bytes, where `begun` is what the line had before them: a line feed ends a line
+abbrev pub linesIn : (begun bytes : List ℕ) → List (List ℕ)
+linesIn begun [] = []
+linesIn begun (b ∷ bs) = cond (eqb b 10) (begun ∷ linesIn [] bs) (linesIn (begun ++ (b ∷ [])) bs)
 
--- r holds what l holds and a byte behind it
-unfoldable pub Longer : Line → ℕ → Line → Type 0
-Longer l b r = (bs : List ℕ) → Holds l bs → Holds r (bs ++ (b ∷ []))
-
--- no bytes
-abbrev pub isNone : List ℕ → Bool
-isNone [] = true
-isNone (b ∷ bs) = false
-
--- r says whether a line holds no bytes
-unfoldable pub Empties : Line → Bool → Type 0
-Empties l r = (bs : List ℕ) → Holds l bs → r ≡ isNone bs
-
--- the frame that the code gives
-abbrev pub framed : Frame → Framed
-framed f = cond (f .good) (frame (f .call)) none
-
--- f is the frame of whatever the line holds
-unfoldable pub Frames : Line → Frame → Type 0
-Frames l f = (bs : List ℕ) → Holds l bs → framed f ≡ frameOf bs
-
--- a text says bs: these bytes and a line feed
-pub record Says (t : Text) (bs : List ℕ) : Type 0 where
-  pub len : t .len ≤ 11
-  pub bytes : take (t .len) (t .bytes) ≡ bs ++ (10 ∷ [])
+-- and what the line begun has after them
+abbrev pub lineAfter : (begun bytes : List ℕ) → List ℕ
+lineAfter begun [] = begun
+lineAfter begun (b ∷ bs) = cond (eqb b 10) (lineAfter [] bs) (lineAfter (begun ++ (b ∷ [])) bs)

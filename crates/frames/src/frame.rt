@@ -4,7 +4,7 @@ ghost use mathlib.Core.Bool.{true};
 ghost use Prim.Native.Nat.{_≤_};
 ghost use lib.ListN.{length};
 ghost use Rattle.frames.specs.Frames.{digitOf, allDigits, value, none, bare, single, double, frameOf};
-ghost use Rattle.frames.specs.Lines.{framed, Frames};
+ghost use Rattle.frames.specs.LineCode.{framed, Frames};
 use crate::line::Line;
 use store::step::Call;
 

@@ -1,6 +1,6 @@
 // A line as it is read, byte by byte.
 ghost use mathlib.Core.List.{[]};
-ghost use Rattle.frames.specs.Lines.{Holds, Longer, Empties};
+ghost use Rattle.frames.specs.LineCode.{LineHolds, Longer, Empties};
 
 // The number of bytes, 19 where a line is longer than any frame, and the first 18 bytes.
 pub struct Line {
@@ -10,7 +10,7 @@ pub struct Line {
 
 // A line with no bytes yet.
 pub fn no_line() -> Line
-    ensures { λ r. ⌜ Holds r [] ⌝ }
+    ensures { λ r. ⌜ LineHolds r [] ⌝ }
 {
     Line {
         len: 0,

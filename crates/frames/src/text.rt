@@ -3,7 +3,7 @@ ghost use mathlib.Core.Path.{_≡_};
 ghost use mathlib.Core.List.{_++_};
 ghost use Prim.Native.Nat.{_<_};
 ghost use Rattle.frames.specs.Frames.{digitText, hexText, answerText, badText};
-ghost use Rattle.frames.specs.Lines.{Says};
+ghost use Rattle.frames.specs.LineCode.{TextSays};
 use store::answer::Answer;
 
 // A line with its line feed: its length and its bytes.
@@ -26,7 +26,7 @@ pub fn digit_text(d: u32) -> u8
 
 // Two digits of a number.
 fn short_text(n: u32) -> Text
-    ensures { λ r. ⌜ Says r (hexText n 2) ⌝ }
+    ensures { λ r. ⌜ TextSays r (hexText n 2) ⌝ }
 {
     let high = digit_text(n / 16 % 16);
     let low = digit_text(n % 16);
@@ -38,7 +38,7 @@ fn short_text(n: u32) -> Text
 
 // The text of a value found.
 fn found_text(v: u32) -> Text
-    ensures { λ r. ⌜ Says r (hexText 0 2 ++ hexText v 8) ⌝ }
+    ensures { λ r. ⌜ TextSays r (hexText 0 2 ++ hexText v 8) ⌝ }
 {
     Text {
         len: 11,
@@ -60,7 +60,7 @@ fn found_text(v: u32) -> Text
 
 // The text of an answer.
 pub fn answer_text(answer: Answer) -> Text
-    ensures { λ r. ⌜ Says r (answerText answer) ⌝ }
+    ensures { λ r. ⌜ TextSays r (answerText answer) ⌝ }
 {
     match answer {
         Answer::Accepted => short_text(0),
@@ -70,17 +70,17 @@ pub fn answer_text(answer: Answer) -> Text
         Answer::Full => short_text(3),
         Answer::Absent => short_text(4),
         Answer::Nodes => short_text(5),
-        Answer::Numbers => short_text(6),
+        Answer::Last => short_text(6),
         Answer::Blank => short_text(7),
         Answer::Layout => short_text(8),
         Answer::Shape => short_text(9),
-        Answer::Power => short_text(10),
+        Answer::Cut => short_text(10),
     }
 }
 
 // The text for a line that is no frame.
 pub fn bad_text() -> Text
-    ensures { λ r. ⌜ Says r badText ⌝ }
+    ensures { λ r. ⌜ TextSays r badText ⌝ }
 {
     Text {
         len: 3,

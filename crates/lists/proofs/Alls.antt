@@ -1,11 +1,10 @@
 -- Laws of All, all and any. Assumes nothing.
 use mathlib.Core.Path.{_≡_, refl}
-use mathlib.Core.Bool.{Bool, true, false, cond, _&&_, _||_}
+use mathlib.Core.Bool.{Bool, true, false}
 use mathlib.Core.List.{List, [], _∷_, _++_, map}
-use Prim.Native.Nat.{ℕ, zero, suc, _<_}
-use native.Mathlib.Omega.{arith}
+use Prim.Native.Nat.{ℕ, zero, suc}
 use lib.ListN.{length, take, drop, replicate}
-use Rattle.lists.specs.Lists.{filter, all, any, All, none, more, insert, sort, At, modify, mapFrom}
+use Rattle.lists.specs.Lists.{filter, all, any, All, none, more, modify, mapFrom}
 use Rattle.lists.proofs.Tests.{cases, clash, and-left, and-right}
 
 module _ {A : Type 0} {P : A → Type 0} where
@@ -61,11 +60,6 @@ module _ {A : Type 0} {P : A → Type 0} where
   pub All-mapFrom : (i : ℕ) (f : ℕ → A → A) → ((n : ℕ) (x : A) → P x → P (f n x)) → (xs : List A) → All P xs → All P (mapFrom i f xs)
   All-mapFrom i f k [] h = none
   All-mapFrom i f k (x ∷ xs) h = more (k i x (All-head h)) (All-mapFrom (suc i) f k xs (All-tail h))
-
-  pub All-at : (n : ℕ) (x : A) {xs : List A} → All P xs → At n x xs → P x
-  All-at n x none a = absurd a
-  All-at zero x (more h hs) a = rw a h
-  All-at (suc n) x (more h hs) a = All-at n x hs a
 
 module _ {A : Type 0} where
   pub all-All : (p : A → Bool) (xs : List A) → all p xs ≡ true → All (λ (x : A). p x ≡ true) xs

@@ -1,11 +1,11 @@
 -- Laws of filter and count. Assumes nothing.
-use mathlib.Core.Path.{_≡_, refl, sym, ap, _∙_}
-use mathlib.Core.Bool.{Bool, true, false, not, cond}
+use mathlib.Core.Path.{_≡_, refl}
+use mathlib.Core.Bool.{Bool, true, false, not}
 use mathlib.Core.List.{List, [], _∷_, _++_}
-use Prim.Native.Nat.{ℕ, zero, suc, _+_, _≤_, _<_}
+use Prim.Native.Nat.{_+_, _≤_}
 use native.Mathlib.Omega.{arith}
 use lib.ListN.{length}
-use Rattle.lists.specs.Lists.{filter, all, any, All, none, more, bit, count, first}
+use Rattle.lists.specs.Lists.{filter, all, All, none, more, count}
 use Rattle.lists.proofs.Tests.{cases}
 
 module _ {A : Type 0} where
@@ -37,10 +37,6 @@ module _ {A : Type 0} where
   pub count-most : (p : A → Bool) (xs : List A) → count p xs ≤ length xs
   count-most p [] = omega arith
   count-most p (x ∷ xs) = cases (p x) (λ t. rw t (omega (arith, count-most p xs))) (λ t. rw t (omega (arith, count-most p xs)))
-
-  pub first-most : (p : A → Bool) (xs : List A) → first p xs ≤ length xs
-  first-most p [] = omega arith
-  first-most p (x ∷ xs) = cases (p x) (λ t. rw t (omega arith)) (λ t. rw t (omega (arith, first-most p xs)))
 
 pub count-append : {A : Type 0} (p : A → Bool) (a b : List A) → count p (a ++ b) ≡ count p a + count p b
 count-append p [] b = omega arith

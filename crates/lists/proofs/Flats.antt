@@ -3,12 +3,11 @@ use mathlib.Core.Path.{_≡_, refl, sym, ap, _∙_}
 use mathlib.Core.Bool.{Bool, true, _&&_}
 use mathlib.Core.List.{List, [], _∷_, _++_, map, append-assoc}
 use Prim.Native.Nat.{ℕ, zero, suc, _+_, _<_}
-use native.Mathlib.Nat.{not-suc-le-zero}
 use native.Mathlib.Omega.{arith}
 use lib.ListN.{length, take, drop, getD}
-use Rattle.lists.specs.Lists.{filter, all, All, none, more, tab, flat, modify}
+use Rattle.lists.specs.Lists.{all, All, none, more, tab, flat}
 use Rattle.lists.proofs.Tests.{cases, and-left, and-right}
-use Rattle.lists.proofs.Alls.{All-append, All-left, All-right}
+use Rattle.lists.proofs.Alls.{All-append}
 
 -- ---- f k, f (k + 1), ..
 module _ {A : Type 0} where
@@ -58,32 +57,11 @@ module _ {A B : Type 0} where
   map-append f [] ys = refl
   map-append f (x ∷ xs) ys = ap (λ (l : List B). f x ∷ l) (map-append f xs ys)
 
-  -- what holds of each part that a filter leaves
-  pub All-flat-filter : {P : B → Type 0} (f : A → List B) (k : A → Bool) (xs : List A) → All P (flat f xs) → All P (flat f (filter k xs))
-  All-flat-filter f k [] h = none
-  All-flat-filter f k (x ∷ xs) h =
-      let r = All-flat-filter f k xs (All-right (f x) (flat f xs) h) in
-      cases (k x) (λ t. rw t (All-append (All-left (f x) (flat f xs) h) r)) (λ t. rw t r)
-
 -- ---- every element of joined lists
 module _ {A : Type 0} where
   pub all-append : (p : A → Bool) (xs ys : List A) → all p (xs ++ ys) ≡ (all p xs && all p ys)
   all-append p [] ys = refl
   all-append p (x ∷ xs) ys = cases (p x) (λ e. rw (e, all-append p xs ys)) (λ e. rw e)
-
--- ---- one element altered, by index
-module _ {A : Type 0} where
-  pub getD-modify : (n : ℕ) (f : A → A) (xs : List A) (d : A) → n < length xs → getD (modify n f xs) n d ≡ f (getD xs n d)
-  getD-modify n f [] d h = absurd (not-suc-le-zero h)
-  getD-modify zero f (x ∷ xs) d h = refl
-  getD-modify (suc n) f (x ∷ xs) d h = getD-modify n f xs d (omega arith)
-
-  pub getD-modify-other : (m n : ℕ) (f : A → A) (xs : List A) (d : A) → (m ≡ n → ⊥) → getD (modify m f xs) n d ≡ getD xs n d
-  getD-modify-other m n f [] d h = refl
-  getD-modify-other zero zero f (x ∷ xs) d h = absurd (h refl)
-  getD-modify-other zero (suc n) f (x ∷ xs) d h = refl
-  getD-modify-other (suc m) zero f (x ∷ xs) d h = refl
-  getD-modify-other (suc m) (suc n) f (x ∷ xs) d h = getD-modify-other m n f xs d (λ e. h (ap suc e))
 
 -- ---- map of a part
 module _ {A B : Type 0} where

@@ -7,3 +7,4 @@ pub mod Parts
 pub mod Anys
 pub mod Flats
 pub mod Ends
+pub mod Sets

@@ -5,10 +5,9 @@ use Prim.Native.Nat.{ℕ, zero, suc, _+_, _*_, _-_, _≤_, _<_}
 use native.Mathlib.Nat.{suc-mul, zero-mul, add-mul, add-sub-cancel-left, not-suc-le-zero, le-of-lt}
 use native.Mathlib.Numerals.{add-one}
 use native.Mathlib.Omega.{arith}
-use lib.ListN.{length, take, drop, set, getD, replicate, length-append, length-drop, take-append-drop, length-replicate, drop-of-length-le}
-use lib.Seq.{take-at, drop-at, length-take-le, take-append-le, drop-append-le, take-take, drop-drop, take-length, drop-length, drop-cons, set-at, append-snoc, take-suc}
+use lib.ListN.{length, take, drop, set, getD, replicate, length-append, length-drop, take-append-drop, drop-of-length-le}
+use lib.Seq.{take-at, drop-at, length-take-le, take-append-le, drop-append-le, drop-drop, take-length, drop-length, drop-cons, set-at, append-snoc, take-suc}
 use Rattle.lists.specs.Lists.{All, none, more, flat, repeat, part, patch, cut, modify}
-use Rattle.lists.proofs.Alls.{All-head, All-tail}
 use Rattle.lists.proofs.Places.{modify-patch}
 
 module _ {A : Type 0} where
@@ -19,21 +18,6 @@ module _ {A : Type 0} where
   pub length-patch : (xs : List A) (a k : ℕ) (ys : List A) → a + k ≤ length xs → length ys ≡ k → length (patch xs a k ys) ≡ length xs
   length-patch xs a k ys h e =
       simp (length-append, length-drop) (omega (arith, length-take-le a xs (omega arith), e))
-
-  -- the part that was put is the part that is read
-  pub part-patch : (xs : List A) (a k : ℕ) (ys : List A) → a ≤ length xs → length ys ≡ k → part a k (patch xs a k ys) ≡ ys
-  part-patch xs a k ys h e =
-      ap (take k) (drop-at (take a xs) (ys ++ drop k (drop a xs)) a (length-take-le a xs h))
-      ∙ take-at ys (drop k (drop a xs)) k e
-
-  -- the second of two patches at one place stays
-  pub patch-patch : (xs : List A) (a k : ℕ) (ys zs : List A) → a ≤ length xs → length ys ≡ k
-      → patch (patch xs a k ys) a k zs ≡ patch xs a k zs
-  patch-patch xs a k ys zs h e =
-      let len = length-take-le a xs h in
-      ap₂ (λ (p q : List A). p ++ (zs ++ q))
-      (take-at (take a xs) (ys ++ drop k (drop a xs)) a len)
-      (ap (drop k) (drop-at (take a xs) (ys ++ drop k (drop a xs)) a len) ∙ drop-at ys (drop k (drop a xs)) k e)
 
   -- a part put back as it was
   pub patch-same : (xs : List A) (a k : ℕ) → patch xs a k (part a k xs) ≡ xs
@@ -81,12 +65,6 @@ module _ {A : Type 0} where
   cut-at k (suc n) (suc p) xs d h =
       cut-at k n p (drop k xs) d (omega arith)
       ∙ ap (take k) (drop-drop (p * k) k xs ∙ ap (λ (m : ℕ). drop m xs) (let e : k + p * k ≡ suc p * k = omega (arith, suc-mul p k) in e))
-
-  -- the first m of n pieces, and the others
-  pub take-cut : (k m n : ℕ) (xs : List A) → m ≤ n → take m (cut k n xs) ≡ cut k m xs
-  take-cut k zero n xs h = refl
-  take-cut k (suc m) zero xs h = absurd (not-suc-le-zero h)
-  take-cut k (suc m) (suc n) xs h = ap (λ (l : List (List A)). take k xs ∷ l) (take-cut k m n (drop k xs) (omega arith))
 
   -- m pieces of a list of a + m + r pieces replaced
   module _ (k a m r n : ℕ) (xs : List A) (en : n ≡ a + (m + r)) (lx : length xs ≡ n * k) where

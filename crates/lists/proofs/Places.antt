@@ -1,11 +1,11 @@
 -- Laws of modify, mapFrom and At: one element altered, each altered by its index. Assumes nothing.
-use mathlib.Core.Path.{_≡_, refl, sym, ap, ap₂, _∙_}
+use mathlib.Core.Path.{_≡_, refl, sym, ap, ap₂}
 use mathlib.Core.List.{List, [], _∷_, _++_}
-use Prim.Native.Nat.{ℕ, zero, suc, _+_, _≤_, _<_}
+use Prim.Native.Nat.{ℕ, zero, suc, _+_, _<_}
 use native.Mathlib.Nat.{not-suc-le-zero}
 use native.Mathlib.Omega.{arith}
-use lib.ListN.{length, take, drop, set, getD}
-use Rattle.lists.specs.Lists.{At, modify, mapFrom, patch, part}
+use lib.ListN.{length, getD}
+use Rattle.lists.specs.Lists.{At, modify, mapFrom, patch}
 
 module _ {A : Type 0} where
   pub length-modify : (n : ℕ) (f : A → A) (xs : List A) → length (modify n f xs) ≡ length xs
@@ -47,16 +47,10 @@ module _ {A : Type 0} where
   At-is zero x (y ∷ ys) d h = sym h
   At-is (suc n) x (y ∷ ys) d h = At-is n x ys d h
 
-  pub At-below : (n : ℕ) (x : A) (xs : List A) → At n x xs → n < length xs
-  At-below n x [] h = absurd h
-  At-below zero x (y ∷ ys) h = omega arith
-  At-below (suc n) x (y ∷ ys) h = omega (arith, At-below n x ys h)
-
-  -- two alterations that do the same to the element that is there
-  pub modify-ext : (n : ℕ) (f g : A → A) (xs : List A) → ((x : A) → At n x xs → f x ≡ g x) → modify n f xs ≡ modify n g xs
-  modify-ext n f g [] h = refl
-  modify-ext zero f g (x ∷ xs) h = rw (h x refl)
-  modify-ext (suc n) f g (x ∷ xs) h = rw (modify-ext n f g xs h)
+  -- the element behind a part
+  pub at-seam : (pre : List A) (x : A) (xs : List A) → At (length pre) x (pre ++ x ∷ xs)
+  at-seam [] x xs = refl
+  at-seam (p ∷ pre) x xs = at-seam pre x xs
 
   pub modify-id : (n : ℕ) (xs : List A) → modify n (λ x. x) xs ≡ xs
   modify-id n [] = refl

@@ -40,6 +40,11 @@ pub data All {A : Type 0} (P : A → Type 0) : List A → Type 0 where
   none : All P []
   more : {x : A} {xs : List A} → P x → All P xs → All P (x ∷ xs)
 
+-- no element twice
+abbrev pub Diff : {A : Type 0} → List A → Type 0
+Diff [] = Unit {0}
+Diff (x ∷ xs) = All (λ y. x ≡ y → ⊥) xs × Diff xs
+
 -- x stands at index n
 abbrev pub At : {A : Type 0} → ℕ → A → List A → Type 0
 At n x [] = ⊥

@@ -20,31 +20,32 @@ use Rattle.chip.specs.Page.{Page, blank, tornPage, marked, programmed}
 use Rattle.chip.specs.Chip.{erase, filled, whole}
 use Rattle.chip.proofs.Marks.{blank-quiet, torn-quiet, first, second, first-quiet, second-quiet, third-live, third-data}
 use Rattle.chip.proofs.Runs.{after}
+use Rattle.chip.specs.Power.{takesEffect}
 use Rattle.pages.specs.Steps.{Live, live, liveFrom, commit, before, ordered, stand, steps}
-use Rattle.pages.proofs.LivePages.{outside, quiet, grow}
+use Rattle.pages.proofs.LivePages.{outside, quiet, becomes-live}
 use Rattle.pages.proofs.Order.{Next, is-before, next-before, chain-front}
 use Rattle.pages.proofs.Pairs.{own}
 use Rattle.pages.proofs.Settle.{top, voids, Run, run-full, run-short, run-left, run-last, run-same, run-behind}
-use Rattle.views.specs.Table.{events, Node, turn, isWell, Meaning, means, meaning}
+use Rattle.views.specs.Table.{events, Node, turn, isWell, NodesRead, means, meaning}
 use Rattle.views.proofs.Folds.{events-append, node-append}
 use Rattle.views.proofs.Meanings.{inOrder, meaning-ordered, Standing, standing-read, standing-means, standing-clean, erased, erased-ordered}
 use Rattle.views.proofs.Rooms.{Unlisted, Outside}
 use Rattle.views.proofs.ViewLaws.{Apart}
-use Rattle.log.specs.Commit.{writesOf, commitOps, cleared, won}
+use Rattle.log.specs.Commit.{writesOf, commitOps, cleared}
 use Rattle.log.proofs.CommitBuilt.{NextCommit}
 
 -- ---- the last operation decides
-pub won-next : (t n m : ℕ) → won t (suc n) (suc m) ≡ won t n m
-won-next t n m = rw (leb·suc-suc m n, eqb·suc-suc (suc n) m)
+pub takes-next : (t n m : ℕ) → takesEffect t (suc n) (suc m) ≡ takesEffect t n m
+takes-next t n m = rw (leb·suc-suc m n, eqb·suc-suc (suc n) m)
 
-pub won-none : (t n : ℕ) → won t n 0 ≡ true
-won-none t n = rw (le-leb 0 n (omega arith))
+pub takes-none : (t n : ℕ) → takesEffect t n 0 ≡ true
+takes-none t n = rw (le-leb 0 n (omega arith))
 
-pub won-far : (t n m : ℕ) → suc n < m → won t n m ≡ false
-won-far t n m h = rw (lt-leb m n (omega arith), ne-eqb (suc n) m (λ e. omega arith))
+pub takes-far : (t n m : ℕ) → suc n < m → takesEffect t n m ≡ false
+takes-far t n m h = rw (lt-leb m n (omega arith), ne-eqb (suc n) m (λ e. omega arith))
 
-pub won-last : (t n : ℕ) → won t n (suc n) ≡ eqb t 0
-won-last t n = rw (lt-leb (suc n) n (omega arith), eq-eqb (suc n) (suc n) refl)
+pub takes-last : (t n : ℕ) → takesEffect t n (suc n) ≡ eqb t 0
+takes-last t n = rw (lt-leb (suc n) n (omega arith), eq-eqb (suc n) (suc n) refl)
 
 module _ (g : Geometry) (limit : ℕ) (T : ℕ → Node) (c : ℕ) (s : List Live) (z : Live) (h : Standing g limit T c s z) (well : all isWell (tab 0 limit T) ≡ true) where
   under : All (λ (x : Live). commit x < suc c) (s ++ (z ∷ []))
@@ -133,21 +134,19 @@ module _ (g : Geometry) (room : 3 ≤ g .spare) (ps : List Page) (x : Live) (siz
       let same : y ≡ x = ap (λ (b : List ℕ). record { place = x .place; bytes = b }) (third-data g 0 (x .bytes) size v) in
       let o : inOrder g (put g x ps) ≡ inOrder g ps = torn-two (x .bytes) size in
       let b : All (λ (w : Live). before w x ≡ true) (inOrder g (put g x ps)) = rw o (All-map (λ w k. is-before w x (next-before w x k)) n) in
-      grow g (marked g Valid v) (x .place) 0 (x .place) (second g 0 (x .bytes)) (put g x ps) (omega arith) at-two (second-quiet g 0 (x .bytes) size)
+      becomes-live g (marked g Valid v) (x .place) 0 (x .place) (second g 0 (x .bytes)) (put g x ps) (omega arith) at-two (second-quiet g 0 (x .bytes) size)
       (third-live g 0 (x .bytes) size v room ∙ e) (rw same (sort-All before (liveFrom g 0 (put g x ps)) b))
       ∙ ap₂ (λ (l : List Live) (w : Live). l ++ (w ∷ [])) o same
 
 -- ---- the writesOf
-length-writesOf : (x : Live) (w : List Live) → length (flat writesOf (x ∷ w)) ≡ suc (suc (suc (length (flat writesOf w))))
-length-writesOf x w = refl
 
 module _ (g : Geometry) (limit : ℕ) (torn : List ℕ) (room : 3 ≤ g .spare) (lt : g .area ≤ length torn)
     (T : ℕ → Node) (c : ℕ) (s : List Live) (z : Live) (h : Standing g limit T c s z) (well : all isWell (tab 0 limit T) ≡ true)
     (news : List Live) (plan : NextCommit g limit T c news) where
-  abbrev old : Meaning
+  abbrev old : NodesRead
   old = means (tab 0 limit T) c
 
-  abbrev new : Meaning
+  abbrev new : NodesRead
   new = means (tab 0 limit (λ n. foldl (turn n) (T n) (events limit news))) (suc c)
 
   -- v is written, w is left
@@ -179,18 +178,18 @@ module _ (g : Geometry) (limit : ℕ) (torn : List ℕ) (room : 3 ≤ g .spare) 
 
   -- the valid mark torn
   cut-valid : (w v : List Live) (x : Live) (ps : List Page) → v ++ (x ∷ w) ≡ news → inOrder g ps ≡ (s ++ (z ∷ [])) ++ v → At (x .place) (blank g) ps
-      → meaning g limit (wrote g x (getD torn 0 0) ps) ≡ cond (won (getD torn 0 0) 2 (length (flat writesOf (x ∷ w)))) new old
+      → meaning g limit (wrote g x (getD torn 0 0) ps) ≡ cond (takesEffect (getD torn 0 0) 2 (length (flat writesOf (x ∷ w)))) new old
   cut-valid [] v x ps e o f =
       let t = getD torn 0 0 in
       cases (eqb t 0)
-      (λ q. rw (won-last t 2, q) (none-left (wrote g x t ps) (v ++ (x ∷ [])) e (landed t ps v x [] e o f q)))
-      (λ q. rw (won-last t 2, q) (some-left (wrote g x t ps) v x [] e (torn-three g room ps x (sized v x [] e) f t q ∙ o)))
+      (λ q. rw (takes-last t 2, q) (none-left (wrote g x t ps) (v ++ (x ∷ [])) e (landed t ps v x [] e o f q)))
+      (λ q. rw (takes-last t 2, q) (some-left (wrote g x t ps) v x [] e (torn-three g room ps x (sized v x [] e) f t q ∙ o)))
   cut-valid (y ∷ w) v x ps e o f =
       let t = getD torn 0 0 in
       cases (eqb t 0)
-      (λ q. rw (won-far t 2 (length (flat writesOf (x ∷ y ∷ w))) (omega arith))
+      (λ q. rw (takes-far t 2 (length (flat writesOf (x ∷ y ∷ w))) (omega arith))
       (some-left (wrote g x t ps) (v ++ (x ∷ [])) y w (more-done v x (y ∷ w) e) (landed t ps v x (y ∷ w) e o f q)))
-      (λ q. rw (won-far t 2 (length (flat writesOf (x ∷ y ∷ w))) (omega arith))
+      (λ q. rw (takes-far t 2 (length (flat writesOf (x ∷ y ∷ w))) (omega arith))
       (some-left (wrote g x t ps) v x (y ∷ w) e (torn-three g room ps x (sized v x (y ∷ w) e) f t q ∙ o)))
 
   still-free : (x : Live) (w : List Live) (ps : List Page) → All (λ (y : Live). At (y .place) (blank g) ps) w → All (λ (y : Live). y .place ≡ x .place → ⊥) w
@@ -204,20 +203,20 @@ module _ (g : Geometry) (limit : ℕ) (torn : List ℕ) (room : 3 ≤ g .spare) 
 
   written : (w v : List Live) (n : ℕ) (ps : List Page) → v ++ w ≡ news → inOrder g ps ≡ (s ++ (z ∷ [])) ++ v
       → All (λ (x : Live). At (x .place) (blank g) ps) w → Apart w
-      → meaning g limit (after g torn n ps (flat writesOf w)) ≡ cond (won (getD torn 0 0) n (length (flat writesOf w))) new old
-  written [] v n ps e o f a = rw (won-none (getD torn 0 0) n) (none-left ps v (sym (append-nil v) ∙ e) o)
+      → meaning g limit (after g torn n ps (flat writesOf w)) ≡ cond (takesEffect (getD torn 0 0) n (length (flat writesOf w))) new old
+  written [] v n ps e o f a = rw (takes-none (getD torn 0 0) n) (none-left ps v (sym (append-nil v) ∙ e) o)
   written (x ∷ w) v zero ps e o f a =
       let t = getD torn 0 0 in
-      rw (won-far t 0 (length (flat writesOf (x ∷ w))) (omega arith))
+      rw (takes-far t 0 (length (flat writesOf (x ∷ w))) (omega arith))
       (some-left (modify (x .place) (marked g Used t) ps) v x w e (torn-one g room ps x (sized v x w e) (All-head f) t ∙ o))
   written (x ∷ w) v (suc zero) ps e o f a =
-      rw (won-far (getD torn 0 0) 1 (length (flat writesOf (x ∷ w))) (omega arith))
+      rw (takes-far (getD torn 0 0) 1 (length (flat writesOf (x ∷ w))) (omega arith))
       (some-left (modify (x .place) (programmed g (take (g .area) torn)) (used g x ps)) v x w e
       (torn-two g room ps x (sized v x w e) (All-head f) (take (g .area) torn) (length-take-le (g .area) torn lt) ∙ o))
   written (x ∷ w) v (suc (suc zero)) ps e o f a = cut-valid w v x ps e o (All-head f)
   written (x ∷ w) v (suc (suc (suc n))) ps e o f a =
       let t = getD torn 0 0 in let m = length (flat writesOf w) in
-      rw (won-next t (suc (suc n)) (suc (suc m)) ∙ won-next t (suc n) (suc m) ∙ won-next t n m)
+      rw (takes-next t (suc (suc n)) (suc (suc m)) ∙ takes-next t (suc n) (suc m) ∙ takes-next t n m)
       (written w (v ++ (x ∷ [])) n (wrote g x 0 ps) (more-done v x w e) (landed 0 ps v x w e o (All-head f) refl)
       (still-free x w ps (All-tail f) (a .0)) (a .1))
 
@@ -250,18 +249,18 @@ module _ (g : Geometry) (limit : ℕ) (torn : List ℕ) (room : 3 ≤ g .spare) 
   pub cut : (bs : List ℕ) (s : List Live) (n : ℕ) (ps : List Page) → Standing g limit T c s z → inOrder g ps ≡ s ++ (z ∷ [])
       → All (Unlisted g limit T) bs → All (Outside g c (s ++ (z ∷ []))) bs → All (λ (x : Live). At (x .place) (blank g) (cleared g bs ps)) news
       → meaning g limit (after g torn n ps (commitOps bs news))
-      ≡ cond (won (getD torn 0 0) n (length (commitOps bs news))) (means (tab 0 limit (λ m. foldl (turn m) (T m) (events limit news))) (suc c)) (means (tab 0 limit T) c)
+      ≡ cond (takesEffect (getD torn 0 0) n (length (commitOps bs news))) (means (tab 0 limit (λ m. foldl (turn m) (T m) (events limit news))) (suc c)) (means (tab 0 limit T) c)
   cut [] s n ps h o un out f = written g limit torn room lt T c s z h well news plan news [] n ps refl (o ∙ sym (append-nil (s ++ (z ∷ [])))) f apart
   cut (b ∷ bs) s zero ps h o un out f =
       let t = getD torn 0 0 in
-      let far = won-far t 0 (suc (length (commitOps bs news))) (omega (arith, some-ops bs news (plan .some))) in
+      let far = takes-far t 0 (suc (length (commitOps bs news))) (omega (arith, some-ops bs news (plan .some))) in
       cases (eqb t 0)
       (λ q. rw (far, q) (standing-means g limit T c s z h well ps o))
       (λ q. rw (far, q)
       (standing-means g limit T c (filter (outside g b) s) z (erased g limit T c s z h b (All-head un) (All-head out)) well
       (mapFrom 0 (filled g b (tornPage g torn)) ps) (erased-ordered g limit T c s z h b (All-head un) (All-head out) (tornPage g torn) ps (torn-quiet g torn) o)))
   cut (b ∷ bs) s (suc n) ps h o un out f =
-      rw (won-next (getD torn 0 0) n (length (commitOps bs news)))
+      rw (takes-next (getD torn 0 0) n (length (commitOps bs news)))
       (cut bs (filter (outside g b) s) n (whole g (erase b) ps) (erased g limit T c s z h b (All-head un) (All-head out))
       (erased-ordered g limit T c s z h b (All-head un) (All-head out) (blank g) ps (blank-quiet g) o) (All-tail un)
       (All-map (λ d k. still-out s b d k) (All-tail out)) f)

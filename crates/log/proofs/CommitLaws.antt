@@ -1,22 +1,22 @@
 -- The cut law of a commit: from what the image means, for every allowance and torn bytes, the old meaning or the new one. Assumes nothing.
 use mathlib.Core.Path.{_≡_, _∙_}
-use mathlib.Core.Bool.{cond, _&&_}
+use mathlib.Core.Bool.{cond}
 use mathlib.Core.List.{List, foldl}
-use Prim.Native.Nat.{ℕ, suc, _≤_, _<_}
-use lib.Dec.{eqb}
+use Prim.Native.Nat.{ℕ, suc, _≤_}
 use lib.ListN.{length, getD}
-use borrow.Author.Tests.{le-leb, lt-leb}
+use borrow.Author.Tests.{le-leb}
 use Rattle.lists.specs.Lists.{All, At, tab}
 use Rattle.chip.specs.Geometry.{Geometry}
 use Rattle.chip.specs.Page.{Page, blank}
 use Rattle.chip.specs.Chip.{run}
 use Rattle.chip.proofs.Runs.{with-power, run-parts}
+use Rattle.chip.specs.Power.{takesEffect}
 use Rattle.pages.specs.Steps.{Live}
 use Rattle.views.specs.Table.{events, Node, turn, means, meaning}
 use Rattle.views.proofs.Meanings.{inOrder, Kept, nodeIn, opened}
 use Rattle.views.proofs.Rooms.{Unlisted, Outside}
 use Rattle.views.proofs.ViewLaws.{Apart}
-use Rattle.log.specs.Commit.{commitOps, cleared, won}
+use Rattle.log.specs.Commit.{commitOps, cleared}
 use Rattle.log.proofs.CommitBuilt.{NextCommit}
 use Rattle.log.proofs.CommitCut.{cut, cut-clean}
 
@@ -33,7 +33,7 @@ module _ (g : Geometry) (limit : ℕ) (torn : List ℕ) (spare : 3 ≤ g .spare)
 
   -- the cut law, for every allowance n
   pub cut-law : (n : ℕ) → meaning g limit (run g torn (with-power n ps) (commitOps bs news) .pages)
-      ≡ cond (won (getD torn 0 0) n (length (commitOps bs news))) (means newTable (suc c)) (means tb c)
+      ≡ cond (takesEffect (getD torn 0 0) n (length (commitOps bs news))) (means newTable (suc c)) (means tb c)
   cut-law n =
       let o = opened g limit ps tb c k in
       rw (run-parts g torn n ps (commitOps bs news), o .tables)
@@ -44,12 +44,6 @@ module _ (g : Geometry) (limit : ℕ) (torn : List ℕ) (spare : 3 ≤ g .spare)
   pub finished : (n : ℕ) → length (commitOps bs news) ≤ n
       → meaning g limit (run g torn (with-power n ps) (commitOps bs news) .pages) ≡ means newTable (suc c)
   finished n h = cut-law n ∙ rw (le-leb (length (commitOps bs news)) n h)
-
-  -- cut: the new meaning exactly if only the last valid mark was left and was torn to 0, else the old one
-  pub cut-short : (n : ℕ) → n < length (commitOps bs news)
-      → meaning g limit (run g torn (with-power n ps) (commitOps bs news) .pages)
-      ≡ cond (eqb (suc n) (length (commitOps bs news)) && eqb (getD torn 0 0) 0) (means newTable (suc c)) (means tb c)
-  cut-short n h = cut-law n ∙ rw (lt-leb (length (commitOps bs news)) n h)
 
   -- finished, no page is void: the next call may rely on it
   pub finished-kept : (n : ℕ) → length (commitOps bs news) ≤ n

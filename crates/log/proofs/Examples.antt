@@ -9,13 +9,12 @@ use Rattle.chip.specs.Geometry.{Geometry, small}
 use Rattle.chip.specs.Page.{Page, isSet, blank, tornPage}
 use Rattle.chip.specs.Chip.{erase, mark, program, inBlock, run}
 use Rattle.pages.specs.declared.unit.Update.the-variants.{Insert}
-use Rattle.pages.specs.declared.unit.Unit as U
 use Rattle.pages.specs.Units.{decode, encode}
 use Rattle.pages.specs.Data.{obeys, laid, dataOf}
 use Rattle.pages.specs.Steps.{commit, index, count, before, isAt, full, stand, steps, live}
 use Rattle.views.specs.Nodes.{view}
-use Rattle.views.specs.Table.{eventsOf, fresh, nodeOf, isWell, Meaning, refusal, means, meaning}
-use Rattle.log.specs.Mount.{voidPages, mountOps, mounted}
+use Rattle.views.specs.Table.{eventsOf, fresh, nodeOf, isWell, NodesRead, refusal, means, meaning}
+use Rattle.log.specs.Mount.{voidPages, mountOps, mountedBy}
 use Rattle.log.specs.Format.{formatData, formatOps, formattedBy, formatted, formatPage}
 
 -- a chip with pages of one unit, two pages a block
@@ -27,10 +26,10 @@ abbrev page : ℕ → ℕ → ℕ → Page
 page c i n = dataOf tiny c i n (record { node = 0; update = Insert 7 99 } ∷ []) ++ (0 ∷ 0 ∷ 255 ∷ [])
 
 -- what a chip with nodes 0 and 1 means
-abbrev reads : List Page → Meaning
+abbrev reads : List Page → NodesRead
 reads ps = meaning tiny 2 ps
 
-abbrev leafOnly : Meaning
+abbrev leafOnly : NodesRead
 leafOnly = means (record { now = view 0 []; pages = 0 ∷ [] } ∷ fresh ∷ []) 1
 
 -- torn bytes: all 90, and all 0
@@ -65,12 +64,12 @@ mounts :
     (reads chip ≡ leafOnly)
     × (steps tiny chip ≡ stand (live tiny 3 (page 2 0 3) ∷ live tiny 1 (page 2 2 3) ∷ []) (live tiny 0 (formatPage tiny) ∷ []))
     × (mountOps tiny chip ≡ mark 1 Obsolete ∷ mark 3 Obsolete ∷ [])
-    × (steps tiny (mounted tiny some 2 chip .pages) ≡ stand [] (live tiny 0 (formatPage tiny) ∷ []))
-    × (reads (mounted tiny some 2 chip .pages) ≡ leafOnly)
-    × (reads (mounted tiny some 1 chip .pages) ≡ leafOnly)
-    × (reads (mounted tiny zeros 1 chip .pages) ≡ leafOnly)
-    × (reads (mounted tiny some 0 chip .pages) ≡ leafOnly)
-    × (mounted tiny some 1 chip .power ≡ Gone)
+    × (steps tiny (mountedBy tiny some 2 chip .pages) ≡ stand [] (live tiny 0 (formatPage tiny) ∷ []))
+    × (reads (mountedBy tiny some 2 chip .pages) ≡ leafOnly)
+    × (reads (mountedBy tiny some 1 chip .pages) ≡ leafOnly)
+    × (reads (mountedBy tiny zeros 1 chip .pages) ≡ leafOnly)
+    × (reads (mountedBy tiny some 0 chip .pages) ≡ leafOnly)
+    × (mountedBy tiny some 1 chip .power ≡ Gone)
 unfolding meaning steps isSet blank run encode laid obeys commit index count before full isAt decode eventsOf nodeOf isWell voidPages
 mounts = (refl, refl, refl, refl, refl, refl, refl, refl, refl)
 

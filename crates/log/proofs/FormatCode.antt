@@ -1,15 +1,14 @@
 -- The loop of a format over the blocks, and the data of its page. Assumes nothing.
-use mathlib.Core.Path.{_≡_, refl, sym, ap, _∙_}
+use mathlib.Core.Path.{_≡_, sym, ap, _∙_}
 use mathlib.Core.List.{List, [], _∷_, _++_, append-nil}
-use Prim.Native.Nat.{ℕ, suc, _+_}
+use Prim.Native.Nat.{ℕ, _+_}
 use native.Mathlib.Numerals.{add-one}
 use native.Mathlib.Omega.{arith}
-use lib.ListN.{length}
 use Rattle.lists.specs.Lists.{tab}
 use Rattle.lists.proofs.Flats.{tab-last}
 use Rattle.chip.specs.declared.power.Power.{Power}
 use Rattle.chip.specs.Geometry.{Geometry, small}
-use Rattle.chip.specs.Chip.{Op, erase, Stepped, Ran}
+use Rattle.chip.specs.Chip.{erase, Stepped, Ran}
 use Rattle.chip.proofs.Runs.{ran-one, ran-append}
 use Rattle.pages.specs.Units.{encode}
 use Rattle.pages.specs.Data.{laid}

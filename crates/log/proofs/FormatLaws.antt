@@ -9,8 +9,7 @@ use lib.Dec.{ltb}
 use lib.ListN.{length, take, drop, replicate, length-append, length-drop, length-replicate, replicate-append-replicate}
 use lib.Seq.{take-at, drop-at}
 use borrow.Author.Tests.{eq-eqb, ne-eqb}
-use Rattle.lists.specs.Lists.{All, none, more, At, modify, tab}
-use Rattle.lists.proofs.Alls.{All-replicate}
+use Rattle.lists.specs.Lists.{none, more, modify, tab}
 use Rattle.lists.proofs.Places.{length-mapFrom}
 use Rattle.lists.proofs.Flats.{length-tab, all-tab}
 use Rattle.chip.specs.declared.page.Mark.the-variants.{Used, Valid}
@@ -19,10 +18,8 @@ use Rattle.chip.specs.Power.{done, isGone}
 use Rattle.chip.specs.Page.{Page, blank, marked, programmed}
 use Rattle.chip.specs.Chip.{Op, erase, filled, whole, Legal, Machine}
 use Rattle.chip.proofs.ImageLaws.{filled-patch}
-use Rattle.chip.proofs.Marks.{blank-quiet, third-live, third-data, marked-data, second, length-second}
-use Rattle.chip.proofs.PageLaws.{length-blank, length-marked}
-use Rattle.chip.proofs.Runs.{after, run-parts, run-done, run-gone, Sized}
-use Rattle.pages.specs.declared.unit.Unit as U
+use Rattle.chip.proofs.Marks.{blank-quiet, third-live, third-data, marked-data}
+use Rattle.chip.proofs.Runs.{after, run-parts, run-done, run-gone}
 use Rattle.pages.specs.declared.unit.Decoded.the-variants.{Good}
 use Rattle.pages.specs.declared.header.Head.{Head}
 use Rattle.pages.specs.Units.{encode}
@@ -35,7 +32,7 @@ use Rattle.pages.proofs.HeaderLaws.{laid-size, laid-head, laid-obeys}
 use Rattle.views.specs.Table.{Event, eventAt, events, nodeOf, isWell}
 use Rattle.views.proofs.Folds.{events-laid}
 use Rattle.views.proofs.Meanings.{inOrder, Standing, standing-means, standing-clean, Kept}
-use Rattle.log.specs.Format.{rootReset, formatData, formatOps, formattedBy, formatted, leaf, formatTable}
+use Rattle.log.specs.Format.{rootReset, formatData, formatOps, formattedBy, formatted, formatNode, formatTable}
 
 -- ---- how many operations
 pub format-count : (g : Geometry) (b : ℕ) → length (formatOps g b) ≡ b + 3
@@ -43,13 +40,13 @@ format-count g b = length-append (tab 0 b erase) (writes 0 (formatData g)) ∙ a
 
 -- ---- the erases
 -- the pages after blocks k, k + 1, .. are erased, m of them
-abbrev cleared : Geometry → ℕ → ℕ → List Page → List Page
-cleared g k zero ps = ps
-cleared g k (suc m) ps = cleared g (suc k) m (whole g (erase k) ps)
+abbrev clearedFrom : Geometry → ℕ → ℕ → List Page → List Page
+clearedFrom g k zero ps = ps
+clearedFrom g k (suc m) ps = clearedFrom g (suc k) m (whole g (erase k) ps)
 
 -- erases with power enough, and what follows them
 erases : (g : Geometry) (torn : List ℕ) (os : List Op) (m k n j : ℕ) (ps : List Page) → n ≡ m + j
-    → after g torn n ps (tab k m erase ++ os) ≡ after g torn j (cleared g k m ps) os
+    → after g torn n ps (tab k m erase ++ os) ≡ after g torn j (clearedFrom g k m ps) os
 erases g torn os zero k n j ps e = ap (λ (a : ℕ). after g torn a ps os) (let h : n ≡ j = omega arith in h)
 erases g torn os (suc m) k zero j ps e = absurd (omega arith)
 erases g torn os (suc m) k (suc n) j ps e = erases g torn os m (suc k) n j (whole g (erase k) ps) (omega arith)
@@ -70,18 +67,18 @@ module _ (g : Geometry) where
 
   -- all blocks from k on
   all-blank : (m k : ℕ) (rest : List Page) → length rest ≡ m * g .pages
-      → cleared g k m (replicate (k * g .pages) (blank g) ++ rest) ≡ replicate ((k + m) * g .pages) (blank g)
+      → clearedFrom g k m (replicate (k * g .pages) (blank g) ++ rest) ≡ replicate ((k + m) * g .pages) (blank g)
   all-blank zero k [] l = append-nil (replicate (k * g .pages) (blank g)) ∙ ap (λ (a : ℕ). replicate (a * g .pages) (blank g)) (let e : k ≡ k + 0 = omega arith in e)
   all-blank zero k (x ∷ rest) l = absurd (omega (arith, zero-mul (g .pages)))
   all-blank (suc m) k rest l =
       let s = suc-mul m (g .pages) in
-      ap (cleared g (suc k) m) (erase-next k rest (omega arith))
+      ap (clearedFrom g (suc k) m) (erase-next k rest (omega arith))
       ∙ all-blank m (suc k) (drop (g .pages) rest) (length-drop (g .pages) rest ∙ omega arith)
       ∙ ap (λ (a : ℕ). replicate (a * g .pages) (blank g)) (let e : suc k + m ≡ k + suc m = omega arith in e)
 
-  cleared-blank : (b : ℕ) (ps : List Page) → length ps ≡ b * g .pages → cleared g 0 b ps ≡ replicate (b * g .pages) (blank g)
+  cleared-blank : (b : ℕ) (ps : List Page) → length ps ≡ b * g .pages → clearedFrom g 0 b ps ≡ replicate (b * g .pages) (blank g)
   cleared-blank b ps l =
-      ap (λ (a : ℕ). cleared g 0 b (replicate a (blank g) ++ ps)) (sym (zero-mul (g .pages)))
+      ap (λ (a : ℕ). clearedFrom g 0 b (replicate a (blank g) ++ ps)) (sym (zero-mul (g .pages)))
       ∙ all-blank b 0 ps l ∙ ap (λ (a : ℕ). replicate (a * g .pages) (blank g)) (let e : 0 + b ≡ b = omega arith in e)
 
 -- ---- what a finished format leaves, whatever the image was
@@ -98,17 +95,6 @@ format-pages g torn b n ps l h =
     ∙ erases g torn (writes 0 (formatData g)) b 0 n (suc (suc (suc j))) ps (omega arith)
     ∙ ap (λ (qs : List Page). modify 0 (marked g Valid 0) (modify 0 (programmed g (formatData g)) (modify 0 (marked g Used 0) qs))) (cleared-blank g b ps l)
     ∙ written-first g (b * g .pages)
-
--- every other page is blank
-pub format-blank : (g : Geometry) (n p : ℕ) → 0 < p → p < n → At p (blank g) (formatted g n)
-format-blank g zero p h l = absurd (omega arith)
-format-blank g (suc n) zero h l = absurd (omega arith)
-format-blank g (suc n) (suc p) h l = at-replicate n p (omega arith)
-  where
-    at-replicate : (n p : ℕ) → p < n → At p (blank g) (replicate n (blank g))
-    at-replicate zero p l = absurd (omega arith)
-    at-replicate (suc n) zero l = refl
-    at-replicate (suc n) (suc p) l = at-replicate n p (omega arith)
 
 -- power is gone exactly with an allowance below b + 3, and the operations told are b + 3 or the allowance
 pub format-gone : (g : Geometry) (torn : List ℕ) (b n : ℕ) (ps : List Page) → isGone (formattedBy g torn b n ps .power) ≡ ltb n (b + 3)
@@ -138,7 +124,8 @@ module _ (g : Geometry) (room : 3 ≤ g .spare) (fits : 8 + 12 * g .units ≤ g 
   root-head : headOf (formatData g) ≡ record { commit = 1; index = 0; count = 1; units = 1 }
   root-head = laid-head g 1 0 1 1 (encode rootReset ++ []) (omega arith)
 
-  format-order : (n : ℕ) → inOrder g (formatted g (suc n)) ≡ root ∷ []
+  -- it is the one live page of a finished format
+  pub format-order : (n : ℕ) → inOrder g (formatted g (suc n)) ≡ root ∷ []
   format-order n =
       rw (third-live g 0 (formatData g) root-size 0 room, blank-live g 1 n)
       (ap (λ (d : List ℕ). record { place = 0; bytes = d } ∷ []) (third-data g 0 (formatData g) root-size 0))
@@ -163,12 +150,6 @@ module _ (g : Geometry) (room : 3 ≤ g .spare) (fits : 8 + 12 * g .units ≤ g 
         is = one-full root root-index root-count;
       }
 
-  -- every page has a page's size
-  pub formatted-sized : (n : ℕ) → All (Sized g) (formatted g n)
-  formatted-sized zero = none
-  formatted-sized (suc n) =
-      more (length-marked g Valid 0 (second g 0 (formatData g)) ∙ length-second g 0 (formatData g) root-size) (All-replicate n (blank g) (length-blank g))
-
   module _ (limit : ℕ) (nodes : 0 < limit) where
     -- its one unit
     root-events : events limit (root ∷ []) ≡ eventAt 0 (Good rootReset) ∷ []
@@ -176,12 +157,12 @@ module _ (g : Geometry) (room : 3 ≤ g .spare) (fits : 8 + 12 * g .units ≤ g 
         ap (λ (es : List Event). es ++ [])
         (events-laid g limit 0 1 0 1 (rootReset ∷ []) (omega arith) (more (record { node = nodes; update = omega arith }) none))
 
-    root-node : (n : ℕ) → nodeOf n (eventAt 0 (Good rootReset) ∷ []) ≡ leaf n
+    root-node : (n : ℕ) → nodeOf n (eventAt 0 (Good rootReset) ∷ []) ≡ formatNode n
     unfolding nodeOf
     root-node zero = refl
     root-node (suc n) = rw (ne-eqb 0 (suc n) (λ e. omega arith))
 
-    root-standing : Standing g limit leaf 1 [] root
+    root-standing : Standing g limit formatNode 1 [] root
     root-standing =
         record {
           is = root-whole;
@@ -190,7 +171,7 @@ module _ (g : Geometry) (room : 3 ≤ g .spare) (fits : 8 + 12 * g .units ≤ g 
           last = root-commit;
         }
 
-    leaf-well : (n : ℕ) → isWell (leaf n) ≡ true
+    leaf-well : (n : ℕ) → isWell (formatNode n) ≡ true
     unfolding isWell
     leaf-well zero = refl
     leaf-well (suc n) = refl
@@ -200,8 +181,8 @@ module _ (g : Geometry) (room : 3 ≤ g .spare) (fits : 8 + 12 * g .units ≤ g 
     formatted-kept zero h = absurd (omega arith)
     formatted-kept (suc n) h =
         record {
-          is = standing-means g limit leaf 1 [] root root-standing (all-tab isWell leaf 0 limit (λ k l. leaf-well k)) (formatted g (suc n)) (format-order n);
-          clean = standing-clean g limit leaf 1 [] root root-standing (formatted g (suc n)) (format-order n);
+          is = standing-means g limit formatNode 1 [] root root-standing (all-tab isWell formatNode 0 limit (λ k l. leaf-well k)) (formatted g (suc n)) (format-order n);
+          clean = standing-clean g limit formatNode 1 [] root root-standing (formatted g (suc n)) (format-order n);
         }
 
     -- of any image of b blocks, finished
@@ -216,7 +197,7 @@ erase-room g m k = omega (arith, add-mul k (suc m) (g .pages), suc-mul m (g .pag
 erase-more : (g : Geometry) (m k : ℕ) → (suc k + m) * g .pages ≡ (k + suc m) * g .pages
 erase-more g m k = ap (λ (a : ℕ). a * g .pages) (let e : suc k + m ≡ k + suc m = omega arith in e)
 
-erases-legal : (g : Geometry) (os : List Op) (m k : ℕ) (ps : List Page) → (k + m) * g .pages ≤ length ps → Legal g (cleared g k m ps) os
+erases-legal : (g : Geometry) (os : List Op) (m k : ℕ) (ps : List Page) → (k + m) * g .pages ≤ length ps → Legal g (clearedFrom g k m ps) os
     → Legal g ps (tab k m erase ++ os)
 erases-legal g os zero k ps l h = h
 erases-legal g os (suc m) k ps l h = (

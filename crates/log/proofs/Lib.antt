@@ -1,4 +1,3 @@
-pub mod Sets
 pub mod Voids
 pub mod PlaceOrder
 pub mod MountLaws
@@ -13,7 +12,6 @@ pub mod PlanFair
 pub mod PlanPacks
 pub mod PlanPlaces
 pub mod PlanBlocks
-pub mod PlanLoops
 pub mod PlanLive
 pub mod PlanLegal
 pub mod PlanBound

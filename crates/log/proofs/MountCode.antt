@@ -1,8 +1,8 @@
 -- The loop of a mount's marks over the pages. Assumes nothing.
-use mathlib.Core.Path.{_≡_, refl, sym, ap, ap₂, _∙_}
-use mathlib.Core.Bool.{Bool, true, false, cond, _&&_}
-use mathlib.Core.List.{List, [], _∷_, _++_, map, append-nil}
-use Prim.Native.Nat.{ℕ, zero, suc, _+_, _/_, _≤_, _<_}
+use mathlib.Core.Path.{_≡_, refl, ap, _∙_}
+use mathlib.Core.Bool.{true, false, cond}
+use mathlib.Core.List.{List, [], _∷_, _++_, map}
+use Prim.Native.Nat.{ℕ, suc, _+_, _≤_, _<_}
 use native.Mathlib.Numerals.{add-one}
 use native.Mathlib.Omega.{arith}
 use lib.Dec.{eqb}
@@ -25,7 +25,8 @@ use Rattle.pages.specs.Units.{word}
 use Rattle.pages.specs.Data.{headOf}
 use Rattle.pages.specs.Steps.{Live, live, liveFrom, commit, ofCommit}
 use Rattle.pages.proofs.LivePages.{places-below}
-use Rattle.log.specs.Mount.{retire, isOf, retireOne, retireOps}
+use Rattle.log.specs.Mount.{retire}
+use Rattle.log.specs.MountCode.{isOf, retireOne, retireOps}
 
 -- the commit number stands in the data area
 pub word-front : (x : Page) → headOf (take 512 x) .commit ≡ word x 0

@@ -6,20 +6,20 @@ use Prim.Native.Nat.{ℕ, zero, suc, _+_, _*_, _/_, _≤_, _<_, min}
 use native.Mathlib.Omega.{arith}
 use lib.Dec.{eqb, ltb}
 use lib.ListN.{length, take, getD, length-append, length-map}
-use borrow.Author.Tests.{eq-eqb, ne-eqb, le-ltb}
+use borrow.Author.Tests.{eq-eqb, ne-eqb}
 use Rattle.lists.specs.Lists.{filter, any, All, none, more, At, modify, sort}
 use Rattle.lists.proofs.Tests.{cases}
 use Rattle.lists.proofs.Alls.{All-head, All-tail, All-map, All-zip, All-left, All-right}
 use Rattle.lists.proofs.Sorts.{All-sort, sort-All, length-sort, sort-filter}
 use Rattle.lists.proofs.Parts.{cut-sizes}
-use Rattle.lists.proofs.Places.{length-modify, At-other, At-getD}
+use Rattle.lists.proofs.Places.{length-modify, At-other, At-getD, at-seam}
 use Rattle.chip.specs.declared.page.Mark.the-variants.{Obsolete}
 use Rattle.chip.specs.Geometry.{Geometry, pageSize, small}
 use Rattle.chip.specs.Power.{done, isGone}
 use Rattle.chip.specs.Page.{Page, isLive, marked}
-use Rattle.chip.specs.Chip.{Op, touches, Legal, Machine, run, pagesOf}
+use Rattle.chip.specs.Chip.{Legal, Machine, run, pagesOf}
 use Rattle.chip.proofs.Marks.{obsolete, marked-data}
-use Rattle.chip.proofs.Runs.{with-power, after, run-parts, run-done, run-gone, run-other, run-sized, Sized, Fits}
+use Rattle.chip.proofs.Runs.{after, run-parts, run-done, run-gone, Sized}
 use Rattle.pages.specs.Steps.{Live, live, liveFrom, commit, count, before, ordered, ofCommit, Stood, refused, stand, steps}
 use Rattle.pages.proofs.Order.{asym, trans}
 use Rattle.pages.proofs.LivePages.{elsewhere, places-below, single, steady, shrink-ordered}
@@ -27,7 +27,7 @@ use Rattle.pages.proofs.KeyLaws.{image-bounded}
 use Rattle.views.specs.Table.{Node, refusal, means, readStood, meaning}
 use Rattle.views.proofs.Meanings.{inOrder, void-read, Kept}
 use Rattle.views.proofs.ViewLaws.{Apart, apart-filter, apart-sort, apart-live}
-use Rattle.log.specs.Mount.{voidOf, lower, voidPages, retire, mountOps, mounted}
+use Rattle.log.specs.Mount.{lowerPlace, voidPages, retire, mountOps, mountedBy}
 use Rattle.log.proofs.PlaceOrder.{sort-sort, sort-live}
 use Rattle.log.proofs.Voids.{Voided, voided-lower, voided-steps, keep-standing, void-less, void-count, Found, found}
 
@@ -39,10 +39,6 @@ record Markable (g : Geometry) (c : ℕ) (ps : List Page) (y : Live) : Type 0 wh
   alive : isLive g here ≡ true
   long : length here ≡ pageSize g
   number : commit (live g (y .place) here) ≡ c
-
-at-seam : (pre : List Page) (x : Page) (xs : List Page) → At (length pre) x (pre ++ x ∷ xs)
-at-seam [] x xs = refl
-at-seam (p ∷ pre) x xs = at-seam pre x xs
 
 -- every live page is markable
 markable-from : (g : Geometry) (pre ps : List Page) (i : ℕ) → i ≡ length pre → All (Sized g) ps
@@ -153,13 +149,13 @@ apart-right (x ∷ xs) ys a = apart-right xs ys (a .1)
 -- ---- an image with void pages v and standing pages xs
 module _ (g : Geometry) (ps : List Page) (v xs : List Live) (e : steps g ps ≡ stand v xs) where
   -- the pages that are marked are the void pages
-  pub void-pages : voidPages g ps ≡ sort lower v
+  pub void-pages : voidPages g ps ≡ sort lowerPlace v
   unfolding voidPages
   void-pages = rw e
 
   -- as many marks as void pages
   pub void-marks : length (mountOps g ps) ≡ length v
-  void-marks = rw length-map (ap length void-pages ∙ length-sort lower v)
+  void-marks = rw length-map (ap length void-pages ∙ length-sort lowerPlace v)
 
   -- every void page is live where it stands
   void-markable : (f : Found g ps v xs) → All (Sized g) ps → All (Markable g (f .c) ps) (voidPages g ps)
@@ -167,7 +163,7 @@ module _ (g : Geometry) (ps : List Page) (v xs : List Live) (e : steps g ps ≡ 
       let b : All (λ (y : Live). Markable g (commit y) ps y) (inOrder g ps) = All-sort _ (markable-from g [] ps 0 refl sizes) in
       let r : All (λ (y : Live). Markable g (commit y) ps y) v = All-right (f .s ++ (f .z ∷ [])) v (rw (f .order) at b) in
       rw void-pages
-      (All-sort lower
+      (All-sort lowerPlace
       (All-zip
       (λ y m k. record { here = m .here; at = m .at; alive = m .alive; long = m .long; number = m .number ∙ k .0 })
       r (f .voided .same)))
@@ -176,24 +172,24 @@ module _ (g : Geometry) (ps : List Page) (v xs : List Live) (e : steps g ps ≡ 
   void-apart : (f : Found g ps v xs) → Apart (voidPages g ps)
   void-apart f =
       let a : Apart (inOrder g ps) = apart-sort _ (liveFrom g 0 ps) (apart-live g 0 ps) in
-      rw void-pages (apart-sort lower v (apart-right (f .s ++ (f .z ∷ [])) v (rw (f .order) at a)))
+      rw void-pages (apart-sort lowerPlace v (apart-right (f .s ++ (f .z ∷ [])) v (rw (f .order) at a)))
 
   module _ (torn : List ℕ) (room : 3 ≤ g .spare) (sizes : All (Sized g) ps) (n : ℕ) where
     -- finished or cut: the same pages stand
-    pub mount-stands : (r : List Live) × (steps g (mounted g torn n ps .pages) ≡ stand r xs)
+    pub mount-stands : (r : List Live) × (steps g (mountedBy g torn n ps .pages) ≡ stand r xs)
     mount-stands =
         let f = found g ps v xs e in
         let r = marks-cut g torn room (f .s) (f .z) (f .c) (f .n) (f .i) (voidPages g ps) v n ps (f .order) (f .voided) (void-markable f sizes) (void-apart f) in
         (r .0, ap (λ (m : Machine). steps g (m .pages)) (run-parts g torn n ps (mountOps g ps)) ∙ r .1 ∙ ap (stand (r .0)) (sym (f .ends)))
 
     -- finished: no page is void, and what stood is all that is live
-    pub mount-none : length (mountOps g ps) ≤ n → (steps g (mounted g torn n ps .pages) ≡ stand [] xs) × (inOrder g (mounted g torn n ps .pages) ≡ xs)
+    pub mount-none : length (mountOps g ps) ≤ n → (steps g (mountedBy g torn n ps .pages) ≡ stand [] xs) × (inOrder g (mountedBy g torn n ps .pages) ≡ xs)
     mount-none l =
         let f = found g ps v xs e in
         let w : List Live = voidPages g ps in
         let few : length w ≤ n = rw length-map at l in
         let inside : All (λ (y : Live). any (λ (x : Live). eqb (y .place) (x .place)) w ≡ true) v =
-        sort-All lower v (rw (← void-pages) (all-in w)) in
+        sort-All lowerPlace v (rw (← void-pages) (all-in w)) in
         let o : inOrder g (after g torn n ps (map retire w)) ≡ (f .s ++ (f .z ∷ [])) ++ [] =
         marks-done g torn room (f .s) (f .z) (f .c) (f .n) (f .i) w v n ps few (f .order) (f .voided) (void-markable f sizes) (void-apart f)
         ∙ ap (λ (r : List Live). (f .s ++ (f .z ∷ [])) ++ r) (minus-none w v inside) in
@@ -208,7 +204,7 @@ module _ (g : Geometry) (ps : List Page) (v xs : List Live) (e : steps g ps ≡ 
   pub void-scan : (c : ℕ) → v ≡ filter (ofCommit c) (inOrder g ps) → voidPages g ps ≡ filter (ofCommit c) (liveFrom g 0 ps)
   void-scan c q =
       let w : List Live = filter (ofCommit c) (liveFrom g 0 ps) in
-      void-pages ∙ ap (sort lower) (q ∙ sym (sort-filter before asym trans (ofCommit c) (liveFrom g 0 ps)))
+      void-pages ∙ ap (sort lowerPlace) (q ∙ sym (sort-filter before asym trans (ofCommit c) (liveFrom g 0 ps)))
       ∙ sort-sort before w (apart-filter (ofCommit c) (liveFrom g 0 ps) (apart-live g 0 ps)) ∙ sort-live g (ofCommit c) 0 ps
 
   -- every void page's commit has more pages than there are marks
@@ -217,14 +213,6 @@ module _ (g : Geometry) (ps : List Page) (v xs : List Live) (e : steps g ps ≡ 
       let f = found g ps v xs e in
       All-map (λ x k. omega (arith, void-marks, k .1, void-count g (f .s) (f .z) (f .c) (f .n) (f .i) v (f .voided))) (f .voided .same)
 
--- that commit is the commit of any of them
-pub mount-scan : (g : Geometry) (ps : List Page) (x : Live) (v xs : List Live) → steps g ps ≡ stand (x ∷ v) xs
-    → voidPages g ps ≡ filter (ofCommit (commit x)) (liveFrom g 0 ps)
-mount-scan g ps x v xs e =
-    let f = found g ps (x ∷ v) xs e in
-    let q = All-head (f .voided .same) .0 in
-    void-scan g ps (x ∷ v) xs e (f .c) (f .newest) ∙ ap (λ (c : ℕ). filter (ofCommit c) (liveFrom g 0 ps)) (sym q)
-
 -- ---- any image
 -- an image that steps 1 to 3 refuse gets no mark
 pub refused-none : (g : Geometry) (ps : List Page) (k : ℕ) → steps g ps ≡ refused k → mountOps g ps ≡ []
@@ -232,12 +220,12 @@ unfolding voidPages
 refused-none g ps k e = rw e
 
 module _ (g : Geometry) (torn : List ℕ) (ps : List Page) (n : ℕ) where
-  refused-same : (k : ℕ) → steps g ps ≡ refused k → mounted g torn n ps .pages ≡ ps
+  refused-same : (k : ℕ) → steps g ps ≡ refused k → mountedBy g torn n ps .pages ≡ ps
   unfolding run
   refused-same k e = rw (refused-none g ps k e)
 
 module _ (g : Geometry) (limit : ℕ) (torn : List ℕ) (room : 3 ≤ g .spare) (ps : List Page) (sizes : All (Sized g) ps) (n : ℕ) where
-  meaning-stays : (r : Stood) → steps g ps ≡ r → meaning g limit (mounted g torn n ps .pages) ≡ meaning g limit ps
+  meaning-stays : (r : Stood) → steps g ps ≡ r → meaning g limit (mountedBy g torn n ps .pages) ≡ meaning g limit ps
   unfolding meaning
   meaning-stays (refused k) e = ap (λ (qs : List Page). readStood limit (steps g qs)) (refused-same g torn ps n k e)
   meaning-stays (stand v xs) e =
@@ -245,7 +233,7 @@ module _ (g : Geometry) (limit : ℕ) (torn : List ℕ) (room : 3 ≤ g .spare) 
       ap (readStood limit) (r .1) ∙ void-read limit (r .0) v xs ∙ ap (readStood limit) (sym e)
 
   -- finished or cut, an image means what it meant, be it a table and a number or a refusal
-  pub mount-keeps : meaning g limit (mounted g torn n ps .pages) ≡ meaning g limit ps
+  pub mount-keeps : meaning g limit (mountedBy g torn n ps .pages) ≡ meaning g limit ps
   mount-keeps = meaning-stays (steps g ps) refl
 
   steps-of : (tb : List Node) (c : ℕ) (r : Stood) → steps g ps ≡ r → meaning g limit ps ≡ means tb c → (v : List Live) × (xs : List Live) × (steps g ps ≡ stand v xs)
@@ -257,22 +245,11 @@ module _ (g : Geometry) (limit : ℕ) (torn : List ℕ) (room : 3 ≤ g .spare) 
   steps-of tb c (stand v xs) e m = (v, xs, e)
 
   -- finished, an image that means a table and a number means them with no void page
-  pub mount-clean : (tb : List Node) (c : ℕ) → meaning g limit ps ≡ means tb c → length (mountOps g ps) ≤ n → Kept g limit (mounted g torn n ps .pages) tb c
+  pub mount-clean : (tb : List Node) (c : ℕ) → meaning g limit ps ≡ means tb c → length (mountOps g ps) ≤ n → Kept g limit (mountedBy g torn n ps .pages) tb c
   mount-clean tb c m l =
       let s = steps-of tb c (steps g ps) refl m in
       let r = mount-none g ps (s .0) (s .1) (s .2) torn room sizes n l in
       record { is = mount-keeps ∙ m; clean = r .0 ∙ ap (stand []) (sym (r .1)) }
-
--- ---- a second mount has nothing to do
-again : (g : Geometry) (torn : List ℕ) (room : 3 ≤ g .spare) (ps : List Page) (sizes : All (Sized g) ps) (n : ℕ) (r : Stood) → steps g ps ≡ r
-    → length (mountOps g ps) ≤ n → mountOps g (mounted g torn n ps .pages) ≡ []
-unfolding voidPages
-again g torn room ps sizes n (refused k) e l = ap (mountOps g) (refused-same g torn ps n k e) ∙ refused-none g ps k e
-again g torn room ps sizes n (stand v xs) e l = ap (λ (s : Stood). map retire (sort lower (voidOf s))) (mount-none g ps v xs e torn room sizes n l .0)
-
-pub mount-again : (g : Geometry) (torn : List ℕ) → 3 ≤ g .spare → (ps : List Page) → All (Sized g) ps → (n : ℕ)
-    → length (mountOps g ps) ≤ n → mountOps g (mounted g torn n ps .pages) ≡ []
-mount-again g torn room ps sizes n l = again g torn room ps sizes n (steps g ps) refl l
 
 -- ---- how many marks
 counted : (g : Geometry) (ps : List Page) (r : Stood) → steps g ps ≡ r → All (λ (x : Live). count x < 256) (liveFrom g 0 ps) → length (mountOps g ps) < 255
@@ -295,26 +272,13 @@ mount-few image h l = mount-count small (pagesOf small image) (All-map (λ x b. 
 -- ---- the power of a mount
 module _ (g : Geometry) (torn : List ℕ) (n : ℕ) (ps : List Page) where
   -- it is gone exactly with an allowance below the number of marks, and the operations told are the smaller of the two
-  pub mount-gone : isGone (mounted g torn n ps .power) ≡ ltb n (length (mountOps g ps))
+  pub mount-gone : isGone (mountedBy g torn n ps .power) ≡ ltb n (length (mountOps g ps))
   mount-gone = run-gone g torn n ps (mountOps g ps)
 
-  pub mount-done : done n (mounted g torn n ps .power) ≡ min n (length (mountOps g ps))
+  pub mount-done : done n (mountedBy g torn n ps .power) ≡ min n (length (mountOps g ps))
   mount-done = run-done g torn n ps (mountOps g ps)
 
-  -- an allowance of 255 is enough
-  pub mount-enough : All (λ (x : Live). count x < 256) (liveFrom g 0 ps) → 255 ≤ n → isGone (mounted g torn n ps .power) ≡ false
-  mount-enough h l = mount-gone ∙ le-ltb n (length (mountOps g ps)) (omega (arith, mount-count g ps h))
-
--- ---- the sizes of pages
-retire-fits : (g : Geometry) (w : List Live) → All (Fits g) (map retire w)
-retire-fits g [] = none
-retire-fits g (x ∷ w) = more tt (retire-fits g w)
-
-pub mount-sized : (g : Geometry) (torn : List ℕ) → length torn ≡ pageSize g → (n : ℕ) (ps : List Page) → All (Sized g) ps
-    → All (Sized g) (mounted g torn n ps .pages)
-mount-sized g torn l n ps h = run-sized g torn l (with-power n ps) (mountOps g ps) (retire-fits g (voidPages g ps)) h
-
--- the pages of an image of b blocks on the small chip
+-- ---- the pages of an image of b blocks on the small chip
 pub image-sized : (image : List ℕ) (b : ℕ) → length image ≡ b * 16896 → All (Sized small) (pagesOf small image)
 unfolding pagesOf
 image-sized image b l = cut-sizes 528 (length image / 528) image (omega arith)
@@ -334,16 +298,7 @@ void-places g ps (refused k) e = rw e none
 void-places g ps (stand v xs) e =
     let f = found g ps v xs e in
     let b : All (λ (x : Live). x .place < length ps) (inOrder g ps) = All-sort _ (All-map (λ y h. omega arith) (places-below g 0 ps)) in
-    rw e (All-sort lower (All-right (f .s ++ (f .z ∷ [])) v (rw (f .order) at b)))
+    rw e (All-sort lowerPlace (All-right (f .s ++ (f .z ∷ [])) v (rw (f .order) at b)))
 
 pub mount-legal : (g : Geometry) (ps : List Page) → Legal g ps (mountOps g ps)
 mount-legal g ps = retire-legal g (voidPages g ps) ps (void-places g ps (steps g ps) refl)
-
--- ---- every page that is not void is left as it was
-retire-other : (g : Geometry) (p : ℕ) {w : List Live} → All (λ (x : Live). x .place ≡ p → ⊥) w → All (λ (o : Op). touches g o p ≡ false) (map retire w)
-retire-other g p none = none
-retire-other g p (more {x = x} h hs) = more (ne-eqb (x .place) p h) (retire-other g p hs)
-
-pub mount-other : (g : Geometry) (torn : List ℕ) (n : ℕ) (ps : List Page) (p : ℕ) (x : Page) → All (λ (y : Live). y .place ≡ p → ⊥) (voidPages g ps)
-    → At p x ps → At p x (mounted g torn n ps .pages)
-mount-other g torn n ps p x h a = run-other g torn (with-power n ps) (mountOps g ps) p x (retire-other g p h) a

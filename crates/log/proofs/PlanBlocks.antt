@@ -1,20 +1,20 @@
 -- Used and unused blocks: the head is used, room is h unused blocks. Assumes nothing.
 use mathlib.Core.Path.{_≡_, refl, ap, _∙_}
-use mathlib.Core.Bool.{Bool, true, false, _&&_, _||_, not}
+use mathlib.Core.Bool.{Bool, true, false, _&&_, not}
 use mathlib.Core.List.{List, [], _∷_, _++_}
 use Prim.Native.Nat.{ℕ, zero, suc, _+_, _-_, _*_, _/_, _≤_, _<_}
 use native.Mathlib.Nat.{div-mul-le-self, lt-div-mul-add, mul-le-mul-right}
 use native.Mathlib.Omega.{arith}
 use lib.Dec.{eqb, ltb}
 use lib.ListN.{length, length-append}
-use borrow.Author.Tests.{eq-eqb, eqb-false, eqb-true, ltb-false, ltb-true, le-leb, leb-true}
-use Rattle.lists.specs.Lists.{All, any, filter, tab}
+use borrow.Author.Tests.{not-true, eq-eqb, eqb-false, eqb-true, ltb-false, ltb-true, le-leb, leb-true}
+use Rattle.lists.specs.Lists.{All, any, filter, tab, Diff}
 use Rattle.lists.proofs.Alls.{All-append, All-filter, All-head, All-map, All-right, All-zip, any-false, false-any}
 use Rattle.lists.proofs.Filters.{filter-is}
 use Rattle.lists.proofs.Flats.{length-tab}
-use Rattle.log.proofs.Sets.{Diff, Mem, at-most, diff-append, diff-filter, length-filter, mem-filter, mem-left, mem-right, tab-diff, tab-mem, tab-range}
+use Rattle.lists.proofs.Sets.{Mem, at-most, diff-append, diff-filter, length-filter, mem-filter, mem-left, mem-right, tab-diff, tab-mem, tab-range}
 use Rattle.lists.proofs.Sorts.{All-sort}
-use Rattle.lists.proofs.Tests.{cases, clash}
+use Rattle.lists.proofs.Tests.{cases, clash, neither-left, neither-right}
 use Rattle.chip.specs.Geometry.{Geometry}
 use Rattle.chip.specs.Page.{Page}
 use Rattle.chip.specs.Chip.{inBlock}
@@ -24,7 +24,7 @@ use Rattle.pages.proofs.Settle.{last-snoc}
 use Rattle.views.specs.Table.{Node}
 use Rattle.views.proofs.Meanings.{Kept, inOrder, nodeIn, opened}
 use Rattle.views.proofs.Rooms.{Outside, Unlisted}
-use Rattle.log.specs.Plan.{from, hasRoom, headBlock, holds, isUsed, lastPlace, listed, ring, unused}
+use Rattle.log.specs.Policy.{countFrom, hasRoom, headBlock, holdsCommit, isUsed, lastPlace, isListed, ring, unused}
 use Rattle.log.proofs.PlanPlaces.{In, in-block}
 
 -- ---- all blocks but the head
@@ -35,20 +35,20 @@ ring-range B head l =
 
 pub ring-diff : (B head : ℕ) → Diff (ring B head)
 ring-diff B head =
-    diff-append (from (suc head) (B - suc head)) (from 0 head) (tab-diff (suc head) (B - suc head)) (tab-diff 0 head)
+    diff-append (countFrom (suc head) (B - suc head)) (countFrom 0 head) (tab-diff (suc head) (B - suc head)) (tab-diff 0 head)
     (All-map (λ b h. All-map (λ c k e. omega (arith, h .0, k .1)) (tab-range 0 head)) (tab-range (suc head) (B - suc head)))
 
 pub ring-mem : (B head b : ℕ) → b < B → (b ≡ head → ⊥) → Mem b (ring B head)
 ring-mem B head b l d =
     cases (ltb b head)
-    (λ t. mem-right (from (suc head) (B - suc head)) (tab-mem 0 head b (omega arith) (omega (arith, ltb-true b head t))))
-    (λ t. let h : head < b = other (ltb-false b head t) in mem-left (from 0 head) (tab-mem (suc head) (B - suc head) b h (omega arith)))
+    (λ t. mem-right (countFrom (suc head) (B - suc head)) (tab-mem 0 head b (omega arith) (omega (arith, ltb-true b head t))))
+    (λ t. let h : head < b = other (ltb-false b head t) in mem-left (countFrom 0 head) (tab-mem (suc head) (B - suc head) b h (omega arith)))
   where
     other : head ≤ b → head < b
     other h = cases (eqb b head) (λ t. absurd (d (eqb-true b head t))) (λ t. omega (arith, eqb-false b head t))
 
 pub length-ring : (B head : ℕ) → head < B → length (ring B head) < B
-length-ring B head l = omega (arith, length-append (from (suc head) (B - suc head)) (from 0 head), length-tab (λ (i : ℕ). i) (suc head) (B - suc head), length-tab (λ (i : ℕ). i) 0 head)
+length-ring B head l = omega (arith, length-append (countFrom (suc head) (B - suc head)) (countFrom 0 head), length-tab (λ (i : ℕ). i) (suc head) (B - suc head), length-tab (λ (i : ℕ). i) 0 head)
 
 -- ---- used and unused blocks
 any-tab : {A : Type 0} (p : A → Bool) (f : ℕ → A) (k m n : ℕ) → any p (tab k m f) ≡ false → k ≤ n → n < k + m → p (f n) ≡ false
@@ -62,27 +62,19 @@ tab-any : {A : Type 0} (p : A → Bool) (f : ℕ → A) (k m : ℕ) → ((n : �
 tab-any p f k zero h = refl
 tab-any p f k (suc m) h = rw (h k (omega arith)) (tab-any p f (suc k) m (λ n l. h n (omega arith)))
 
-neither-left : (a b : Bool) → (a || b) ≡ false → a ≡ false
-neither-left true b e = e
-neither-left false b e = refl
-
-neither-right : (a b : Bool) → (a || b) ≡ false → b ≡ false
-neither-right true b e = clash refl e
-neither-right false b e = e
-
 -- an unused block: no list names it, and no page of commit G stands in it
 module _ (g : Geometry) (tb : List Node) (G : ℕ) (xs : List Live) (b : ℕ) where
-  pub unused-listed : isUsed g tb G xs b ≡ false → listed g tb b ≡ false
+  pub unused-listed : isUsed g tb G xs b ≡ false → isListed g tb b ≡ false
   unfolding isUsed
-  unused-listed h = neither-left (listed g tb b) (holds g G xs b) h
+  unused-listed h = neither-left (isListed g tb b) (holdsCommit g G xs b) h
 
   pub unused-holds : isUsed g tb G xs b ≡ false → Outside g G xs b
   unfolding isUsed
   unused-holds h =
       All-map (λ x e c. rw (eq-eqb (commit x) G c) at e)
-      (any-false (λ (x : Live). eqb (commit x) G && inBlock g b (x .place)) xs (neither-right (listed g tb b) (holds g G xs b) h))
+      (any-false (λ (x : Live). eqb (commit x) G && inBlock g b (x .place)) xs (neither-right (isListed g tb b) (holdsCommit g G xs b) h))
 
-  pub unused-by : listed g tb b ≡ false → Outside g G xs b → isUsed g tb G xs b ≡ false
+  pub unused-by : isListed g tb b ≡ false → Outside g G xs b → isUsed g tb G xs b ≡ false
   unfolding isUsed
   unused-by h o =
       rw h
@@ -120,10 +112,6 @@ room-moved g B h tb G xs ys f r =
       are = All-map (λ b k. (k .0, unused-by g tb G ys b (unused-listed g tb G xs b (k .1)) (f b (unused-holds g tb G xs b (k .1))))) (r .are);
     }
 
-not-true : (c : Bool) → not c ≡ true → c ≡ false
-not-true true e = clash e refl
-not-true false e = refl
-
 -- room as a test
 module _ (g : Geometry) (B h : ℕ) (tb : List Node) (G : ℕ) (xs : List Live) where
   abbrev isUnused : ℕ → Bool
@@ -131,19 +119,19 @@ module _ (g : Geometry) (B h : ℕ) (tb : List Node) (G : ℕ) (xs : List Live) 
 
   pub has-room : Room g B h tb G xs → hasRoom g B h tb G xs ≡ true
   has-room r =
-      let l : length (r .blocks) ≤ length (filter isUnused (from 0 B)) =
-      at-most (r .blocks) (filter isUnused (from 0 B)) (r .diff)
+      let l : length (r .blocks) ≤ length (filter isUnused (countFrom 0 B)) =
+      at-most (r .blocks) (filter isUnused (countFrom 0 B)) (r .diff)
       (All-map (λ b k. mem-filter isUnused (tab-mem 0 B b (omega arith) (omega (arith, k .0))) (ap not (k .1))) (r .are)) in
-      le-leb h (length (filter isUnused (from 0 B))) (omega (arith, r .many))
+      le-leb h (length (filter isUnused (countFrom 0 B))) (omega (arith, r .many))
 
   pub room-has : hasRoom g B h tb G xs ≡ true → Room g B h tb G xs
   room-has e =
       record {
-        blocks = filter isUnused (from 0 B);
-        diff = diff-filter isUnused (from 0 B) (tab-diff 0 B);
-        many = leb-true h (length (filter isUnused (from 0 B))) e;
+        blocks = filter isUnused (countFrom 0 B);
+        diff = diff-filter isUnused (countFrom 0 B) (tab-diff 0 B);
+        many = leb-true h (length (filter isUnused (countFrom 0 B))) e;
         are = All-zip {P = λ (b : ℕ). (0 ≤ b) × (b < 0 + B)} (λ b r t. (omega (arith, r .1), not-true (isUsed g tb G xs b) t))
-            (All-filter isUnused (tab-range 0 B)) (filter-is isUnused (from 0 B));
+            (All-filter isUnused (tab-range 0 B)) (filter-is isUnused (countFrom 0 B));
       }
 
 module _ (g : Geometry) (B : ℕ) (tb : List Node) (G : ℕ) (xs : List Live) (head : ℕ) (hb : head < B) where

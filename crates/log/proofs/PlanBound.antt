@@ -5,19 +5,19 @@ use mathlib.Core.List.{List, [], _∷_, _++_}
 use Prim.Native.Nat.{ℕ, zero, suc, _-_, _*_, _≤_}
 use native.Mathlib.Omega.{arith}
 use lib.ListN.{length, take}
-use Rattle.lists.specs.Lists.{All, all, any, filter, flat, more, none}
+use Rattle.lists.specs.Lists.{All, all, any, filter, flat, more, none, Diff}
 use Rattle.lists.proofs.Alls.{All-filter, All-head, All-left, All-right, All-tail, All-zip}
 use Rattle.lists.proofs.Filters.{filter-is}
 use Rattle.lists.proofs.Flats.{length-tab}
-use Rattle.log.proofs.Sets.{Diff, Mem, any-witness, at-most, diff-filter, length-take-n, mem-at}
+use Rattle.lists.proofs.Sets.{Mem, any-witness, at-most, diff-filter, length-take-n, mem-at}
 use Rattle.lists.proofs.Tests.{and-left}
 use Rattle.chip.specs.Geometry.{Geometry, pageSize}
 use Rattle.chip.specs.Page.{Page}
 use Rattle.chip.specs.Chip.{inBlock, run}
-use Rattle.chip.proofs.Runs.{Fits, Sized, run-sized, with-power}
+use Rattle.chip.proofs.Runs.{DataSized, Sized, run-sized, with-power}
 use Rattle.pages.specs.Steps.{Live}
 use Rattle.log.specs.Commit.{commitOps}
-use Rattle.log.specs.Plan.{erases, freeAt, pagesIn, places}
+use Rattle.log.specs.Policy.{erases, freeAt, pagesIn, places}
 use Rattle.log.proofs.PlanPlaces.{In, Origin, block-in, new, old, one-block, places-from}
 
 take-append : {A : Type 0} {P : A → Type 0} (n m : ℕ) (xs ys : List A) → length xs ≡ m → All P xs → All P (take (n - m) ys) → All P (take n (xs ++ ys))
@@ -70,11 +70,11 @@ erases-few g ps head h n bs d a l =
     reach b e r = at-origin b (r .0) e (block-in g b (r .0) (r .2)) (mem-at (r .1) from-which)
 
 -- ---- sizes
-ops-fit : (g : Geometry) (es : List ℕ) {news : List Live} → All (λ x. length (x .bytes) ≡ g .area) news → All (Fits g) (commitOps es news)
+ops-fit : (g : Geometry) (es : List ℕ) {news : List Live} → All (λ x. length (x .bytes) ≡ g .area) news → All (DataSized g) (commitOps es news)
 ops-fit g [] none = none
 ops-fit g [] (more h hs) = more tt (more h (more tt (ops-fit g [] hs)))
 ops-fit g (e ∷ es) h = more tt (ops-fit g es h)
 
-pub image-sized : (g : Geometry) (torn : List ℕ) (es : List ℕ) (news : List Live) (ps : List Page) (n : ℕ) → length torn ≡ pageSize g
+pub commit-sized : (g : Geometry) (torn : List ℕ) (es : List ℕ) (news : List Live) (ps : List Page) (n : ℕ) → length torn ≡ pageSize g
     → All (λ x. length (x .bytes) ≡ g .area) news → All (Sized g) ps → All (Sized g) (run g torn (with-power n ps) (commitOps es news) .pages)
-image-sized g torn es news ps n t h s = run-sized g torn t (with-power n ps) (commitOps es news) (ops-fit g es h) s
+commit-sized g torn es news ps n t h s = run-sized g torn t (with-power n ps) (commitOps es news) (ops-fit g es h) s

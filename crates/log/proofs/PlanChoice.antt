@@ -7,14 +7,15 @@ use native.Mathlib.Nat.{mul-le-mul-right}
 use native.Mathlib.Omega.{arith}
 use lib.ListN.{getD, length, length-append, length-map, take}
 use lib.Seq.{length-take-le}
-use Rattle.lists.specs.Lists.{All, At, all, any, flat, more, none, tab}
+use Rattle.lists.specs.Lists.{All, At, all, any, flat, more, none, tab, Diff}
 use Rattle.lists.proofs.Alls.{All-append, All-filter, All-head, All-map, All-tail, All-take, All-zip}
-use Rattle.log.proofs.Sets.{All-pull, All-push, All-unflat, Diff, diff-take, mem-at}
+use Rattle.lists.proofs.Sets.{All-pull, All-push, All-unflat, diff-take, mem-at}
 use Rattle.lists.proofs.Sorts.{All-sort, sort-All}
 use Rattle.chip.specs.Geometry.{Geometry, pageSize}
 use Rattle.chip.specs.Page.{Page, blank}
 use Rattle.chip.specs.Chip.{Legal, erase, inBlock, run}
 use Rattle.chip.proofs.Runs.{Sized, with-power}
+use Rattle.chip.specs.Power.{takesEffect}
 use Rattle.pages.specs.declared.unit.Unit as U
 use Rattle.pages.specs.declared.unit.Update.{Update}
 use Rattle.pages.specs.declared.unit.Update.the-variants.{Reset}
@@ -23,19 +24,19 @@ use Rattle.pages.specs.Steps.{Live, before, commit, liveFrom}
 use Rattle.pages.proofs.Settle.{run-same, top}
 use Rattle.views.specs.Nodes.{apply}
 use Rattle.views.specs.Table.{Node, events, isWell, meaning, means, turn}
-use Rattle.views.specs.Groups.{Group, eventsIn, present, unitFor}
-use Rattle.views.proofs.Groups.{Distinct, Short, Without, alone, joined, present-groups, well-groups, well-is}
+use Rattle.views.specs.Groups.{Group, eventsIn, present, unitFor, Distinct, Without}
+use Rattle.views.proofs.Groups.{Short, alone, joined, present-groups, well-groups, well-is}
 use Rattle.views.proofs.Meanings.{Kept, Opened, inOrder, kept-well, nodeIn, opened}
 use Rattle.views.proofs.Rooms.{Outside, Unlisted, snapshot-unlisted, still-unlisted}
 use Rattle.views.proofs.ViewLaws.{Apart}
-use Rattle.log.specs.Commit.{Pack, Sheet, cleared, commitOps, groupAt, groupsOf, newPages, pagesFrom, unitsOf, won, writesOf}
-use Rattle.log.specs.Plan.{erases, freeAt, groups, isUsed, pack, pagesIn, places, sheets}
-use Rattle.log.proofs.CommitBuilt.{Holds, NextCommit, events-new, length-new, planned, shows}
+use Rattle.log.specs.Commit.{Pack, Sheet, cleared, commitOps, groupAt, groupsOf, newPages, pagesFrom, unitsOfPacks, writesOf, ValidSheet}
+use Rattle.log.specs.Policy.{erases, freeAt, groups, isUsed, pack, pagesIn, places, sheets}
+use Rattle.log.proofs.CommitBuilt.{NextCommit, events-new, length-new, planned, shows}
 use Rattle.log.proofs.CommitLaws.{cut-law, finished-kept}
 use Rattle.log.proofs.PlanBlocks.{Room, room-moved, is-unused, unused-outside, unused-unlisted}
 use Rattle.log.proofs.PlanLegal.{commit-legal}
 use Rattle.log.proofs.PlanLive.{run-lives}
-use Rattle.log.proofs.PlanNodes.{Fair, Fits, fair-whole}
+use Rattle.log.proofs.PlanNodes.{Fair, CommitsNode, fair-whole}
 use Rattle.log.proofs.PlanPacks.{Full, Of, distinct-groups, groups-apart, groups-lack, groups-of, length-groups, length-sheets, pack-count, pack-flat, pack-full, pack-some, sheets-groups, sheets-packs, size, ungroup}
 use Rattle.log.proofs.PlanPlaces.{In, Origin, new, old, out-block, places-blank, places-diff, places-from}
 
@@ -49,7 +50,7 @@ pub record Chip (g : Geometry) (limit B : ℕ) (torn : List ℕ) : Type 0 where
   pub lim : limit ≡ 8 * B
 
 -- ---- what is asked of the image and the buffer
-pub record Ready (g : Geometry) (limit B : ℕ) (ps : List Page) (tb : List Node) (G : ℕ) (us : List U.Unit) : Type 0 where
+pub record Committable (g : Geometry) (limit B : ℕ) (ps : List Page) (tb : List Node) (G : ℕ) (us : List U.Unit) : Type 0 where
   pub kept : Kept g limit ps tb G
   pub number : suc G < 2 ^ 32
   pub sizes : All (Sized g) ps
@@ -58,7 +59,7 @@ pub record Ready (g : Geometry) (limit B : ℕ) (ps : List Page) (tb : List Node
   pub fair : (n : ℕ) → n < limit → Fair (present n (nodeIn g limit ps n .now) us)
 
 -- ---- small laws
-units-valid : (limit : ℕ) {p : List Pack} → All (λ k. (k .node < limit) × All ValidUpdate (k .updates)) p → All (Valid limit) (unitsOf p)
+units-valid : (limit : ℕ) {p : List Pack} → All (λ k. (k .node < limit) × All ValidUpdate (k .updates)) p → All (Valid limit) (unitsOfPacks p)
 units-valid limit none = none
 units-valid limit (more {x = k} h hs) = All-append (go (h .1)) (units-valid limit hs)
   where
@@ -70,7 +71,7 @@ short-node : (s : Node) (q : Group) (m : ℕ) → Short s (record { place = q .p
 short-node s q m (joined u us i h l) = joined u us i h l
 short-node s q m (alone h) = alone h
 
-short-at : (T : ℕ → Node) (us : List U.Unit) (f : ℕ → List Update) (n : ℕ) (q : Group) → q .updates ≡ f n → Fits T us f n
+short-at : (T : ℕ → Node) (us : List U.Unit) (f : ℕ → List Update) (n : ℕ) (q : Group) → q .updates ≡ f n → CommitsNode T us f n
     → 0 < length (q .updates) → Short (T n) q
 short-at T us f n q e h l =
     short-node (T n) q n (subst (λ (vs : List Update). Short (T n) (record { place = q .place; node = n; updates = vs })) (sym e) (h .short (q .place) (rw (← e) l)))
@@ -86,7 +87,8 @@ pages-apart g c n k [] pp d = tt
 pages-apart g c n k (w ∷ ws) [] d = tt
 pages-apart g c n k (w ∷ ws) (p ∷ pp) d = (pages-at g c n (suc k) ws pp (All-map (λ p n e. n (sym e)) (d .0)), pages-apart g c n (suc k) ws pp (d .1))
 
-length-writes : (xs : List Live) → length (flat writesOf xs) ≡ 3 * length xs
+-- three operations for each page
+pub length-writes : (xs : List Live) → length (flat writesOf xs) ≡ 3 * length xs
 length-writes [] = refl
 length-writes (x ∷ xs) = omega (arith, length-writes xs)
 
@@ -96,7 +98,7 @@ length-ops es xs = length-append (map erase es) (flat writesOf xs) ∙ omega (ar
 -- ---- what is chosen: updates for each node, the head, and unused blocks with places enough for their pages and one more
 pub record Choice (g : Geometry) (limit B : ℕ) (ps : List Page) (tb : List Node) (G : ℕ) (us : List U.Unit) : Type 0 where
   pub update : ℕ → List Update
-  pub fits : (n : ℕ) → n < limit → Fits (nodeIn g limit ps) us update n
+  pub fits : (n : ℕ) → n < limit → CommitsNode (nodeIn g limit ps) us update n
   pub some : 0 < length (groups update limit)
   pub head : ℕ
   pub blocks : List ℕ
@@ -106,7 +108,7 @@ pub record Choice (g : Geometry) (limit B : ℕ) (ps : List Page) (tb : List Nod
 
 -- ---- the commit
 module _ {g : Geometry} {limit B : ℕ} {torn : List ℕ} (ch : Chip g limit B torn) {ps : List Page} {tb : List Node} {G : ℕ} {us : List U.Unit}
-    (rd : Ready g limit B ps tb G us) (C : Choice g limit B ps tb G us) where
+    (rd : Committable g limit B ps tb G us) (C : Choice g limit B ps tb G us) where
   abbrev f : ℕ → List Update
   f = C .update
 
@@ -146,13 +148,13 @@ module _ {g : Geometry} {limit B : ℕ} {torn : List ℕ} (ch : Chip g limit B t
   full-pp : All (Full (g .units)) pp
   full-pp = pack-full (g .units) (All-map (λ k h. (h .1, omega (arith, h .2, ch .big))) sound-ks)
 
-  valid-pp : All (λ p. All (Valid limit) (unitsOf p)) pp
+  valid-pp : All (λ p. All (Valid limit) (unitsOfPacks p)) pp
   valid-pp = All-map (λ p h. units-valid limit h) (All-unflat pp (rw (pack-flat (g .units) ks) (All-map (λ k h. (h .0, h .3)) sound-ks)))
 
-  pub holds-ts : All (Holds g limit) ts
+  pub holds-ts : All (ValidSheet g limit) ts
   holds-ts =
       All-map (λ t h. record { few = h .0 .1; some = h .0 .0; valid = h .1 })
-      (sheets-packs {P = λ p. Full (g .units) p × All (Valid limit) (unitsOf p)} ws pp (All-zip (λ p a b. (a, b)) full-pp valid-pp))
+      (sheets-packs {P = λ p. Full (g .units) p × All (Valid limit) (unitsOfPacks p)} ws pp (All-zip (λ p a b. (a, b)) full-pp valid-pp))
 
   pub ws-many : length pp ≤ length ws
   ws-many = omega (arith, length-take-le (suc (length pp)) (places g ps head bs) (C .enough))
@@ -222,7 +224,7 @@ module _ {g : Geometry} {limit B : ℕ} {torn : List ℕ} (ch : Chip g limit B t
   abbrev pub image : ℕ → List Page
   image n = run g torn (with-power n ps) (commitOps es news) .pages
 
-  pub cut-safe : (n : ℕ) → meaning g limit (image n) ≡ cond (won (getD torn 0 0) n (length (commitOps es news))) (means (tab 0 limit after-node) (suc G)) (means tb G)
+  pub cut-safe : (n : ℕ) → meaning g limit (image n) ≡ cond (takesEffect (getD torn 0 0) n (length (commitOps es news))) (means (tab 0 limit after-node) (suc G)) (means tb G)
   cut-safe n = cut-law g limit torn (ch .spare) area-torn ps tb G (rd .kept) es news unlisted outside plan apart free n
 
   pub kept-after : (n : ℕ) → length (commitOps es news) ≤ n → Kept g limit (image n) (tab 0 limit after-node) (suc G)

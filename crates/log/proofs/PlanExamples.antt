@@ -12,7 +12,7 @@ use Rattle.pages.specs.Data.{laid, dataOf}
 use Rattle.pages.specs.Steps.{liveFrom, commit, index, before, ordered}
 use Rattle.views.specs.Table.{eventsOf, events, nodeOf, table}
 use Rattle.views.specs.Groups.{unitFor}
-use Rattle.log.specs.Plan.{isUsed, unused, planOf}
+use Rattle.log.specs.Policy.{isUsed, unused, planOf}
 
 -- commit 1: node 0 reset at level 0
 abbrev image : List Page

@@ -7,7 +7,7 @@ use borrow.Author.Tests.{leb-true, ltb-true}
 use Rattle.lists.specs.Lists.{All, more, none}
 use Rattle.lists.proofs.Alls.{All-drop, All-map, All-take}
 use Rattle.lists.proofs.Flats.{All-flat}
-use Rattle.log.proofs.Sets.{All-push}
+use Rattle.lists.proofs.Sets.{All-push}
 use Rattle.lists.proofs.Sorts.{All-sort}
 use Rattle.lists.proofs.Tests.{cases}
 use Rattle.chip.specs.Geometry.{Geometry}

@@ -10,16 +10,17 @@ use lib.Dec.{eqb, leb}
 use lib.ListN.{drop, getD, length, length-drop, take}
 use lib.Seq.{length-take-le}
 use borrow.Author.Tests.{eq-eqb, eqb-false, le-leb, leb-true}
-use Rattle.lists.specs.Lists.{All, all, any, filter, none, tab}
+use Rattle.lists.specs.Lists.{All, all, any, filter, none, tab, Diff}
 use Rattle.lists.proofs.Alls.{All-drop, All-filter, All-head, All-map, All-tail, All-take, All-zip, any-false}
 use Rattle.lists.proofs.Filters.{filter-is, filter-parts}
 use Rattle.lists.proofs.Flats.{length-tab}
-use Rattle.log.proofs.Sets.{Diff, Mem, at-most, diff-drop, diff-filter, diff-split, diff-take, eqb-mem, length-take-n, mem-at, tab-diff, tab-range}
+use Rattle.lists.proofs.Sets.{Mem, at-most, diff-drop, diff-filter, diff-split, diff-take, eqb-mem, length-take-n, mem-at, tab-diff, tab-range}
 use Rattle.lists.proofs.Tests.{and-right, cases, clash}
 use Rattle.chip.specs.Geometry.{Geometry}
 use Rattle.chip.specs.Page.{Page}
 use Rattle.chip.specs.Chip.{Legal, inBlock, run}
 use Rattle.chip.proofs.Runs.{Sized, run-length, with-power}
+use Rattle.chip.specs.Power.{takesEffect}
 use Rattle.pages.specs.declared.unit.Decoded.{Decoded}
 use Rattle.pages.specs.declared.unit.Decoded.the-variants.{Bad, Good}
 use Rattle.pages.specs.declared.unit.Unit as U
@@ -29,16 +30,14 @@ use Rattle.pages.specs.Units.{Valid}
 use Rattle.pages.specs.Steps.{liveFrom}
 use Rattle.views.specs.Nodes.{View, apply, inserted, untouched}
 use Rattle.views.specs.Table.{Event, Node, events, fresh, isWell, meaning, means, nodeOf, turn, turnUnit}
-use Rattle.views.specs.Groups.{own, present}
-use Rattle.views.proofs.Groups.{Distinct}
+use Rattle.views.specs.Groups.{own, present, Distinct}
 use Rattle.views.proofs.Meanings.{Kept, inOrder, nodeIn, kept-node}
-use Rattle.log.specs.Commit.{Pack, groupsOf, won}
-use Rattle.log.specs.Plan.{Plan, delta, erases, freeAt, from, groups, headBlock, isUsed, newsOf, nodeAt, opsOf, pack, pagesIn, places, planBy, planFor, planOf, planOn, rewrite, smaller, snapshot, spareBlocks, stuck, unused}
-use Rattle.log.proofs.CommitBuilt.{Holds}
-use Rattle.log.proofs.PlanBlocks.{Room, head-below, head-used, unused-all, unused-diff, unused-few, unused-many}
-use Rattle.log.proofs.PlanBound.{erases-few, image-sized}
-use Rattle.log.proofs.PlanChoice.{Chip, Choice, Ready, anew-unlisted, cut-safe, distinct, es, holds-ts, kept-after, legal, no-page, ofs, ops-few, plan, room-new, room-old, stays-unlisted, views, written-few}
-use Rattle.log.proofs.PlanNodes.{Fair, Fits, apply-touched, delta-fits, nothing, snapshot-fits, some, touched}
+use Rattle.log.specs.Commit.{Pack, groupsOf, ValidSheet}
+use Rattle.log.specs.Policy.{Plan, delta, erases, freeAt, countFrom, groups, headBlock, isUsed, newsOf, nodeAt, opsOf, pack, pagesIn, places, planBy, planFor, planOf, planOn, rewrite, smaller, snapshot, spareBlocks, stuck, unused}
+use Rattle.log.proofs.PlanBlocks.{Room, head-below, head-used, unused-all, unused-diff, unused-many}
+use Rattle.log.proofs.PlanBound.{erases-few, commit-sized}
+use Rattle.log.proofs.PlanChoice.{Chip, Choice, Committable, anew-unlisted, cut-safe, distinct, es, holds-ts, kept-after, legal, no-page, ofs, ops-few, plan, room-new, room-old, stays-unlisted, views, written-few}
+use Rattle.log.proofs.PlanNodes.{Fair, CommitsNode, apply-touched, delta-fits, nothing, snapshot-fits, some, touched, cons-some}
 use Rattle.log.proofs.PlanPacks.{groups-lack, groups-of, groups-same, length-groups, pack-count}
 use Rattle.log.proofs.PlanPlaces.{length-places}
 use Rattle.log.proofs.PlanRest.{page-left, rested}
@@ -51,9 +50,9 @@ abbrev pub imageAfter : Geometry → List ℕ → List Page → ℕ → Plan →
 imageAfter g torn ps G q n = run g torn (with-power n ps) (opsOf g G q) .pages
 
 pub record Safe (g : Geometry) (limit B h : ℕ) (torn : List ℕ) (ps : List Page) (tb : List Node) (G : ℕ) (us : List U.Unit) (q : Plan) : Type 0 where
-  -- old or new, by `won`, for every allowance n
+  -- old or new, by `takesEffect`, for every allowance n
   pub cut : (n : ℕ) → meaning g limit (imageAfter g torn ps G q n)
-      ≡ cond (won (getD torn 0 0) n (length (opsOf g G q))) (means (tab 0 limit (nodeAfter g limit ps G q)) (suc G)) (means tb G)
+      ≡ cond (takesEffect (getD torn 0 0) n (length (opsOf g G q))) (means (tab 0 limit (nodeAfter g limit ps G q)) (suc G)) (means tb G)
   -- with enough power: the new meaning, no void page
   pub kept : (n : ℕ) → length (opsOf g G q) ≤ n → Kept g limit (imageAfter g torn ps G q n) (tab 0 limit (nodeAfter g limit ps G q)) (suc G)
   -- the new views: K and then the buffer
@@ -63,7 +62,7 @@ pub record Safe (g : Geometry) (limit B h : ℕ) (torn : List ℕ) (ps : List Pa
   pub few : length (opsOf g G q) ≤ 12 * B + h
   pub pages-few : length (q .written) ≤ 4 * B
   -- each page has units that fit it and obey the layout; each node's units stand in one page
-  pub pages-hold : All (Holds g limit) (q .written)
+  pub pages-hold : All (ValidSheet g limit) (q .written)
   pub once : Distinct (groupsOf (q .written))
   -- a program only where the data is all 255, every place on the chip
   pub legal : Legal g ps (opsOf g G q)
@@ -125,20 +124,17 @@ nil-short (x ∷ xs) h = omega arith
 some-groups : (f : ℕ → List Update) (limit m : ℕ) → m < limit → (f m ≡ [] → ⊥) → 0 < length (groups f limit)
 some-groups f limit m l h = nil-short (groups f limit) (λ e. h (groups-lack f limit m l (rw e none)))
 
-cons-not : {A : Type 0} (x : A) (xs : List A) → x ∷ xs ≡ [] → ⊥
-cons-not x xs e = let y : _≡_ {A = ℕ} 0 1 = cc in omega arith
-
 some-own : (us : List U.Unit) (u : U.Unit) → own (u .node) (u ∷ us) ≡ [] → ⊥
-some-own us u e = cons-not (u .update) (own (u .node) us) (rw (eq-eqb (u .node) (u .node) refl) at e)
+some-own us u e = cons-some (u .update) (own (u .node) us) (rw (eq-eqb (u .node) (u .node) refl) at e)
 
-any-group : (T : ℕ → Node) (us : List U.Unit) (limit : ℕ) (f : ℕ → List Update) → All (Valid limit) us → 0 < length us
-    → ((n : ℕ) → n < limit → Fits T us f n) → 0 < length (groups f limit)
+pub any-group : (T : ℕ → Node) (us : List U.Unit) (limit : ℕ) (f : ℕ → List Update) → All (Valid limit) us → 0 < length us
+    → ((n : ℕ) → n < limit → CommitsNode T us f n) → 0 < length (groups f limit)
 any-group T [] limit f h l k = absurd (omega arith)
 any-group T (u ∷ us) limit f h l k =
     let b = All-head h .node in
     some-groups f limit (u .node) b (λ e. some-own us u (k (u .node) b .covers e))
 
-pages-most : (T : ℕ → Node) (us : List U.Unit) (limit room : ℕ) (f : ℕ → List Update) → 34 ≤ room → ((n : ℕ) → n < limit → Fits T us f n)
+pages-most : (T : ℕ → Node) (us : List U.Unit) (limit room : ℕ) (f : ℕ → List Update) → 34 ≤ room → ((n : ℕ) → n < limit → CommitsNode T us f n)
     → 2 * length (pack room (groups f limit)) ≤ suc limit
 pages-most T us limit room f r k =
     omega (arith, pack-count room 17 (groups f limit) r (All-map (λ j o. rw (o .is) (k (j .node) (o .below) .few)) (groups-of f limit)), length-groups f limit)
@@ -165,11 +161,11 @@ bare-node g limit ps n e = bare n (events limit (inOrder g ps)) fresh (λ z. ref
 
 rewrite-none : {v : View} → Fair v → rewrite v ≡ [] → v ≡ untouched
 rewrite-none nothing e = refl
-rewrite-none (some {l = l} {es = es} a b c d) e = absurd (cons-not (Reset l) (map inserted es) e)
+rewrite-none (some {l = l} {es = es} a b c d) e = cons-some (Reset l) (map inserted es) e
 
 -- ---- a plan of any choice, with pages that fit h blocks, that leaves room
 module _ (h : ℕ) {g : Geometry} {limit B : ℕ} {torn : List ℕ} (ch : Chip g limit B torn) {ps : List Page} {tb : List Node} {G : ℕ} {us : List U.Unit}
-    (rd : Ready g limit B ps tb G us) (C : Choice g limit B ps tb G us) where
+    (rd : Committable g limit B ps tb G us) (C : Choice g limit B ps tb G us) where
   abbrev Q : Plan
   Q = planOn g ps (C .head) (C .blocks) (pack (g .units) (groups (C .update) limit))
 
@@ -197,7 +193,7 @@ module _ (h : ℕ) {g : Geometry} {limit B : ℕ} {torn : List ℕ} (ch : Chip g
         pages-hold = holds-ts ch rd C;
         once = distinct ch rd C;
         legal = legal ch rd C;
-        sizes = λ n. image-sized g torn (Q .erased) (newsOf g G Q) ps n (ch .torn-size) (plan ch rd C .sizes) (rd .sizes);
+        sizes = λ n. commit-sized g torn (Q .erased) (newsOf g G Q) ps n (ch .torn-size) (plan ch rd C .sizes) (rd .sizes);
         long = λ n. run-length g torn (with-power n ps) (opsOf g G Q);
         page-free = λ n l. let r = page-left ch rd C n l in (r .place, r .is);
         rests = λ n l vs.
@@ -210,7 +206,7 @@ module _ (h : ℕ) {g : Geometry} {limit B : ℕ} {torn : List ℕ} (ch : Chip g
 
 -- ---- the plan of the policy
 module _ (g : Geometry) (limit B : ℕ) (torn : List ℕ) (ch : Chip g limit B torn)
-    (ps : List Page) (tb : List Node) (G : ℕ) (us : List U.Unit) (rd : Ready g limit B ps tb G us)
+    (ps : List Page) (tb : List Node) (G : ℕ) (us : List U.Unit) (rd : Committable g limit B ps tb G us)
     (pending : 0 < length us) (wide : 2 * spareBlocks g B + 1 ≤ B) where
   abbrev h : ℕ
   h = spareBlocks g B
@@ -236,13 +232,10 @@ module _ (g : Geometry) (limit B : ℕ) (torn : List ℕ) (ch : Chip g limit B t
   un-many : Room g B h tb G (liveFrom g 0 ps) → h ≤ length un
   un-many room = unused-many g B tb G (liveFrom g 0 ps) hd hd-below h (head-used g limit B ps tb G (rd .kept) (ch .pos) (rd .length-is)) room
 
-  un-few : length un < B
-  un-few = unused-few g B tb G (liveFrom g 0 ps) hd hd-below
-
-  fd : (n : ℕ) → n < limit → Fits T us (delta T us) n
+  fd : (n : ℕ) → n < limit → CommitsNode T us (delta T us) n
   fd n l = delta-fits T us limit (rd .valid) n (rd .fair n l)
 
-  fs : (n : ℕ) → n < limit → Fits T us (snapshot T us) n
+  fs : (n : ℕ) → n < limit → CommitsNode T us (snapshot T us) n
   fs n l = snapshot-fits T us limit (rd .valid) n (rd .fair n l)
 
   gd : 0 < length (groups (delta T us) limit)
@@ -258,7 +251,7 @@ module _ (g : Geometry) (limit B : ℕ) (torn : List ℕ) (ch : Chip g limit B t
   ss = pack (g .units) (groups (snapshot T us) limit)
 
   -- 4 B pages and one more fit h blocks
-  pages-fit : (f : ℕ → List Update) → ((n : ℕ) → n < limit → Fits T us f n) → suc (length (pack (g .units) (groups f limit))) ≤ h * g .pages
+  pages-fit : (f : ℕ → List Update) → ((n : ℕ) → n < limit → CommitsNode T us f n) → suc (length (pack (g .units) (groups f limit))) ≤ h * g .pages
   pages-fit f ff =
       let q : 4 * B < 4 * B / g .pages * g .pages + g .pages = lt-div-mul-add (ch .pos) in
       omega (arith, pages-most T us limit (g .units) f (ch .big) ff, ch .lim)
@@ -301,20 +294,20 @@ module _ (g : Geometry) (limit B : ℕ) (torn : List ℕ) (ch : Chip g limit B t
   taken b = any (eqb b) (hd ∷ take h un)
 
   abbrev others : List ℕ
-  others = filter (λ (b : ℕ). not (taken b)) (from 0 B)
+  others = filter (λ (b : ℕ). not (taken b)) (countFrom 0 B)
 
   many-others : h ≤ length others
   many-others =
-      let a : length (filter taken (from 0 B)) ≤ length (hd ∷ take h un) =
-      at-most (filter taken (from 0 B)) (hd ∷ take h un) (diff-filter taken (from 0 B) (tab-diff 0 B)) (All-map (λ b t. eqb-mem b (hd ∷ take h un) t) (filter-is taken (from 0 B))) in
-      omega (arith, filter-parts taken (from 0 B), length-tab (λ (i : ℕ). i) 0 B, length-take-n h un, wide)
+      let a : length (filter taken (countFrom 0 B)) ≤ length (hd ∷ take h un) =
+      at-most (filter taken (countFrom 0 B)) (hd ∷ take h un) (diff-filter taken (countFrom 0 B) (tab-diff 0 B)) (All-map (λ b t. eqb-mem b (hd ∷ take h un) t) (filter-is taken (countFrom 0 B))) in
+      omega (arith, filter-parts taken (countFrom 0 B), length-tab (λ (i : ℕ). i) 0 B, length-take-n h un, wide)
 
   others-out : All (λ b. (b < B) × (b ≡ hd → ⊥) × All (λ c. c ≡ b → ⊥) (take h un)) others
   others-out =
       All-zip
       (λ b r t. let a : All (λ c. eqb b c ≡ false) (hd ∷ take h un) = any-false (eqb b) (hd ∷ take h un) (off (taken b) t) in
       (omega (arith, r .1), λ e. eqb-false b hd (All-head a) e, All-map (λ c n e. eqb-false b c n (sym e)) (All-tail a)))
-      (All-filter (λ (b : ℕ). not (taken b)) (tab-range 0 B)) (filter-is (λ (b : ℕ). not (taken b)) (from 0 B))
+      (All-filter (λ (b : ℕ). not (taken b)) (tab-range 0 B)) (filter-is (λ (b : ℕ). not (taken b)) (countFrom 0 B))
     where
       off : (c : Bool) → not c ≡ true → c ≡ false
       off true e = clash e refl
@@ -346,7 +339,7 @@ module _ (g : Geometry) (limit B : ℕ) (torn : List ℕ) (ch : Chip g limit B t
       let C = snapshot-choice e in
       let rs = All-map (λ q o. reset-first (rd .fair (q .node) (o .below)) (q .updates) (o .is) (o .some)) (ofs ch rd C) in
       choice-safe h ch rd C (pages-fit (snapshot T us) fs)
-      (λ room n. room-new ch rd C h n others (diff-filter (λ (b : ℕ). not (taken b)) (from 0 B) (tab-diff 0 B)) many-others
+      (λ room n. room-new ch rd C h n others (diff-filter (λ (b : ℕ). not (taken b)) (countFrom 0 B) (tab-diff 0 B)) many-others
       (All-map (λ b a. let w = no-page ch rd C b (a .1) (a .2) in (a .0, anew-unlisted ch rd C b rs none-pages w, w)) others-out))
 
   by-nodes : (planBy g limit B ps tb G T us ≡ stuck) ⊎ Safe g limit B h torn ps tb G us (planBy g limit B ps tb G T us)

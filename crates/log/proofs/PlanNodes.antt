@@ -19,7 +19,7 @@ use Rattle.views.specs.Table.{Node, isWhole}
 use Rattle.views.specs.Groups.{isReset, own, present}
 use Rattle.views.proofs.Entries.{FewView, RisingView, rebuilt, updates-few, updates-rising}
 use Rattle.views.proofs.Groups.{Short, alone, joined}
-use Rattle.log.specs.Plan.{delta, rewrite, smaller, snapshot}
+use Rattle.log.specs.Policy.{delta, rewrite, smaller, snapshot}
 
 -- ---- fair views: the tree's invariant, and what fits the fields of a unit
 abbrev pub Small : Entry → Type 0
@@ -139,7 +139,7 @@ valid-rewrite (some a b c d) = more a (go d)
     go (more h hs) = more h (go hs)
 
 -- what a choice f of updates owes for node n
-pub record Fits (T : ℕ → Node) (us : List U.Unit) (f : ℕ → List Update) (n : ℕ) : Type 0 where
+pub record CommitsNode (T : ℕ → Node) (us : List U.Unit) (f : ℕ → List Update) (n : ℕ) : Type 0 where
   pub now : foldl apply (T n .now) (f n) ≡ present n (T n .now) us
   pub covers : f n ≡ [] → own n us ≡ []
   pub few : length (f n) ≤ 17
@@ -155,13 +155,14 @@ some-rewrite : {v : View} → Fair v → touched v ≡ true → any isReset (rew
 some-rewrite nothing t = t
 some-rewrite (some a b c d) t = refl
 
-cons-some : {A : Type 0} {Q : Type 0} (x : A) (xs : List A) → x ∷ xs ≡ [] → Q
+-- a list with an element is not empty
+pub cons-some : {A : Type 0} {Q : Type 0} (x : A) (xs : List A) → x ∷ xs ≡ [] → Q
 cons-some x xs e = let y : _≡_ {A = ℕ} 0 1 = cc in absurd (omega arith)
 
 module _ (T : ℕ → Node) (us : List U.Unit) (limit : ℕ) (valids : All (Valid limit) us) (n : ℕ) (fair : Fair (present n (T n .now) us)) where
   -- by cases of the node's own units and of its view
   delta-fits-at : (os : List Update) (v : View) → own n us ≡ os → v ≡ present n (T n .now) us → Fair v → (f : ℕ → List Update)
-      → f n ≡ smaller (length (T n .pages)) os (rewrite v) → Fits T us f n
+      → f n ≡ smaller (length (T n .pages)) os (rewrite v) → CommitsNode T us f n
   delta-fits-at [] v e i a f q =
       record {
         now = ap (foldl apply (T n .now)) (q ∙ sym e);
@@ -172,7 +173,7 @@ module _ (T : ℕ → Node) (us : List U.Unit) (limit : ℕ) (valids : All (Vali
       }
   delta-fits-at (u ∷ os) v e i a f q =
       let t : touched v ≡ true = ap touched i ∙ ap (λ l. touched (foldl apply (T n .now) l)) e ∙ some-touched u os (T n .now) in
-      let fresh-one : f n ≡ rewrite v → Fits T us f n = λ r.
+      let fresh-one : f n ≡ rewrite v → CommitsNode T us f n = λ r.
       record {
         now = rw r (now-anew (T n .now) (own n us) a i t);
         covers = λ z. clash (ap (any isReset) r ∙ some-rewrite a t) (ap (any isReset) z);
@@ -192,10 +193,10 @@ module _ (T : ℕ → Node) (us : List U.Unit) (limit : ℕ) (valids : All (Vali
         short = λ p l. joined u os r (any-false isReset (u ∷ os) b) (omega (arith, leb-false 4 (length (T n .pages)) d));
       })))
 
-  pub delta-fits : Fits T us (delta T us) n
+  pub delta-fits : CommitsNode T us (delta T us) n
   delta-fits = delta-fits-at (own n us) (present n (T n .now) us) refl refl fair (delta T us) refl
 
-  snapshot-fits-at : (v : View) → v ≡ present n (T n .now) us → Fair v → (f : ℕ → List Update) → f n ≡ rewrite v → Fits T us f n
+  snapshot-fits-at : (v : View) → v ≡ present n (T n .now) us → Fair v → (f : ℕ → List Update) → f n ≡ rewrite v → CommitsNode T us f n
   snapshot-fits-at v i nothing f q =
       let o : own n us ≡ [] = untouched-own (own n us) (T n .now) (sym i) in
       record {
@@ -214,5 +215,5 @@ module _ (T : ℕ → Node) (us : List U.Unit) (limit : ℕ) (valids : All (Vali
         short = λ p m. alone (rw q);
       }
 
-  pub snapshot-fits : Fits T us (snapshot T us) n
+  pub snapshot-fits : CommitsNode T us (snapshot T us) n
   snapshot-fits = snapshot-fits-at (present n (T n .now) us) refl fair (snapshot T us) refl

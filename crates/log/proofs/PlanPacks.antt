@@ -9,13 +9,12 @@ use borrow.Author.Tests.{le-leb, leb-true, ltb-false, ltb-true}
 use Rattle.lists.specs.Lists.{All, flat, more, none}
 use Rattle.lists.proofs.Alls.{All-head, All-map, All-tail}
 use Rattle.lists.proofs.Flats.{map-append}
-use Rattle.log.proofs.Sets.{All-pull}
+use Rattle.lists.proofs.Sets.{All-pull}
 use Rattle.lists.proofs.Tests.{cases}
 use Rattle.pages.specs.declared.unit.Update.{Update}
-use Rattle.views.specs.Groups.{Group, unitFor}
-use Rattle.views.proofs.Groups.{Distinct}
-use Rattle.log.specs.Commit.{Pack, groupAt, groupsOf, unitsOf}
-use Rattle.log.specs.Plan.{add, groups, keep, pack, sheets}
+use Rattle.views.specs.Groups.{Group, unitFor, Distinct}
+use Rattle.log.specs.Commit.{Pack, groupAt, groupsOf, unitsOfPacks}
+use Rattle.log.specs.Policy.{add, groups, keep, pack, sheets}
 
 -- ---- groups
 abbrev pub size : Pack → ℕ
@@ -82,31 +81,27 @@ pub length-groups : (f : ℕ → List Update) (n : ℕ) → length (groups f n) 
 length-groups f zero = omega arith
 length-groups f (suc n) = omega (arith, length-keep n (f n) (groups f n), length-groups f n)
 
-keep-some : (n : ℕ) (us : List Update) (ks : List Pack) → 0 < length ks → 0 < length (keep n us ks)
-keep-some n [] ks h = h
-keep-some n (u ∷ us) ks h = omega arith
-
 -- ---- pages
 add-flat : (room : ℕ) (k : Pack) (ps : List (List Pack)) → flat (λ p. p) (add room k ps) ≡ k ∷ flat (λ p. p) ps
 add-flat room k [] = refl
-add-flat room k (p ∷ ps) = cases (leb (length (unitsOf (k ∷ p))) room) (λ t. rw t) (λ t. rw t)
+add-flat room k (p ∷ ps) = cases (leb (length (unitsOfPacks (k ∷ p))) room) (λ t. rw t) (λ t. rw t)
 
 -- no group is split, none is lost, the order stays
 pub pack-flat : (room : ℕ) (ks : List Pack) → flat (λ p. p) (pack room ks) ≡ ks
 pack-flat room [] = refl
 pack-flat room (k ∷ ks) = add-flat room k (pack room ks) ∙ ap (λ l. k ∷ l) (pack-flat room ks)
 
-pub size-units : (k : Pack) (ks : List Pack) → length (unitsOf (k ∷ ks)) ≡ size k + length (unitsOf ks)
-size-units k ks = length-append (map (unitFor (k .node)) (k .updates)) (unitsOf ks) ∙ ap (λ n. n + length (unitsOf ks)) (length-map (k .updates) (unitFor (k .node)))
+pub size-units : (k : Pack) (ks : List Pack) → length (unitsOfPacks (k ∷ ks)) ≡ size k + length (unitsOfPacks ks)
+size-units k ks = length-append (map (unitFor (k .node)) (k .updates)) (unitsOfPacks ks) ∙ ap (λ n. n + length (unitsOfPacks ks)) (length-map (k .updates) (unitFor (k .node)))
 
 abbrev pub Full : ℕ → List Pack → Type 0
-Full room p = (0 < length (unitsOf p)) × (length (unitsOf p) ≤ room)
+Full room p = (0 < length (unitsOfPacks p)) × (length (unitsOfPacks p) ≤ room)
 
 add-full : (room : ℕ) (k : Pack) (ps : List (List Pack)) → 0 < size k → size k ≤ room → All (Full room) ps → All (Full room) (add room k ps)
 add-full room k [] a b h = more {x = k ∷ []} (omega (arith, size-units k []), omega (arith, size-units k [])) none
 add-full room k (p ∷ ps) a b h =
-    cases (leb (length (unitsOf (k ∷ p))) room)
-    (λ t. rw t (more {x = k ∷ p} (omega (arith, size-units k p), leb-true (length (unitsOf (k ∷ p))) room t) (All-tail h)))
+    cases (leb (length (unitsOfPacks (k ∷ p))) room)
+    (λ t. rw t (more {x = k ∷ p} (omega (arith, size-units k p), leb-true (length (unitsOfPacks (k ∷ p))) room t) (All-tail h)))
     (λ t. rw t (more {x = k ∷ []} (omega (arith, size-units k []), omega (arith, size-units k [])) h))
 
 -- each page has 1 to `room` units
@@ -128,12 +123,12 @@ add-half : (room c n : ℕ) (k : Pack) (ps : List (List Pack)) → size k ≤ c 
     → Half n ps → Half (suc n) (add room k ps)
 add-half room c n k [] a r s h = omega arith
 add-half room c n k ([] ∷ ps) a r s h =
-    cases (leb (length (unitsOf (k ∷ []))) room) (λ t. rw t (omega arith)) (λ t. rw t (omega arith))
+    cases (leb (length (unitsOfPacks (k ∷ []))) room) (λ t. rw t (omega arith)) (λ t. rw t (omega arith))
 add-half room c n k ((j ∷ []) ∷ ps) a r s h =
-    let e : length (unitsOf (k ∷ j ∷ [])) ≤ room = omega (arith, size-units k (j ∷ []), size-units j [], All-head s) in
-    rw (le-leb (length (unitsOf (k ∷ j ∷ []))) room e) (omega arith)
+    let e : length (unitsOfPacks (k ∷ j ∷ [])) ≤ room = omega (arith, size-units k (j ∷ []), size-units j [], All-head s) in
+    rw (le-leb (length (unitsOfPacks (k ∷ j ∷ []))) room e) (omega arith)
 add-half room c n k ((j ∷ i ∷ p) ∷ ps) a r s h =
-    cases (leb (length (unitsOf (k ∷ j ∷ i ∷ p))) room) (λ t. rw t (omega arith)) (λ t. rw t (omega arith))
+    cases (leb (length (unitsOfPacks (k ∷ j ∷ i ∷ p))) room) (λ t. rw t (omega arith)) (λ t. rw t (omega arith))
 
 pack-half : (room c : ℕ) {ks : List Pack} → c + c ≤ room → All (λ k. size k ≤ c) ks → Half (length ks) (pack room ks)
 pack-half room c r none = omega arith
@@ -150,7 +145,7 @@ pack-count room c ks r h = omega (arith, pack-half room c r h, alone-one (pack r
 
 add-some : (room : ℕ) (k : Pack) (ps : List (List Pack)) → 0 < length (add room k ps)
 add-some room k [] = omega arith
-add-some room k (p ∷ ps) = cases (leb (length (unitsOf (k ∷ p))) room) (λ t. rw t (omega arith)) (λ t. rw t (omega arith))
+add-some room k (p ∷ ps) = cases (leb (length (unitsOfPacks (k ∷ p))) room) (λ t. rw t (omega arith)) (λ t. rw t (omega arith))
 
 pub pack-some : (room : ℕ) (ks : List Pack) → 0 < length ks → 0 < length (pack room ks)
 pack-some room [] h = h
@@ -185,11 +180,6 @@ pub sheets-packs : {P : List Pack → Type 0} (ws : List ℕ) (ks : List (List P
 sheets-packs [] ks h = none
 sheets-packs (p ∷ ws) [] h = none
 sheets-packs (p ∷ ws) (k ∷ ks) h = more (All-head h) (sheets-packs ws ks (All-tail h))
-
-pub sheets-places : {P : ℕ → Type 0} (ws : List ℕ) (ks : List (List Pack)) → All P ws → All (λ t. P (t .place)) (sheets ws ks)
-sheets-places [] ks h = none
-sheets-places (p ∷ ws) [] h = none
-sheets-places (p ∷ ws) (k ∷ ks) h = more (All-head h) (sheets-places ws ks (All-tail h))
 
 -- ---- the same as a loop over the nodes from 0 up
 abbrev pub put : ℕ → ℕ → List Update → List (List Pack) → List (List Pack)

@@ -8,12 +8,12 @@ use native.Mathlib.Omega.{arith}
 use lib.Dec.{leb, ltb}
 use lib.ListN.{length, length-append, take}
 use borrow.Author.Tests.{le-leb, leb-true, lt-ltb, ltb-false, ltb-true}
-use Rattle.lists.specs.Lists.{All, At, all, any, filter, flat, mapFrom, none}
+use Rattle.lists.specs.Lists.{All, At, all, any, filter, flat, mapFrom, none, Diff}
 use Rattle.lists.proofs.Alls.{All-append, All-filter, All-head, All-map, All-tail, All-take, All-zip, all-All}
 use Rattle.lists.proofs.Filters.{filter-is}
 use Rattle.lists.proofs.Flats.{length-tab}
 use Rattle.lists.proofs.Places.{length-mapFrom}
-use Rattle.log.proofs.Sets.{Diff, Mem, any-mem, diff-append, diff-filter, here, mem-all, mem-at, mem-filter, tab-diff, tab-mem, tab-range, there}
+use Rattle.lists.proofs.Sets.{Mem, any-mem, diff-append, diff-filter, here, mem-all, mem-at, mem-filter, tab-diff, tab-mem, tab-range, there}
 use Rattle.lists.proofs.Tests.{and-intro, and-left, and-right, cases, clash}
 use Rattle.chip.specs.Geometry.{Geometry}
 use Rattle.chip.specs.Page.{Page, blank, isFree}
@@ -21,7 +21,7 @@ use Rattle.chip.specs.Chip.{erase, filled, inBlock, whole}
 use Rattle.chip.proofs.PageLaws.{free-blank}
 use Rattle.chip.proofs.Runs.{Sized}
 use Rattle.log.specs.Commit.{cleared}
-use Rattle.log.specs.Plan.{erases, freeAt, pagesIn, places}
+use Rattle.log.specs.Policy.{erases, freeAt, pagesIn, places}
 
 -- ---- a page is in one block
 abbrev pub In : Geometry → ℕ → ℕ → Type 0

@@ -9,10 +9,10 @@ use lib.Dec.{eqb}
 use lib.ListN.{length, replicate, replicate-append-replicate}
 use lib.Seq.{length-take-le}
 use borrow.Author.Tests.{eq-eqb}
-use Rattle.lists.specs.Lists.{All, At, all, any, flat, more, none}
+use Rattle.lists.specs.Lists.{All, At, all, any, flat, more, none, Diff}
 use Rattle.lists.proofs.Alls.{All-all, All-filter, All-head, All-map, All-tail, All-zip, any-false}
 use Rattle.lists.proofs.Places.{At-same}
-use Rattle.log.proofs.Sets.{Diff, Mem, any-mem, any-witness, here, mem-all, mem-at, tab-range, there}
+use Rattle.lists.proofs.Sets.{Mem, any-mem, any-witness, here, mem-all, mem-at, tab-range, there}
 use Rattle.lists.proofs.Tests.{and-intro, cases, clash, or-right}
 use Rattle.chip.specs.declared.page.Mark.the-variants.{Used, Valid}
 use Rattle.chip.specs.Geometry.{Geometry}
@@ -26,9 +26,9 @@ use Rattle.pages.proofs.Settle.{run-same}
 use Rattle.views.specs.Table.{Node}
 use Rattle.views.proofs.ViewLaws.{Apart}
 use Rattle.log.specs.Commit.{Pack, cleared, commitOps, pagesFrom, writesOf}
-use Rattle.log.specs.Plan.{freeAt, groups, holds, isUsed, listed, pack, pagesIn, places, sheets}
+use Rattle.log.specs.Policy.{freeAt, groups, holdsCommit, isUsed, isListed, pack, pagesIn, places, sheets}
 use Rattle.log.proofs.CommitCut.{put, used, wrote}
-use Rattle.log.proofs.PlanChoice.{Chip, Choice, Ready, apart, es, free, in-image, news, plan, pp, ts, ws, ws-diff}
+use Rattle.log.proofs.PlanChoice.{Chip, Choice, Committable, apart, es, free, in-image, news, plan, pp, ts, ws, ws-diff}
 use Rattle.log.proofs.PlanLive.{wrote-other}
 use Rattle.log.proofs.PlanPlaces.{cleared-makes, in-block, places-blank}
 
@@ -109,12 +109,12 @@ left-over g c n k (w ∷ ws) (p ∷ pp) d l =
     let r = left-over g c n (suc k) ws pp (d .1) (omega arith) in
     record { place = r .place; mem = there (r .mem); is = more (mem-at (r .mem) (d .0)) (r .is) }
 
-is-used : (g : Geometry) (tb : List Node) (G : ℕ) (xs : List Live) (b : ℕ) → holds g G xs b ≡ true → isUsed g tb G xs b ≡ true
+is-used : (g : Geometry) (tb : List Node) (G : ℕ) (xs : List Live) (b : ℕ) → holdsCommit g G xs b ≡ true → isUsed g tb G xs b ≡ true
 unfolding isUsed
-is-used g tb G xs b h = or-right (listed g tb b) (holds g G xs b) h
+is-used g tb G xs b h = or-right (isListed g tb b) (holdsCommit g G xs b) h
 
 module _ {g : Geometry} {limit B : ℕ} {torn : List ℕ} (ch : Chip g limit B torn) {ps : List Page} {tb : List Node} {G : ℕ} {us : List U.Unit}
-    (rd : Ready g limit B ps tb G us) (C : Choice g limit B ps tb G us) where
+    (rd : Committable g limit B ps tb G us) (C : Choice g limit B ps tb G us) where
   abbrev E : List ℕ
   E = es ch rd C
 

@@ -9,7 +9,7 @@ use Rattle.lists.specs.Lists.{All, At, modify, more, none, tab}
 use Rattle.lists.proofs.Alls.{All-head, All-map, All-tail, All-zip}
 use Rattle.lists.proofs.Flats.{length-tab}
 use Rattle.lists.proofs.Places.{At-other}
-use Rattle.log.proofs.Sets.{mem-at, tab-diff, tab-range}
+use Rattle.lists.proofs.Sets.{mem-at, tab-diff, tab-range}
 use Rattle.lists.proofs.Sorts.{sort-All}
 use Rattle.chip.specs.declared.page.Mark.the-variants.{Obsolete}
 use Rattle.chip.specs.Geometry.{Geometry}

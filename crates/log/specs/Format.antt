@@ -42,9 +42,9 @@ formatted g zero = []
 formatted g (suc n) = formatPage g ∷ replicate n (blank g)
 
 -- the node table: one empty leaf, node 0, on page 0; no other node has a unit
-abbrev pub leaf : ℕ → Node
-leaf zero = record { now = view 0 []; pages = 0 ∷ [] }
-leaf (suc n) = fresh
+abbrev pub formatNode : ℕ → Node
+formatNode zero = record { now = view 0 []; pages = 0 ∷ [] }
+formatNode (suc n) = fresh
 
 abbrev pub formatTable : ℕ → List Node
-formatTable limit = tab 0 limit leaf
+formatTable limit = tab 0 limit formatNode

@@ -1,4 +1,5 @@
 pub mod Mount
+pub mod MountCode
 pub mod Format
 pub mod Commit
-pub mod Plan
+pub mod Policy

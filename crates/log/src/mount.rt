@@ -5,7 +5,7 @@ ghost use Prim.Native.Nat.{_+_, _*_, _%_, _≤_};
 ghost use lib.ListN.{getD, length};
 ghost use Rattle.chip.specs.Geometry.{small};
 ghost use Rattle.chip.specs.Chip.{Ran, pagesOf};
-ghost use Rattle.log.specs.Mount.{isOf, retireOne, retireOps};
+ghost use Rattle.log.specs.MountCode.{isOf, retireOne, retireOps};
 use chip::geometry::PAGE;
 use chip::image;
 use chip::page;

@@ -15,7 +15,7 @@ use Rattle.frames.proofs.LineLaws.{min-back}
 use Rattle.orders.specs.declared.order.Order.{Order}
 use Rattle.orders.specs.declared.order.Order.the-variants.{NoFrame}
 use Rattle.orders.specs.Orders.{bare, single, marked, double, byteAt, orderOf}
-use Rattle.orders.specs.Lines.{Orders}
+use Rattle.orders.specs.OrderCode.{Orders}
 
 -- ---- the order o of the bytes s, where g says whether they are all digits
 module _ (s : List ℕ) (g : Bool) (same : g ≡ allDigits s) where

@@ -1,5 +1,5 @@
 -- Bytes gathered one after the other. Assumes nothing.
-use mathlib.Core.Path.{_≡_, refl, sym, ap, ap₂, _∙_}
+use mathlib.Core.Path.{_≡_, refl, sym, ap, _∙_}
 use mathlib.Core.List.{List, [], _∷_, _++_, append-assoc, append-nil}
 use Prim.Native.Nat.{ℕ, zero, suc, _+_, _-_, _*_, _/_, _%_, _^_, _≤_, _<_}
 use native.Mathlib.Omega.{arith}
@@ -8,10 +8,10 @@ use native.Mathlib.Nat.{pow-suc}
 use lib.Pow.{pow-add}
 use lib.ListN.{length, take, drop, set, getD, length-set, length-append}
 use lib.Seq.{take-suc-set, drop-cons}
-use Rattle.lists.specs.Lists.{flat}
 use Rattle.frames.specs.Frames.{digitText, hexText}
 use Rattle.frames.proofs.Digits.{drop-past}
-use Rattle.orders.specs.Replies.{Adds, bytesText}
+use Rattle.orders.specs.Replies.{bytesText}
+use Rattle.orders.specs.ReplyCode.{Adds}
 
 -- ---- what is added in turn
 pub both : {b m a xs ys : List ℕ} {at i r : ℕ} → Adds b at xs m i → Adds m i ys a r → Adds b at (xs ++ ys) a r

@@ -1,5 +1,6 @@
 pub mod Orders
-pub mod Lines
+pub mod OrderCode
 pub mod Replies
+pub mod ReplyCode
 pub mod Sums
 pub mod Noises

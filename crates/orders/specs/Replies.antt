@@ -1,19 +1,12 @@
 -- The lines that the probe writes, as lists of bytes with their line feed.
-use mathlib.Core.Path.{_≡_}
 use mathlib.Core.List.{List, [], _∷_, _++_}
 use Prim.Native.Nat.{ℕ, _+_}
-use lib.ListN.{length, take}
 use Rattle.lists.specs.Lists.{flat}
 use Rattle.frames.specs.Frames.{hexText}
 use Rattle.store.specs.declared.answer.Look.{Look}
 use Rattle.store.specs.declared.answer.Look.the-variants as L
 use Rattle.store.specs.declared.answer.Report.{Report}
 use Rattle.store.specs.declared.answer.Report.the-variants as R
-
--- bs written behind the first `at` bytes of a buffer: r bytes are gathered then
-pub record Adds (before : List ℕ) (at : ℕ) (bs : List ℕ) (after : List ℕ) (r : ℕ) : Type 0 where
-  pub end : r ≡ at + length bs
-  pub bytes : take r after ≡ take at before ++ bs
 
 -- a line feed
 abbrev pub feed : List ℕ

@@ -1,7 +1,7 @@
 // A line taken as a frame of the probe.
 ghost use mathlib.Core.Path.{_≡_};
 ghost use Rattle.orders.specs.Orders.{callOf, settingOf, bare, single, marked, double, orderOf};
-ghost use Rattle.orders.specs.Lines.{Orders};
+ghost use Rattle.orders.specs.OrderCode.{Orders};
 use frames::frame;
 use frames::line::Line;
 

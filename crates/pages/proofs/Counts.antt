@@ -130,15 +130,6 @@ module _ (g : Geometry) (s : List Live) (z : Live) (links : chain (s ++ (z ∷ [
   newest-links : chain newest ≡ true
   newest-links = chain-filter (ofCommit (commit z)) (s ++ (z ∷ [])) links
 
-  -- at most as many as the count says
-  pub newest-most : number (ofCommit (commit z)) (s ++ (z ∷ [])) ≤ count z
-  newest-most =
-      omega (
-        arith,
-        count-filter (ofCommit (commit z)) (s ++ (z ∷ [])),
-        rising (commit z) (count z) 0 newest newest-links newest-same newest-index (All-map (λ x k. omega arith) newest-same) (omega arith),
-      )
-
   full-newest : full z newest ≡ full z (s ++ (z ∷ []))
   full-newest = full-filter z (ofCommit (commit z)) (s ++ (z ∷ [])) (All-map (λ x o e. eq-eqb (commit x) (commit z) e) owns)
 
@@ -171,8 +162,3 @@ module _ (g : Geometry) (s : List Live) (z : Live) (links : chain (s ++ (z ∷ [
       ∙ same-test (full z newest) (eqb (length newest) (count z))
       (λ t. eq-eqb (length newest) (count z) (count-full t)) (λ t. full-if (eqb-true (length newest) (count z) t))
       ∙ ap (λ (k : ℕ). eqb k (count z)) (sym (count-filter (ofCommit (commit z)) (s ++ (z ∷ []))))
-
-  -- fewer when it is not full
-  pub short-count : full z (s ++ (z ∷ [])) ≡ false → number (ofCommit (commit z)) (s ++ (z ∷ [])) < count z
-  short-count e =
-      let d = eqb-false (number (ofCommit (commit z)) (s ++ (z ∷ []))) (count z) (sym full-count ∙ e) in omega (arith, newest-most, d)

@@ -7,7 +7,7 @@ use native.Mathlib.Numerals.{add-one}
 use native.Mathlib.Omega.{arith}
 use lib.Dec.{eqb}
 use lib.ListN.{length, take, drop, set, replicate, length-append, length-drop, length-replicate}
-use lib.Seq.{take-at, drop-at, drop-drop, take-all, take-length, take-suc-set, length-take-le}
+use lib.Seq.{drop-at, drop-drop, take-all, take-length, take-suc-set, length-take-le}
 use borrow.Author.Tests.{lt-ltb, le-leb, ltb-true, leb-true}
 use Rattle.lists.specs.Lists.{all, All, flat, part, patch}
 use Rattle.lists.proofs.Tests.{cases, and-left, and-right}
@@ -20,7 +20,7 @@ use Rattle.pages.specs.declared.unit.Decoded.the-variants.{Good}
 use Rattle.pages.specs.declared.header.Head.{Head}
 use Rattle.pages.specs.declared.header.Header.the-variants.{Obeys, Breaks}
 use Rattle.pages.specs.Units.{encode, decodes, Valid}
-use Rattle.pages.specs.Data.{headOf, obeys, headerOf, unitBytes, headBytes, laid, dataOf}
+use Rattle.pages.specs.Data.{headOf, obeys, headerOf, headBytes, laid, dataOf}
 use Rattle.pages.proofs.UnitLaws.{word-back, half-back, byte-below, word-below, half-below, decodes-units}
 
 -- ---- the own rules one by one
@@ -152,9 +152,6 @@ module _ (g : Geometry) (c i n k : ℕ) (units : List ℕ) where
   unfolding laid
   laid-behind = refl
 
-  laid-front : length units ≡ 12 * k → take (12 * k) (drop 8 (laid g c i n k units)) ≡ units
-  laid-front lu = rw laid-behind (take-at units (replicate (g .area - (8 + 12 * k)) 255) (12 * k) lu)
-
   laid-rest : length units ≡ 12 * k → drop (8 + 12 * k) (laid g c i n k units) ≡ replicate (g .area - (8 + 12 * k)) 255
   laid-rest lu =
       sym (drop-drop (12 * k) 8 (laid g c i n k units)) ∙ rw laid-behind (drop-at units (replicate (g .area - (8 + 12 * k)) 255) (12 * k) lu)
@@ -172,10 +169,6 @@ module _ (g : Geometry) (c i n k : ℕ) (units : List ℕ) where
         few = few;
         rest = rw (laid-rest lu) (All-all (λ (b : ℕ). eqb b 255) (All-replicate (g .area - (8 + 12 * k)) 255 refl));
       }))
-
-  -- the bytes of the units
-  pub laid-units : c < 2 ^ 32 → length units ≡ 12 * k → unitBytes (laid g c i n k units) ≡ units
-  laid-units h lu = ap (λ (x : Head). take (12 * x .units) (drop 8 (laid g c i n k units))) (laid-head h) ∙ laid-front lu
 
 -- the units of a page that is laid out with them
 pub data-units : (g : Geometry) (limit c i n : ℕ) (us : List Unit) → All (Valid limit) us

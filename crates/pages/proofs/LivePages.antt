@@ -66,22 +66,22 @@ module _ (g : Geometry) where
   steady f (suc p) i x (y ∷ ys) a h k e = rw (steady f p (suc i) x ys a h k e)
 
   -- it becomes live, behind all others in the order
-  pub grow : (f : Page → Page) (p i q : ℕ) (x : Page) (ps : List Page) → q ≡ i + p → At p x ps → isLive g x ≡ false → isLive g (f x) ≡ true
+  pub becomes-live : (f : Page → Page) (p i q : ℕ) (x : Page) (ps : List Page) → q ≡ i + p → At p x ps → isLive g x ≡ false → isLive g (f x) ≡ true
       → All (λ (z : Live). before z (live g q (f x)) ≡ true) (liveFrom g i ps)
       → ordered (liveFrom g i (modify p f ps)) ≡ ordered (liveFrom g i ps) ++ (live g q (f x) ∷ [])
-  grow f p i q x [] e a h k b = absurd a
-  grow f zero i q x (y ∷ ys) e a h k b =
+  becomes-live f p i q x [] e a h k b = absurd a
+  becomes-live f zero i q x (y ∷ ys) e a h k b =
       let w : i ≡ q = omega arith in
       let c : All (λ (z : Live). before z (live g q (f x)) ≡ true) (liveFrom g (suc i) ys) = (rw (← a, h) at b) in
       rw (← a, k, h, w) (insert-last before (live g q (f x)) (All-sort before (rw w at c)))
-  grow f (suc p) i q x (y ∷ ys) e a h k b =
+  becomes-live f (suc p) i q x (y ∷ ys) e a h k b =
       let w : q ≡ suc i + p = omega arith in
       cases (isLive g y)
       (λ l. let c : All (λ (z : Live). before z (live g q (f x)) ≡ true) (live g i y ∷ liveFrom g (suc i) ys) = (rw l at b) in
-      rw (l, grow f p (suc i) q x ys w a h k (All-tail c))
+      rw (l, becomes-live f p (suc i) q x ys w a h k (All-tail c))
       (insert-inner before (live g i y) (live g q (f x)) (ordered (liveFrom g (suc i) ys)) (asym (live g q (f x)) (live g i y) (All-head c))))
       (λ l. let c : All (λ (z : Live). before z (live g q (f x)) ≡ true) (liveFrom g (suc i) ys) = (rw l at b) in
-      rw l (grow f p (suc i) q x ys w a h k c))
+      rw l (becomes-live f p (suc i) q x ys w a h k c))
 
   -- it is live no more
   pub shrink : (f : Page → Page) (p i q : ℕ) (x : Page) (ps : List Page) → q ≡ i + p → At p x ps → isLive g (f x) ≡ false

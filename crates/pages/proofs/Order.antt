@@ -9,7 +9,7 @@ use lib.Dec.{ltb, eqb}
 use borrow.Author.Tests.{ltb-true, ltb-false, eqb-true, eqb-false, lt-ltb, le-ltb, eq-eqb, ne-eqb}
 use Rattle.lists.specs.Lists.{filter, All, none, more}
 use Rattle.lists.proofs.Tests.{cases, clash, and-left, and-right, and-intro}
-use Rattle.lists.proofs.Alls.{All-head, All-map, All-filter, All-left, All-right}
+use Rattle.lists.proofs.Alls.{All-head, All-map, All-filter, All-right}
 use Rattle.pages.specs.Steps.{Live, commit, index, count, before}
 
 -- what `before` says
@@ -132,10 +132,6 @@ chain-filter p [] e = refl
 chain-filter p (x ∷ xs) e =
     let r = chain-filter p xs (chain-tail x xs e) in
     cases (p x) (λ t. rw t (chain-cons x (filter p xs) (All-filter p (chain-far x xs e)) r)) (λ t. rw t r)
-
-pub chain-left : (xs ys : List Live) → chain (xs ++ ys) ≡ true → chain xs ≡ true
-chain-left [] ys e = refl
-chain-left (x ∷ xs) ys e = chain-cons x xs (All-left xs ys (chain-far x (xs ++ ys) e)) (chain-left xs ys (chain-tail x (xs ++ ys) e))
 
 pub chain-right : (xs ys : List Live) → chain (xs ++ ys) ≡ true → chain ys ≡ true
 chain-right [] ys e = e

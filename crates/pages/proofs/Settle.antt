@@ -115,10 +115,6 @@ module _ {c n : ℕ} where
   run-same start = none
   run-same (page a b d r) = more a (run-same r)
 
-  pub run-counts : {k : ℕ} {xs : List Live} → Run c n k xs → All (λ (x : Live). count x ≡ n) xs
-  run-counts start = none
-  run-counts (page a b d r) = more d (run-counts r)
-
   -- the indexes from k on, one for each page
   pub run-has : (i : ℕ) {k : ℕ} {xs : List Live} → Run c n k xs → k ≤ i → i < k + length xs → any (isAt c i) xs ≡ true
   unfolding isAt

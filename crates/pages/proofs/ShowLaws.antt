@@ -1,21 +1,20 @@
 -- What is shown of a page and of an image. Assumes nothing.
-use mathlib.Core.Path.{_≡_, refl, sym, ap, _∙_}
-use mathlib.Core.Bool.{Bool, true, false, cond, _&&_}
+use mathlib.Core.Path.{_≡_, sym, ap, _∙_}
+use mathlib.Core.Bool.{true, false}
 use mathlib.Core.List.{List, []}
 use Prim.Native.Nat.{ℕ, _+_, _*_, _/_, _≤_, _<_}
 use native.Mathlib.Omega.{arith}
 use lib.Dec.{ltb, eqb}
-use lib.ListN.{length, take, drop, getD}
+use lib.ListN.{length, take}
 use borrow.Author.Tests.{eq-eqb, ne-eqb, lt-ltb, le-ltb}
 use Rattle.lists.specs.Lists.{part}
 use Rattle.chip.specs.Geometry.{Geometry, pageSize, blocksOf}
 use Rattle.chip.specs.Page.{Page, isLive}
-use Rattle.chip.specs.Chip.{pagesOf}
 use Rattle.chip.proofs.ImageLaws.{page-at}
 use Rattle.pages.specs.declared.header.Head.{Head}
 use Rattle.pages.specs.declared.header.Header.the-variants.{Obeys, Breaks}
 use Rattle.pages.specs.Data.{headOf, obeys, headerOf}
-use Rattle.pages.specs.Show.{isShown, shownUnits, showRefusal, showUnits, showStart, showLength}
+use Rattle.pages.specs.Show.{shownUnits, showRefusal, showUnits, showStart, showLength}
 use Rattle.pages.proofs.HeaderLaws.{obeys-is, header-obeys, header-breaks}
 
 module _ (g : Geometry) (x : Page) where

@@ -1,10 +1,8 @@
 -- A page written by three operations: as a run on the chip, what a cut leaves, and when the page is live. Assumes nothing.
-use mathlib.Core.Path.{_≡_, refl, sym, ap, ap₂, _∙_}
-use mathlib.Core.Bool.{Bool, true, false}
-use mathlib.Core.List.{List, [], _∷_}
-use Prim.Native.Nat.{ℕ, zero, suc, _+_, _≤_}
+use mathlib.Core.Path.{_≡_, sym, ap, ap₂, _∙_}
+use mathlib.Core.List.{List}
+use Prim.Native.Nat.{ℕ}
 use native.Mathlib.Omega.{arith}
-use lib.Dec.{eqb}
 use lib.ListN.{length, take, getD}
 use lib.Seq.{length-take-le}
 use Rattle.lists.specs.Lists.{modify}
@@ -12,15 +10,14 @@ use Rattle.lists.proofs.Places.{modify-modify}
 use Rattle.chip.specs.declared.page.Mark.{Mark}
 use Rattle.chip.specs.declared.page.Mark.the-variants.{Used, Valid}
 use Rattle.chip.specs.declared.power.Power.{Power}
-use Rattle.chip.specs.declared.power.Power.the-variants.{Left, Gone}
 use Rattle.chip.specs.Geometry.{Geometry, pageSize}
 use Rattle.chip.specs.Power.{spend, outcome, effect}
-use Rattle.chip.specs.Page.{Page, isLive, blank, marked, programmed}
-use Rattle.chip.specs.Chip.{Op, program, mark, Machine, step, run, Operated, Ran, pagesOf}
+use Rattle.chip.specs.Page.{Page, marked, programmed}
+use Rattle.chip.specs.Chip.{run, Operated, Ran, pagesOf}
 use Rattle.chip.proofs.ImageLaws.{effect-has, effect-modify}
 use Rattle.chip.proofs.PageLaws.{length-marked, length-programmed}
-use Rattle.chip.proofs.Marks.{blank-quiet, first-quiet, second-quiet, third-live}
-use Rattle.pages.specs.Write.{writes, markedBy, programmedBy, written, spent3, Written}
+use Rattle.pages.specs.Write.{writes}
+use Rattle.pages.specs.WriteCode.{markedBy, programmedBy, written, spent3, PageWritten}
 
 module _ (g : Geometry) (torn bytes : List ℕ) where
   -- three operations on one part, one after the other
@@ -28,7 +25,7 @@ module _ (g : Geometry) (torn bytes : List ℕ) where
       → Operated p q y (marked g Used 0 x) (marked g Used (getD torn 0 0) x) x
       → Operated q r z (programmed g bytes y) (programmed g (take (g .area) torn) y) y
       → Operated r s last (marked g Valid 0 z) (marked g Valid (getD torn 0 0) z) z
-      → Written g torn bytes p s x last
+      → PageWritten g torn bytes p s x last
   unfolding written
   written-steps p q r s x y z last a b c =
       let two : r ≡ spend (spend p) = b .power ∙ ap spend (a .power) in
@@ -66,16 +63,6 @@ module _ (g : Geometry) (torn bytes : List ℕ) where
         size = h;
       }
 
-  -- what a cut leaves: before anything, at the used mark, at the data, at the valid mark; and the page written whole
-  pub written-cuts : (x : Page) (n : ℕ)
-      → (written g torn bytes Gone x ≡ x)
-      × (written g torn bytes (Left 0) x ≡ marked g Used (getD torn 0 0) x)
-      × (written g torn bytes (Left 1) x ≡ programmed g (take (g .area) torn) (marked g Used 0 x))
-      × (written g torn bytes (Left 2) x ≡ marked g Valid (getD torn 0 0) (programmed g bytes (marked g Used 0 x)))
-      × (written g torn bytes (Left (suc (suc (suc n)))) x ≡ marked g Valid 0 (programmed g bytes (marked g Used 0 x)))
-  unfolding written
-  written-cuts x n = (refl, refl, refl, refl, refl)
-
   module _ (lb : length bytes ≡ g .area) (lt : length torn ≡ pageSize g) where
     marked-size : (m : Mark) (p : Power) (x : Page) → length x ≡ pageSize g → length (markedBy g torn m p x) ≡ pageSize g
     marked-size m p x h =
@@ -95,13 +82,3 @@ module _ (g : Geometry) (torn bytes : List ℕ) where
     length-written p x h =
         marked-size Valid (spend (spend p)) (programmedBy g torn bytes (spend p) (markedBy g torn Used p x))
         (programmed-size (spend p) (markedBy g torn Used p x) (marked-size Used p x h))
-
-    -- a free page becomes live exactly when the valid mark becomes 0, set or torn
-    pub written-live : (p : Power) → 3 ≤ g .spare
-        → isLive g (written g torn bytes p (blank g)) ≡ effect (spend (spend p)) true (eqb (getD torn 0 0) 0) false
-    unfolding written
-    written-live Gone h = blank-quiet g
-    written-live (Left zero) h = first-quiet g (getD torn 0 0)
-    written-live (Left (suc zero)) h = second-quiet g 0 (take (g .area) torn) front
-    written-live (Left (suc (suc zero))) h = third-live g 0 bytes lb (getD torn 0 0) h
-    written-live (Left (suc (suc (suc n)))) h = third-live g 0 bytes lb 0 h

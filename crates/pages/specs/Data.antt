@@ -1,9 +1,9 @@
 -- The data area of a page: a header of 8 bytes, units of 12 bytes, the rest 255.
 use mathlib.Core.Bool.{Bool, cond, _&&_}
-use mathlib.Core.List.{List, [], _∷_, _++_, map}
+use mathlib.Core.List.{List, [], _∷_, _++_}
 use Prim.Native.Nat.{ℕ, _+_, _-_, _*_, _/_, _%_}
 use lib.Dec.{ltb, leb, eqb}
-use lib.ListN.{length, take, drop, getD, replicate}
+use lib.ListN.{length, drop, getD, replicate}
 use Rattle.lists.specs.Lists.{all, flat}
 use Rattle.chip.specs.Geometry.{Geometry}
 use Rattle.pages.specs.declared.unit.Unit.{Unit}
@@ -26,10 +26,6 @@ obeys g d =
 -- what a function that reads a page's data answers
 abbrev pub headerOf : Geometry → List ℕ → Header
 headerOf g d = cond (obeys g d) (Obeys (headOf d)) Breaks
-
--- the bytes of the units of a page
-abbrev pub unitBytes : List ℕ → List ℕ
-unitBytes d = take (12 * headOf d .units) (drop 8 d)
 
 -- ---- laying out a page's data
 abbrev pub headBytes : ℕ → ℕ → ℕ → ℕ → List ℕ

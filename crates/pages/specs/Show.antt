@@ -4,7 +4,6 @@ use mathlib.Core.List.{List, []}
 use Prim.Native.Nat.{ℕ, _+_, _*_}
 use lib.Dec.{ltb, eqb}
 use lib.ListN.{length, take, getD}
-use Rattle.lists.specs.Lists.{part}
 use Rattle.chip.specs.Geometry.{Geometry, pageSize, blocksOf}
 use Rattle.chip.specs.Page.{Page, isLive}
 use Rattle.chip.specs.Chip.{pagesOf}

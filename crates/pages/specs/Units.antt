@@ -1,5 +1,5 @@
 -- A unit: 12 bytes. Byte 0 kind, byte 1 zero, 2-3 node, 4-7 key, 8-11 value; little-endian.
-use mathlib.Core.Bool.{Bool, true, false, cond, _&&_}
+use mathlib.Core.Bool.{cond}
 use mathlib.Core.List.{List, [], _∷_}
 use Prim.Native.Nat.{ℕ, zero, suc, _+_, _*_, _/_, _%_, _^_, _<_, _≤_}
 use lib.Dec.{ltb, leb, eqb}

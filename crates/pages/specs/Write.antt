@@ -1,37 +1,9 @@
--- Writing a page: used mark, data, valid mark; and what a cut leaves at each of the three.
-use mathlib.Core.Path.{_≡_}
+-- Writing a page: used mark, data, valid mark.
 use mathlib.Core.List.{List, [], _∷_}
 use Prim.Native.Nat.{ℕ}
-use lib.ListN.{take, getD}
-use Rattle.chip.specs.declared.page.Mark.{Mark}
 use Rattle.chip.specs.declared.page.Mark.the-variants.{Used, Valid}
-use Rattle.chip.specs.declared.power.Power.{Power}
-use Rattle.chip.specs.Geometry.{Geometry}
-use Rattle.chip.specs.Power.{spend, effect}
-use Rattle.chip.specs.Page.{Page, marked, programmed}
 use Rattle.chip.specs.Chip.{Op, program, mark}
 
 -- the operations that write page p
 abbrev pub writes : ℕ → List ℕ → List Op
 writes p bytes = mark p Used ∷ program p bytes ∷ mark p Valid ∷ []
-
--- what an operation on a page makes of it: a mark, the data
-abbrev pub markedBy : Geometry → List ℕ → Mark → Power → Page → Page
-markedBy g torn m p x = effect p (marked g m 0 x) (marked g m (getD torn 0 0) x) x
-
-abbrev pub programmedBy : Geometry → List ℕ → List ℕ → Power → Page → Page
-programmedBy g torn bytes p x = effect p (programmed g bytes x) (programmed g (take (g .area) torn) x) x
-
--- the page after the three
-unfoldable pub written : Geometry → List ℕ → List ℕ → Power → Page → Page
-written g torn bytes p x =
-    markedBy g torn Valid (spend (spend p)) (programmedBy g torn bytes (spend p) (markedBy g torn Used p x))
-
--- the power after the three
-abbrev pub spent3 : Power → Power
-spent3 p = spend (spend (spend p))
-
--- what a function that writes a page ensures of it
-pub record Written (g : Geometry) (torn bytes : List ℕ) (p r : Power) (before after : List ℕ) : Type 0 where
-  pub power : r ≡ spent3 p
-  pub page : after ≡ written g torn bytes p before

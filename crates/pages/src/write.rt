@@ -4,7 +4,8 @@ ghost use Prim.Native.Nat.{_+_, _*_, _%_, _≤_};
 ghost use lib.ListN.{length};
 ghost use Rattle.chip.specs.Geometry.{small};
 ghost use Rattle.chip.specs.Chip.{Ran};
-ghost use Rattle.pages.specs.Write.{writes, Written};
+ghost use Rattle.pages.specs.Write.{writes};
+ghost use Rattle.pages.specs.WriteCode.{PageWritten};
 use chip::geometry::PAGE;
 use chip::page;
 use chip::page::Mark;
@@ -13,7 +14,7 @@ use chip::power::Power;
 // The three operations on the part of the image that is the page.
 pub fn write_page(page: &mut [u8], bytes: &[u8], torn: &[u8], power: Power) -> Power
     requires { ⌜ (length (now page) ≡ 528) × (length (now bytes) ≡ 512) × (length (now torn) ≡ 528) ⌝ }
-    ensures { λ r. ⌜ Written small (now (torn .entry)) (now (bytes .entry)) power r (now (page .entry)) (now (page .exit)) ⌝ }
+    ensures { λ r. ⌜ PageWritten small (now (torn .entry)) (now (bytes .entry)) power r (now (page .entry)) (now (page .exit)) ⌝ }
 {
     let used = page::set_mark(page, Mark::Used, torn, power);
     let filled = page::program(page, bytes, torn, used);

@@ -18,16 +18,16 @@ use Rattle.pages.proofs.UnitLaws.{length-units}
 use Rattle.views.specs.Groups.{unitFor}
 use Rattle.views.specs.Nodes.{anew}
 use Rattle.views.specs.NodeCode.{entriesOf}
-use Rattle.views.specs.Pass.{nodeUnits, pushed}
-use Rattle.log.specs.Commit.{Pack, unitsOf}
-use Rattle.log.specs.Plan.{keep}
+use Rattle.views.specs.PassCode.{nodeUnits, pushed}
+use Rattle.log.specs.Commit.{Pack, unitsOfPacks}
+use Rattle.log.specs.Policy.{keep}
 use Rattle.plan.specs.declared.group.Kind.the-variants.{Anew, Nothing, Own}
 use Rattle.plan.specs.declared.group.Group.{Group}
-use Rattle.plan.specs.Group.{between, ownIn, picked, withUpdate}
-use Rattle.plan.specs.GroupCode.{Grouped}
-use Rattle.plan.specs.BuildCode.{Fits, Puts, oneOf}
+use Rattle.plan.specs.GroupCode.{Grouped, ownIn, picked, withUpdate}
+use Rattle.plan.specs.BuildCode.{PutsOnPage, Puts, oneOf}
 use Rattle.plan.proofs.GroupSteps.{own-end, own-next, own-start, ownFrom, picked-node}
 use Rattle.plan.proofs.PackLaws.{between-more, between-none}
+use Rattle.plan.specs.PackCode.{between}
 
 -- ---- units put behind others
 pub puts-none : (k : ℕ) (b : List ℕ) → Puts k [] b b k
@@ -112,18 +112,18 @@ module _ (limit n count : ℕ) (p : List ℕ) (k : ℕ) (b : List ℕ) where
 -- ---- the group of a node
 module _ (count n k : ℕ) (us os : List Update) (g : Group) (h : Grouped count us os g) (b c : List ℕ) (r : ℕ) where
   -- no room
-  pub group-large : k ≤ 42 → 42 < k + g .len → Fits k (map (unitFor n) us) b b k
+  pub group-large : k ≤ 42 → 42 < k + g .len → PutsOnPage k (map (unitFor n) us) b b k
   group-large l m = record { few = l; is = λ q. absurd (omega (arith, h .len, length-map us (unitFor n))) }
 
   -- room
-  room : k + g .len ≤ 42 → Puts k (map (unitFor n) us) b c r → Fits k (map (unitFor n) us) b c r
+  room : k + g .len ≤ 42 → Puts k (map (unitFor n) us) b c r → PutsOnPage k (map (unitFor n) us) b c r
   room l p = record { few = omega (arith, p .count, h .len, length-map us (unitFor n)); is = λ q. p }
 
-  pub group-own : k + g .len ≤ 42 → g .kind ≡ Own → Puts k (map (unitFor n) os) b c r → Fits k (map (unitFor n) us) b c r
+  pub group-own : k + g .len ≤ 42 → g .kind ≡ Own → Puts k (map (unitFor n) os) b c r → PutsOnPage k (map (unitFor n) us) b c r
   group-own l e p = room l (let z : us ≡ os = h .is ∙ rw e in rw z p)
 
   pub group-anew : k + g .len ≤ 42 → g .kind ≡ Anew → length b ≡ 11520 → c ≡ pushed b k (nodeUnits n (g .node)) → r ≡ k + 1 + g .node .len
-      → Fits k (map (unitFor n) us) b c r
+      → PutsOnPage k (map (unitFor n) us) b c r
   group-anew l e s p q =
       let z : us ≡ anew (g .node .level) (entriesOf (g .node)) = h .is ∙ rw e in
       let m : length (nodeUnits n (g .node)) ≡ g .len = length-map (anew (g .node .level) (entriesOf (g .node))) (unitFor n) ∙ sym (h .len ∙ ap length z) in
@@ -135,46 +135,46 @@ own-size count us os g h e = sym (h .len ∙ ap length (let z : us ≡ os = h .i
 
 -- nothing to write
 pub group-nothing : (count n k : ℕ) (us os : List Update) (g : Group) (h : Grouped count us os g) (b : List ℕ) → k ≤ 42 → g .kind ≡ Nothing
-    → Fits k (map (unitFor n) us) b b k
+    → PutsOnPage k (map (unitFor n) us) b b k
 group-nothing count n k us os g h b l e = record { few = l; is = λ q. (let z : us ≡ [] = h .is ∙ rw e in rw z (puts-none k b)) }
 
 -- ---- the groups of a page
-units-keep : (n : ℕ) (us : List Update) (ks : List Pack) → unitsOf (keep n us ks) ≡ map (unitFor n) us ++ unitsOf ks
+units-keep : (n : ℕ) (us : List Update) (ks : List Pack) → unitsOfPacks (keep n us ks) ≡ map (unitFor n) us ++ unitsOfPacks ks
 units-keep n [] ks = refl
 units-keep n (u ∷ us) ks = refl
 
 module _ (f : ℕ → List Update) (from to : ℕ) (b : List ℕ) where
   abbrev whole : List U.Unit
-  whole = unitsOf (between f from to)
+  whole = unitsOfPacks (between f from to)
 
   pub record Gathering (n k : ℕ) (c : List ℕ) : Type 0 where
     pub few : k ≤ 42
-    pub is : length whole ≤ 42 → Left 0 whole b k (unitsOf (between f from n)) c
+    pub is : length whole ≤ 42 → Left 0 whole b k (unitsOfPacks (between f from n)) c
 
   pub gathering-start : Gathering to 0 b
   gathering-start = record { few = omega arith; is = λ h. left-start 0 whole b whole refl }
 
-  pub gathering-next : (n k r : ℕ) (c d : List ℕ) → from < n → Gathering n k c → Fits k (map (unitFor (n - 1)) (f (n - 1))) c d r → Gathering (n - 1) r d
+  pub gathering-next : (n k r : ℕ) (c d : List ℕ) → from < n → Gathering n k c → PutsOnPage k (map (unitFor (n - 1)) (f (n - 1))) c d r → Gathering (n - 1) r d
   gathering-next zero k r c d h g p = absurd (omega arith)
   gathering-next (suc m) k r c d h g p = go (suc m - 1) (omega arith) p
     where
-      go : (j : ℕ) → j ≡ m → Fits k (map (unitFor j) (f j)) c d r → Gathering j r d
+      go : (j : ℕ) → j ≡ m → PutsOnPage k (map (unitFor j) (f j)) c d r → Gathering j r d
       go j q p =
-          let e : unitsOf (between f from (suc m)) ≡ map (unitFor j) (f j) ++ unitsOf (between f from j) =
-          rw q (ap unitsOf (between-more f from m (omega arith)) ∙ units-keep m (f m) (between f from m)) in
+          let e : unitsOfPacks (between f from (suc m)) ≡ map (unitFor j) (f j) ++ unitsOfPacks (between f from j) =
+          rw q (ap unitsOfPacks (between-more f from m (omega arith)) ∙ units-keep m (f m) (between f from m)) in
           record {
             few = p .few;
             is = λ l. let g' = g .is l in
-                left-next 0 whole b k r (map (unitFor j) (f j)) (unitsOf (between f from j)) (unitsOf (between f from (suc m))) c d e g'
-                (p .is (omega (arith, g' .count, ap length e ∙ length-append (map (unitFor j) (f j)) (unitsOf (between f from j)))));
+                left-next 0 whole b k r (map (unitFor j) (f j)) (unitsOfPacks (between f from j)) (unitsOfPacks (between f from (suc m))) c d e g'
+                (p .is (omega (arith, g' .count, ap length e ∙ length-append (map (unitFor j) (f j)) (unitsOfPacks (between f from j)))));
           }
 
-  pub gathering-done : (n k : ℕ) (c : List ℕ) → n ≤ from → Gathering n k c → Fits 0 whole b c k
+  pub gathering-done : (n k : ℕ) (c : List ℕ) → n ≤ from → Gathering n k c → PutsOnPage 0 whole b c k
   gathering-done n k c h g =
-      record { few = g .few; is = λ l. left-done 0 whole b k (unitsOf (between f from n)) c (ap unitsOf (between-none f from n h)) (g .is (omega arith)) }
+      record { few = g .few; is = λ l. left-done 0 whole b k (unitsOfPacks (between f from n)) c (ap unitsOfPacks (between-none f from n h)) (g .is (omega arith)) }
 
 -- ---- the data of a page
-pub data-built : (commit index total k : ℕ) (us : List U.Unit) (b c last : List ℕ) → Fits 0 us b c k → last ≡ laid small commit index total k (take (12 * k) c)
+pub data-built : (commit index total k : ℕ) (us : List U.Unit) (b c last : List ℕ) → PutsOnPage 0 us b c k → last ≡ laid small commit index total k (take (12 * k) c)
     → length us ≤ 42 → last ≡ dataOf small commit index total us
 data-built commit index total k us b c last p e h =
     let q = p .is (omega arith) in

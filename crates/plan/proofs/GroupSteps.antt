@@ -23,15 +23,14 @@ use Rattle.views.specs.Groups.{isReset}
 use Rattle.views.specs.Nodes.{View, anew, inserted}
 use Rattle.views.specs.Stored.{nodeView, storedList}
 use Rattle.views.proofs.NodeLaws.{length-entries}
-use Rattle.log.specs.Plan.{rewrite, smaller}
+use Rattle.log.specs.Policy.{rewrite, smaller}
 use Rattle.plan.specs.declared.group.Kind.the-variants.{Anew, Nothing, Own}
 use Rattle.plan.specs.declared.group.Group.{Group}
 use Rattle.plan.specs.declared.group.Tally.{Tally}
-use Rattle.plan.specs.Group.{deltaIn, groupIn, ownIn, ownOf, picked, withUpdate}
 use Rattle.chip.specs.Geometry.{Geometry}
 use Rattle.chip.specs.Page.{Page}
 use Rattle.plan.proofs.GroupLaws.{group-many}
-use Rattle.plan.specs.GroupCode.{Chosen, Counted, Grouped, Rewrites, Tallied}
+use Rattle.plan.specs.GroupCode.{ChosenGroup, Counted, Grouped, Rewrites, Tallied, deltaIn, groupIn, ownIn, ownOf, picked, withUpdate}
 
 -- ---- one unit
 -- bytes that are no unit are not read as one
@@ -227,23 +226,23 @@ module _ (f : Folded) (t : Tally) (full : Bool) (w : Group) (some : 0 < t .own) 
   abbrev fs : List Update
   fs = rewrite (viewOf f)
 
-  pub choose-reset : t .reset ≡ true → Chosen f t full w
+  pub choose-reset : t .reset ≡ true → ChosenGroup f t full w
   choose-reset e count pages os h s q =
       regroup count fs (smaller pages os fs) os w (smaller-reset pages fs os (omega (arith, s .own)) (sym (s .reset) ∙ e)) (ws count os)
 
-  pub choose-less : t .reset ≡ false → w .len ≤ t .own → Chosen f t full w
+  pub choose-less : t .reset ≡ false → w .len ≤ t .own → ChosenGroup f t full w
   choose-less e k count pages os h s q =
       let g = ws count os in
       regroup count fs (smaller pages os fs) os w
       (smaller-less pages fs os (omega (arith, s .own)) (sym (s .reset) ∙ e) (omega (arith, s .own, g .len))) g
 
-  pub choose-full : t .reset ≡ false → t .own < w .len → full ≡ true → Chosen f t full w
+  pub choose-full : t .reset ≡ false → t .own < w .len → full ≡ true → ChosenGroup f t full w
   choose-full e k l count pages os h s q =
       let g = ws count os in
       regroup count fs (smaller pages os fs) os w
       (smaller-full pages fs os (omega (arith, s .own)) (sym (s .reset) ∙ e) (omega (arith, s .own, g .len)) (sym q ∙ l)) g
 
-  pub choose-own : t .reset ≡ false → t .own < w .len → full ≡ false → Chosen f t full (record { kind = Own; node = w .node; len = t .own })
+  pub choose-own : t .reset ≡ false → t .own < w .len → full ≡ false → ChosenGroup f t full (record { kind = Own; node = w .node; len = t .own })
   choose-own e k l count pages os h s q =
       let g = ws count os in
       regroup count os (smaller pages os fs) os (record { kind = Own; node = w .node; len = t .own })
@@ -282,18 +281,18 @@ module _ (count : ℕ) (os : List Update) (r : Group) where
   pub delta-some : (pages : ℕ) (v w : View) → v ≡ w → Grouped count (smaller pages os (rewrite v)) os r → Grouped count (smaller pages os (rewrite w)) os r
   delta-some pages v w e g = rw e at g
 
-  module _ (anew : Bool) (g : Geometry) (limit : ℕ) (ps : List Page) (lens slots bytes : List ℕ) (n : ℕ) where
+  module _ (snapshot : Bool) (g : Geometry) (limit : ℕ) (ps : List Page) (lens slots bytes : List ℕ) (n : ℕ) where
     -- too many units
-    pub group-over : 960 < count → Rewrites [] r → Grouped count (groupIn anew g limit ps lens slots count bytes n) os r
-    group-over h w = rw (group-many anew g limit ps lens slots count bytes n h) (w count os)
+    pub group-over : 960 < count → Rewrites [] r → Grouped count (groupIn snapshot g limit ps lens slots count bytes n) os r
+    group-over h w = rw (group-many snapshot g limit ps lens slots count bytes n h) (w count os)
 
     -- in a snapshot
-    pub group-anew : anew ≡ true → (v : View) → v ≡ nodeView g limit ps lens slots count bytes n → Rewrites (rewrite v) r
-        → Grouped count (groupIn anew g limit ps lens slots count bytes n) os r
+    pub group-anew : snapshot ≡ true → (v : View) → v ≡ nodeView g limit ps lens slots count bytes n → Rewrites (rewrite v) r
+        → Grouped count (groupIn snapshot g limit ps lens slots count bytes n) os r
     unfolding groupIn
     group-anew e v q w = rw (e, ← q) (w count os)
 
     -- in a delta
-    pub group-delta : anew ≡ false → Grouped count (deltaIn g limit ps lens slots count bytes n) os r → Grouped count (groupIn anew g limit ps lens slots count bytes n) os r
+    pub group-delta : snapshot ≡ false → Grouped count (deltaIn g limit ps lens slots count bytes n) os r → Grouped count (groupIn snapshot g limit ps lens slots count bytes n) os r
     unfolding groupIn
     group-delta e w = rw e w

@@ -1,6 +1,6 @@
 -- The last page in order, found in one pass over the pages from the last place down. Assumes nothing.
 use mathlib.Core.Path.{_≡_, refl, sym, ap, ap₂, _∙_}
-use mathlib.Core.Bool.{Bool, true, false, cond, _&&_, not}
+use mathlib.Core.Bool.{Bool, true, false, cond, _&&_}
 use mathlib.Core.List.{List, [], _∷_}
 use Prim.Native.Nat.{ℕ, suc, _+_, _-_, _*_, _/_, _<_, _≤_}
 use native.Mathlib.Nat.{add-sub-cancel-left, div-lt-iff-lt-mul}
@@ -23,10 +23,10 @@ use Rattle.log.proofs.MountCode.{word-front}
 use Rattle.pages.specs.Steps.{Live, live, liveFrom, commit, index, before, ordered, lastFrom}
 use Rattle.pages.proofs.Order.{asym, trans}
 use Rattle.pages.proofs.LivePages.{places-below}
-use Rattle.log.specs.Plan.{lastPlace, headBlock}
-use Rattle.log.specs.Mount.{isOf}
-use Rattle.plan.specs.declared.ground.Newest.{Newest}
-use Rattle.plan.specs.Ground.{mark, markHeld, noted, lastIn, isBehind, later, Looks}
+use Rattle.log.specs.Policy.{lastPlace, headBlock}
+use Rattle.log.specs.MountCode.{isOf}
+use Rattle.plan.specs.declared.survey.Newest.{Newest}
+use Rattle.plan.specs.SurveyCode.{mark, markHeld, noted, lastIn, isBehind, later, LooksAtPage}
 
 -- ---- one page more in front
 behind-is : (w x : Live) → isBehind (noted w) (commit x) (index x) ≡ before w x
@@ -124,7 +124,7 @@ one-mark c n x m t = rw t
 
 module _ (c : ℕ) (ps : List Page) (m₀ : List ℕ) (n at : ℕ) (e : at ≡ suc n) (h : n < length ps) (z : Newest) (m : List ℕ)
     (ez : z ≡ lastIn (ordered (liveAt ps at))) (em : m ≡ markHeld small c (liveAt ps at) m₀)
-    (r : Newest) (m' : List ℕ) (k : Looks c n (getD ps n []) z m r m') where
+    (r : Newest) (m' : List ℕ) (k : LooksAtPage c n (getD ps n []) z m r m') where
   was-z : z ≡ lastIn (ordered (liveAt ps (suc n)))
   was-z = ez ∙ ap (λ (i : ℕ). lastIn (ordered (liveAt ps i))) e
 
@@ -159,12 +159,12 @@ look-start ps n h = rw (drop-of-length-le ps {i = n} h)
 -- ---- one page
 module _ (c p : ℕ) (x : Page) (z : Newest) (m : List ℕ) where
   -- it is not live
-  pub look-dead : isLive small x ≡ false → Looks c p x z m z m
+  pub look-dead : isLive small x ≡ false → LooksAtPage c p x z m z m
   look-dead t = record { newest = rw t; marks = rw t }
 
   -- it is live, with commit number w and index i
   pub look-live : (r : Newest) (m' : List ℕ) (w i : ℕ) → isLive small x ≡ true → w ≡ word x 0 → i ≡ getD x 4 0
-      → m' ≡ cond (eqb w c) (mark small m p) m → r ≡ later z w i p → Looks c p x z m r m'
+      → m' ≡ cond (eqb w c) (mark small m p) m → r ≡ later z w i p → LooksAtPage c p x z m r m'
   unfolding commit index
   look-live r m' w i t ew ei em er =
       let ec : headOf (take 512 x) .commit ≡ w = word-front x ∙ sym ew in
@@ -185,11 +185,11 @@ page-is image n h = ap (λ (k : ℕ). part (n * 528) k image) (add-sub-cancel-le
 -- a turn of the pass over an image
 module _ (c : ℕ) (image : List ℕ) (m₀ : List ℕ) (n at : ℕ) (e : at ≡ suc n) (h : n < length image / 528) (z : Newest) (m : List ℕ)
     (ez : z ≡ lastIn (ordered (liveAt (pagesOf small image) at))) (em : m ≡ markHeld small c (liveAt (pagesOf small image) at) m₀)
-    (r : Newest) (m' : List ℕ) (k : Looks c n (part (n * 528) (n * 528 + 528 - n * 528) image) z m r m') where
+    (r : Newest) (m' : List ℕ) (k : LooksAtPage c n (part (n * 528) (n * 528 + 528 - n * 528) image) z m r m') where
   on-chip : n < length (pagesOf small image)
   on-chip = omega (arith, length-pages small image)
 
-  looked : Looks c n (getD (pagesOf small image) n []) z m r m'
+  looked : LooksAtPage c n (getD (pagesOf small image) n []) z m r m'
   looked = rw (← page-is image n h) k
 
   pub turn-newest : r ≡ lastIn (ordered (liveAt (pagesOf small image) n))

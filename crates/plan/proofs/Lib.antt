@@ -1,6 +1,7 @@
 pub mod LastLaws
 pub mod MarkLaws
-pub mod GroundLaws
+pub mod SurveyLaws
+pub mod EraseLaws
 pub mod PlaceLaws
 pub mod GroupLaws
 pub mod GroupSteps

@@ -8,7 +8,7 @@ use native.Mathlib.Numerals.{add-one}
 use native.Mathlib.Omega.{arith}
 use lib.Dec.{eqb}
 use lib.ListN.{length, take, drop, getD, replicate, length-set, length-take, length-drop, drop-of-length-le, length-replicate}
-use lib.Seq.{getD-set-same, getD-set-other, take-all, take-take, drop-cons, getD-take, getD-drop, length-take-le}
+use lib.Seq.{getD-set-same, getD-set-other, take-all, take-take, drop-cons, getD-take, getD-drop}
 use borrow.Author.Tests.{eqb-true, eqb-false, ltb-true, ltb-false}
 use lib.Dec.{ltb}
 use Rattle.lists.specs.Lists.{filter, any, flat}
@@ -19,9 +19,9 @@ use Rattle.chip.specs.Chip.{inBlock}
 use Rattle.chip.specs.Page.{Page}
 use Rattle.pages.specs.Steps.{Live, commit, liveFrom}
 use Rattle.views.specs.Stored.{storedList}
-use Rattle.log.specs.Plan.{holds, from}
+use Rattle.log.specs.Policy.{holdsCommit, countFrom}
 use Rattle.log.proofs.PlanPlaces.{in-block, out-block}
-use Rattle.plan.specs.Ground.{listedIn, usedIn, mark, markHeld, Marked}
+use Rattle.plan.specs.SurveyCode.{listedIn, usedIn, mark, markHeld, Marked}
 
 module _ (g : Geometry) (pos : 0 < g .pages) where
   own-block : (p : ℕ) → inBlock g (p / g .pages) p ≡ true
@@ -61,7 +61,7 @@ module _ (g : Geometry) (pos : 0 < g .pages) where
       cases (eqb (commit x) c) (λ t. rw t (simp length-set (length-held c xs m))) (λ t. rw t (length-held c xs m))
 
   -- after the pages of commit c
-  pub held-at : (c : ℕ) (xs : List Live) (m : List ℕ) (b : ℕ) → b < length m → getD (markHeld g c xs m) b 0 ≡ cond (holds g c xs b) 1 (getD m b 0)
+  pub held-at : (c : ℕ) (xs : List Live) (m : List ℕ) (b : ℕ) → b < length m → getD (markHeld g c xs m) b 0 ≡ cond (holdsCommit g c xs b) 1 (getD m b 0)
   held-at c [] m b h = refl
   held-at c (x ∷ xs) m b h =
       let l : b < length (markHeld g c xs m) = rw (length-held c xs m) h in
@@ -81,7 +81,7 @@ getD-zeros (suc n) (suc b) = getD-zeros n b
 
 -- what both passes leave unmarked is unused
 pub marked-all : (limit : ℕ) (lens slots : List ℕ) (c : ℕ) (ps : List Page) (m : List ℕ)
-    → m ≡ markHeld small c (liveFrom small 0 ps) (foldl (mark small) (replicate 32 0) (flat (storedList lens slots) (from 0 limit)))
+    → m ≡ markHeld small c (liveFrom small 0 ps) (foldl (mark small) (replicate 32 0) (flat (storedList lens slots) (countFrom 0 limit)))
     → Marked limit lens slots c ps m
 unfolding usedIn
 marked-all limit lens slots c ps m e =
@@ -89,15 +89,15 @@ marked-all limit lens slots c ps m e =
       are = λ b h.
           let xs : List Live = liveFrom small 0 ps in
           let z : List ℕ = replicate 32 0 in
-          let f : List ℕ = flat (storedList lens slots) (from 0 limit) in
+          let f : List ℕ = flat (storedList lens slots) (countFrom 0 limit) in
           let lz : length z ≡ 32 = length-replicate {A = ℕ} 32 0 in
-          let a : getD m b 0 ≡ cond (holds small c xs b) 1 (cond (listedIn small limit lens slots b) 1 0) =
+          let a : getD m b 0 ≡ cond (holdsCommit small c xs b) 1 (cond (listedIn small limit lens slots b) 1 0) =
           ap (λ (w : List ℕ). getD w b 0) e
           ∙ held-at small (omega arith) c xs (foldl (mark small) z f) b (rw (length-marks small (omega arith) f z, lz) h)
-          ∙ ap (cond (holds small c xs b) 1)
+          ∙ ap (cond (holdsCommit small c xs b) 1)
           (marks-at small (omega arith) f z b (rw lz h)
-          ∙ ap₂ (λ (t : Bool) (v : ℕ). cond t 1 v) (any-flat (inBlock small b) (storedList lens slots) (from 0 limit)) (getD-zeros 32 b)) in
-          rw a (ends (holds small c xs b) (listedIn small limit lens slots b));
+          ∙ ap₂ (λ (t : Bool) (v : ℕ). cond t 1 v) (any-flat (inBlock small b) (storedList lens slots) (countFrom 0 limit)) (getD-zeros 32 b)) in
+          rw a (ends (holdsCommit small c xs b) (listedIn small limit lens slots b));
     }
   where
     ends : (x y : Bool) → eqb (cond x 1 (cond y 1 0)) 0 ≡ not (y || x)
@@ -115,9 +115,9 @@ list-is lens slots n used e =
     (λ t. let l = ltb-true used 4 t in let q : k ≡ used = omega arith in rw q (take-take used 4 d (omega arith)))
     (λ t. let l = ltb-false used 4 t in let q : used ≡ 4 = omega arith in rw q (take-all k (take 4 d) (rw length-take (omega arith))))
 
-module _ (lens slots : List ℕ) (n used : ℕ) (e : used ≡ min (getD lens n 0) 4) (size : length slots ≡ 1024) (on : n < 256) (i : ℕ) (m : List ℕ) where
-  list-length : length (storedList lens slots n) ≡ used
-  list-length = rw (list-is lens slots n used e) (length-take-le used (drop (4 * n) slots) (rw length-drop (omega arith)))
+module _ (lens slots : List ℕ) (n used : ℕ) (list-length : length (storedList lens slots n) ≡ used) (size : length slots ≡ 1024) (on : n < 256) (i : ℕ) (m : List ℕ) where
+  e : used ≡ min (getD lens n 0) 4
+  e = sym list-length ∙ (let q : length (storedList lens slots n) ≡ min (getD lens n 0) 4 = simp (length-take, length-drop) (omega arith) in q)
 
   pub slot-next : (target : List ℕ) → i < used → foldl (mark small) m (drop i (storedList lens slots n)) ≡ target
       → foldl (mark small) (mark small m (getD slots (4 * n + i) 0)) (drop (i + 1) (storedList lens slots n)) ≡ target
@@ -134,19 +134,19 @@ module _ (lens slots : List ℕ) (n used : ℕ) (e : used ≡ min (getD lens n 0
 
 -- ---- the lists of all nodes
 -- the next number of a range
-pub from-next : (i e : ℕ) → i < e → from i (e - i) ≡ i ∷ from (i + 1) (e - (i + 1))
+pub from-next : (i e : ℕ) → i < e → countFrom i (e - i) ≡ i ∷ countFrom (i + 1) (e - (i + 1))
 from-next i e h =
     let q : e - i ≡ suc (e - (i + 1)) = omega arith in
-    ap (from i) q ∙ ap (λ (k : ℕ). i ∷ from k (e - (i + 1))) (sym (add-one i))
+    ap (countFrom i) q ∙ ap (λ (k : ℕ). i ∷ countFrom k (e - (i + 1))) (sym (add-one i))
 
-pub from-done : (i e : ℕ) → e ≤ i → from i (e - i) ≡ []
-from-done i e h = let q : e - i ≡ 0 = omega arith in ap (from i) q
+pub from-done : (i e : ℕ) → e ≤ i → countFrom i (e - i) ≡ []
+from-done i e h = let q : e - i ≡ 0 = omega arith in ap (countFrom i) q
 
-module _ (lens slots : List ℕ) (limit n : ℕ) (m : List ℕ) (target : List ℕ) (left : foldl (mark small) m (flat (storedList lens slots) (from n (limit - n))) ≡ target) where
+module _ (lens slots : List ℕ) (limit n : ℕ) (m : List ℕ) (target : List ℕ) (left : foldl (mark small) m (flat (storedList lens slots) (countFrom n (limit - n))) ≡ target) where
   pub node-next : n < limit → (m' : List ℕ) → m' ≡ foldl (mark small) m (storedList lens slots n)
-      → foldl (mark small) m' (flat (storedList lens slots) (from (n + 1) (limit - (n + 1)))) ≡ target
+      → foldl (mark small) m' (flat (storedList lens slots) (countFrom (n + 1) (limit - (n + 1)))) ≡ target
   node-next h m' e =
-      let rest : List ℕ = flat (storedList lens slots) (from (n + 1) (limit - (n + 1))) in
+      let rest : List ℕ = flat (storedList lens slots) (countFrom (n + 1) (limit - (n + 1))) in
       ap (λ (w : List ℕ). foldl (mark small) w rest) e
       ∙ sym (foldl-append (mark small) m (storedList lens slots n) rest)
       ∙ ap (λ (k : List ℕ). foldl (mark small) m (flat (storedList lens slots) k)) (sym (from-next n limit h))
@@ -156,10 +156,10 @@ module _ (lens slots : List ℕ) (limit n : ℕ) (m : List ℕ) (target : List �
   nodes-done h = ap (λ (k : List ℕ). foldl (mark small) m (flat (storedList lens slots) k)) (sym (from-done n limit h)) ∙ left
 
 -- ---- numbers kept by a test
-pub push-next : (q : ℕ → Bool) (i e n r : ℕ) (list after target : List ℕ) → i < e → take n list ++ filter q (from i (e - i)) ≡ target
-    → take r after ≡ take n list ++ cond (q i) (i ∷ []) [] → take r after ++ filter q (from (i + 1) (e - (i + 1))) ≡ target
+pub push-next : (q : ℕ → Bool) (i e n r : ℕ) (list after target : List ℕ) → i < e → take n list ++ filter q (countFrom i (e - i)) ≡ target
+    → take r after ≡ take n list ++ cond (q i) (i ∷ []) [] → take r after ++ filter q (countFrom (i + 1) (e - (i + 1))) ≡ target
 push-next q i e n r list after target h left is =
-    let rest : List ℕ = filter q (from (i + 1) (e - (i + 1))) in
+    let rest : List ℕ = filter q (countFrom (i + 1) (e - (i + 1))) in
     ap (λ (l : List ℕ). l ++ rest) is ∙ append-assoc (take n list) (cond (q i) (i ∷ []) []) rest
     ∙ ap (λ (l : List ℕ). take n list ++ l) (one (q i) rest)
     ∙ ap (λ (l : List ℕ). take n list ++ filter q l) (sym (from-next i e h)) ∙ left
@@ -168,5 +168,5 @@ push-next q i e n r list after target h left is =
     one true rest = refl
     one false rest = refl
 
-pub push-done : (q : ℕ → Bool) (i e : ℕ) (list target : List ℕ) → e ≤ i → list ++ filter q (from i (e - i)) ≡ target → list ≡ target
+pub push-done : (q : ℕ → Bool) (i e : ℕ) (list target : List ℕ) → e ≤ i → list ++ filter q (countFrom i (e - i)) ≡ target → list ≡ target
 push-done q i e list target h left = sym (append-nil list) ∙ ap (λ (l : List ℕ). list ++ filter q l) (sym (from-done i e h)) ∙ left

@@ -13,12 +13,11 @@ use Rattle.lists.specs.Lists.{All}
 use Rattle.lists.proofs.Tests.{below-or-not, cases}
 use Rattle.lists.proofs.Alls.{All-head, All-map, All-tail}
 use Rattle.pages.specs.declared.unit.Update.{Update}
-use Rattle.log.specs.Commit.{Pack, unitsOf}
-use Rattle.log.specs.Plan.{groups, keep, pack}
+use Rattle.log.specs.Commit.{Pack, unitsOfPacks}
+use Rattle.log.specs.Policy.{groups, keep, pack}
 use Rattle.log.proofs.PlanPacks.{Full, groups-of, length-groups, pack-count, pack-full, pack-step, put, size, size-units}
 use Rattle.plan.specs.declared.pack.Filling.{Filling}
-use Rattle.plan.specs.Group.{between, pagesBy}
-use Rattle.plan.specs.PackCode.{Packs, filled}
+use Rattle.plan.specs.PackCode.{Packs, putGroup, between, pagesBy}
 
 -- ---- the nodes of a page
 -- no nodes
@@ -30,7 +29,7 @@ between-none f a (suc n) h = rw (lt-leb a n h)
 pub between-more : (f : ℕ → List Update) (a n : ℕ) → a ≤ n → between f a (suc n) ≡ keep n (f n) (between f a n)
 between-more f a n h = rw (le-leb a n h)
 
-units-keep : (n : ℕ) (us : List Update) (ks : List Pack) → length (unitsOf (keep n us ks)) ≡ length (unitsOf ks) + length us
+units-keep : (n : ℕ) (us : List Update) (ks : List Pack) → length (unitsOfPacks (keep n us ks)) ≡ length (unitsOfPacks ks) + length us
 units-keep n [] ks = omega arith
 units-keep n (u ∷ us) ks = omega (arith, size-units (record { node = n; updates = u ∷ us }) ks)
 
@@ -56,21 +55,21 @@ page-at P f b (suc r) k h a =
 -- the units of the page begun last; as many as a page holds where none is begun
 abbrev fillOf : List (List Pack) → ℕ
 fillOf [] = 42
-fillOf (p ∷ ps) = length (unitsOf p)
+fillOf (p ∷ ps) = length (unitsOfPacks p)
 
-put-fits : (n : ℕ) (us : List Update) (p : List Pack) (ps : List (List Pack)) → length (unitsOf p) + length us ≤ 42
+put-fits : (n : ℕ) (us : List Update) (p : List Pack) (ps : List (List Pack)) → length (unitsOfPacks p) + length us ≤ 42
     → put 42 n us (p ∷ ps) ≡ keep n us p ∷ ps
 put-fits n [] p ps h = refl
 put-fits n (u ∷ us) p ps h =
     let k : Pack = record { node = n; updates = u ∷ us } in
-    rw (le-leb (length (unitsOf (k ∷ p))) 42 (omega (arith, size-units k p)))
+    rw (le-leb (length (unitsOfPacks (k ∷ p))) 42 (omega (arith, size-units k p)))
 
 put-over : (n : ℕ) (us : List Update) (ps : List (List Pack)) → fillOf ps ≤ 42 → 42 < fillOf ps + length us → put 42 n us ps ≡ keep n us [] ∷ ps
 put-over n [] ps l h = absurd (omega arith)
 put-over n (u ∷ us) [] l h = refl
 put-over n (u ∷ us) (p ∷ ps) l h =
     let k : Pack = record { node = n; updates = u ∷ us } in
-    rw (lt-leb (length (unitsOf (k ∷ p))) 42 (omega (arith, size-units k p)))
+    rw (lt-leb (length (unitsOfPacks (k ∷ p))) 42 (omega (arith, size-units k p)))
 
 -- ---- the loop: the pages of the nodes below n
 module _ (f : ℕ → List Update) where
@@ -132,7 +131,7 @@ module _ (f : ℕ → List Update) where
         let page : List Pack = between f a n in
         let rest : List (List Pack) = pagesBy f b p in
         let old : pagesBy f b (suc p) ≡ page ∷ rest = ap (λ (e : ℕ). between f a e ∷ rest) (k .last) in
-        let size : length (unitsOf page) ≡ fill = sym (k .used ∙ ap fillOf old) in
+        let size : length (unitsOfPacks page) ≡ fill = sym (k .used ∙ ap fillOf old) in
         let there : suc p < length b = omega (arith, k .long, k .most) in
         let new : pagesBy f (set b (suc p) (suc n)) (suc p) ≡ keep n (f n) page ∷ rest =
         ap₂ _∷_ (ap₂ (between f) (getD-set-other b (suc p) p (suc n) 0 (λ e. omega arith)) (getD-set-same b (suc p) (suc n) 0 there)
@@ -169,7 +168,7 @@ module _ (f : ℕ → List Update) where
         }
 
   pub packing-next : (n : ℕ) (b : List ℕ) (t r : Filling) (len : ℕ) → Packing n b (t .pages) (t .fill) → n < 256 → len ≡ length (f n) → len ≤ 17
-      → r ≡ filled t len → Packing (n + 1) (set b (r .pages) (n + 1)) (r .pages) (r .fill)
+      → r ≡ putGroup t len → Packing (n + 1) (set b (r .pages) (n + 1)) (r .pages) (r .fill)
   packing-next n b t r len k low e few q =
       let w : length (f n) ≤ 17 = omega arith in
       cases (leb (t .fill + len) 42)

@@ -10,7 +10,7 @@ use lib.Dec.{eqb, ltb}
 use lib.ListN.{length, take, drop, set, getD, length-append, drop-of-length-le, List·getD-append}
 use lib.Seq.{take-take, take-nil, take-at, take-suc, take-suc-set, drop-drop, drop-cons, length-take-le, getD-append-add, getD-take}
 use borrow.Author.Tests.{eq-eqb, ne-eqb}
-use Rattle.lists.specs.Lists.{filter, all, flat, part, count, All, more}
+use Rattle.lists.specs.Lists.{filter, all, flat, part, count, All, Diff}
 use Rattle.lists.proofs.Tests.{cases, clash, below-or-not}
 use Rattle.lists.proofs.Alls.{All-head, All-tail, All-map, All-take, All-filter, all-All}
 use Rattle.lists.proofs.Flats.{length-tab, getD-tab}
@@ -21,12 +21,13 @@ use Rattle.chip.specs.Geometry.{Geometry, small}
 use Rattle.chip.specs.Page.{Page, isFree}
 use Rattle.chip.specs.Chip.{pagesOf}
 use Rattle.chip.proofs.ImageLaws.{length-pages, page-at}
-use Rattle.log.specs.Plan.{from, freeAt, pagesIn, places, erases}
-use Rattle.log.proofs.Sets.{Diff, mem-at, length-filter}
+use Rattle.log.specs.Policy.{countFrom, freeAt, pagesIn, places, erases}
+use Rattle.lists.proofs.Sets.{mem-at, length-filter}
 use Rattle.log.proofs.PlanPlaces.{Origin, old, new, places-from, length-flat}
-use Rattle.log.proofs.PlanLoops.{places-count, erasesFrom, erases-walk}
-use Rattle.plan.specs.Ground.{freePages, firstPlaces, firstErases, Spare, Lays, LaysErases}
+use Rattle.plan.proofs.EraseLaws.{places-count, erases-walk}
+use Rattle.plan.specs.SurveyCode.{freePages}
 use Rattle.plan.proofs.LastLaws.{page-is}
+use Rattle.plan.specs.PlacesCode.{firstPlaces, firstErases, Spare, Lays, LaysErases, erasesFrom}
 
 -- ---- the closed names
 module _ (g : Geometry) (ps : List Page) where
@@ -65,11 +66,11 @@ part-part a n b k xs h =
 
 -- a count by places
 count-from : {A : Type 0} (p : A → Bool) (q : ℕ → Bool) (d : A) (xs : List A) (k : ℕ)
-    → ((i : ℕ) → i < length xs → p (getD xs i d) ≡ q (k + i)) → count p xs ≡ length (filter q (from k (length xs)))
+    → ((i : ℕ) → i < length xs → p (getD xs i d) ≡ q (k + i)) → count p xs ≡ length (filter q (countFrom k (length xs)))
 count-from p q d [] k h = refl
 count-from p q d (x ∷ xs) k h =
     let a : p x ≡ q k = h 0 (omega arith) ∙ ap q (let e : k + 0 ≡ k = omega arith in e) in
-    let r : count p xs ≡ length (filter q (from (suc k) (length xs))) =
+    let r : count p xs ≡ length (filter q (countFrom (suc k) (length xs))) =
     count-from p q d xs (suc k) (λ i l. h (suc i) (omega arith) ∙ ap q (let e : k + suc i ≡ suc k + i = omega arith in e)) in
     cases (q k) (λ t. rw (a, t) (omega (arith, r))) (λ t. rw (a, t) (omega (arith, r)))
 
@@ -100,7 +101,7 @@ module _ (image : List ℕ) (b : ℕ) (fits : b * 16896 + 16896 ≤ length image
   unfolding freePages
   block-free =
       count-from isFree (freeAt (pagesOf small image)) [] (pagesOf small blockAt) (b * 32) (λ i l. page-free i (omega (arith, block-pages)))
-      ∙ ap (λ (n : ℕ). length (filter (freeAt (pagesOf small image)) (from (b * 32) n))) block-pages
+      ∙ ap (λ (n : ℕ). length (filter (freeAt (pagesOf small image)) (countFrom (b * 32) n))) block-pages
 
   pub free-most : count isFree (pagesOf small blockAt) ≤ 32
   free-most = omega (arith, count-most isFree (pagesOf small blockAt), block-pages)

@@ -10,7 +10,7 @@ use Rattle.pages.specs.declared.unit.Decoded.{Decoded}
 use Rattle.pages.specs.Units.{encode}
 use Rattle.pages.specs.Data.{dataOf}
 use Rattle.views.specs.Groups.{unitFor}
-use Rattle.plan.specs.Group.{picked, withUpdate}
+use Rattle.plan.specs.GroupCode.{picked, withUpdate}
 
 -- what is decoded as units of node n: one or none
 abbrev pub oneOf : ℕ → Decoded → List U.Unit
@@ -22,7 +22,7 @@ pub record Puts (k : ℕ) (us : List U.Unit) (b c : List ℕ) (r : ℕ) : Type 0
   pub count : r ≡ k + length us
 
 -- the same where a page holds them
-pub record Fits (k : ℕ) (us : List U.Unit) (b c : List ℕ) (r : ℕ) : Type 0 where
+pub record PutsOnPage (k : ℕ) (us : List U.Unit) (b c : List ℕ) (r : ℕ) : Type 0 where
   pub few : r ≤ 42
   pub is : k + length us ≤ 42 → Puts k us b c r
 

@@ -1,5 +1,5 @@
-pub mod Ground
-pub mod Group
+pub mod SurveyCode
+pub mod PlacesCode
 pub mod GroupCode
 pub mod PackCode
 pub mod BuildCode

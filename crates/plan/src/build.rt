@@ -8,9 +8,10 @@ ghost use Rattle.chip.specs.Chip.{pagesOf};
 ghost use Rattle.pages.specs.Units.{decode};
 ghost use Rattle.pages.specs.Data.{laid};
 ghost use Rattle.views.specs.Groups.{unitFor};
-ghost use Rattle.log.specs.Commit.{unitsOf};
-ghost use Rattle.plan.specs.Group.{ownIn, groupIn, between};
-ghost use Rattle.plan.specs.BuildCode.{oneOf, Puts, Fits, Built};
+ghost use Rattle.log.specs.Commit.{unitsOfPacks};
+ghost use Rattle.plan.specs.BuildCode.{oneOf, Puts, PutsOnPage, Built};
+ghost use Rattle.plan.specs.GroupCode.{ownIn, groupIn};
+ghost use Rattle.plan.specs.PackCode.{between};
 use crate::group;
 use crate::group::Kind;
 use chip::geometry::UNITS;
@@ -60,17 +61,17 @@ fn push_group(
     buffer: &[u8; 11520],
     count: usize,
     limit: u32,
-    anew: bool,
+    snapshot: bool,
     number: u32,
     out: &mut [u8; 11520],
     k: usize,
 ) -> usize
     requires { ⌜ (length (now image) % 528 ≡ 0) × (limit ≤ 256) × (number < limit) × (k ≤ 42) ⌝ }
-    ensures { λ r. ⌜ Fits k
-        (map (unitFor number) (groupIn anew small limit (pagesOf small (now (image .entry))) (now (lens .entry)) (now (slots .entry)) count (now (buffer .entry)) number))
+    ensures { λ r. ⌜ PutsOnPage k
+        (map (unitFor number) (groupIn snapshot small limit (pagesOf small (now (image .entry))) (now (lens .entry)) (now (slots .entry)) count (now (buffer .entry)) number))
         (now (out .entry)) (now (out .exit)) r ⌝ }
 {
-    let g = group::group_of(image, lens, slots, buffer, count, limit, number, anew);
+    let g = group::group_of(image, lens, slots, buffer, count, limit, number, snapshot);
     let len = g.len;
     let kind = g.kind;
     if k + len > UNITS {
@@ -94,21 +95,32 @@ fn gather(
     buffer: &[u8; 11520],
     count: usize,
     limit: u32,
-    anew: bool,
+    snapshot: bool,
     from: u32,
     to: u32,
     out: &mut [u8; 11520],
 ) -> usize
     requires { ⌜ (length (now image) % 528 ≡ 0) × (limit ≤ 256) × (to ≤ limit) ⌝ }
-    ensures { λ r. ⌜ Fits 0
-        (unitsOf (between (groupIn anew small limit (pagesOf small (now (image .entry))) (now (lens .entry)) (now (slots .entry)) count (now (buffer .entry))) from to))
+    ensures { λ r. ⌜ PutsOnPage 0
+        (unitsOfPacks (between (groupIn snapshot small limit (pagesOf small (now (image .entry))) (now (lens .entry)) (now (slots .entry)) count (now (buffer .entry))) from to))
         (now (out .entry)) (now (out .exit)) r ⌝ }
 {
     let mut k: usize = 0;
     let mut n = to;
     while n > from {
         n -= 1;
-        k = push_group(image, lens, slots, buffer, count, limit, anew, n, out, k);
+        k = push_group(
+            image,
+            lens,
+            slots,
+            buffer,
+            count,
+            limit,
+            snapshot,
+            n,
+            out,
+            k,
+        );
     }
     k
 }
@@ -130,7 +142,7 @@ pub fn build_page(
     buffer: &[u8; 11520],
     count: usize,
     limit: u32,
-    anew: bool,
+    snapshot: bool,
     from: u32,
     to: u32,
     commit: u32,
@@ -140,7 +152,7 @@ pub fn build_page(
 )
     requires { ⌜ (length (now image) % 528 ≡ 0) × (limit ≤ 256) × (to ≤ limit) × (index < 256) × (total < 256) ⌝ }
     ensures { λ _. ⌜ Built commit index total
-        (unitsOf (between (groupIn anew small limit (pagesOf small (now (image .entry))) (now (lens .entry)) (now (slots .entry)) count (now (buffer .entry))) from to))
+        (unitsOfPacks (between (groupIn snapshot small limit (pagesOf small (now (image .entry))) (now (lens .entry)) (now (slots .entry)) count (now (buffer .entry))) from to))
         (now (page .exit)) ⌝ }
 {
     let mut units = [255; 11520];
@@ -151,7 +163,7 @@ pub fn build_page(
         buffer,
         count,
         limit,
-        anew,
+        snapshot,
         from,
         to,
         &mut units,

@@ -9,9 +9,8 @@ ghost use Rattle.chip.specs.Chip.{pagesOf};
 ghost use Rattle.pages.specs.Units.{decode};
 ghost use Rattle.views.specs.FoldCode.{viewOf};
 ghost use Rattle.views.specs.Stored.{storedList};
-ghost use Rattle.log.specs.Plan.{rewrite};
-ghost use Rattle.plan.specs.Group.{picked, ownIn, deltaIn, groupIn};
-ghost use Rattle.plan.specs.GroupCode.{Tallied, Counted, Grouped, Rewrites, Chosen};
+ghost use Rattle.log.specs.Policy.{rewrite};
+ghost use Rattle.plan.specs.GroupCode.{Tallied, Counted, Grouped, Rewrites, ChosenGroup, picked, ownIn, deltaIn, groupIn};
 use pages::unit;
 use pages::unit::Decoded;
 use pages::unit::Update;
@@ -129,7 +128,7 @@ fn rewritten(f: Folded) -> Group
 // A node with buffered units: these, or the node anew where they have a reset, or that is no more units, or its list is full.
 fn choose(f: Folded, t: Tally, full: bool) -> Group
     requires { ⌜ (f .node .len ≤ 16) × (0 < t .own) ⌝ }
-    ensures { λ r. ⌜ Chosen f t full r ⌝ }
+    ensures { λ r. ⌜ ChosenGroup f t full r ⌝ }
 {
     let whole = rewritten(f);
     let len = whole.len;
@@ -192,16 +191,16 @@ pub fn group_of(
     count: usize,
     limit: u32,
     number: u32,
-    anew: bool,
+    snapshot: bool,
 ) -> Group
     requires { ⌜ (length (now image) % 528 ≡ 0) × (limit ≤ 256) × (number < limit) ⌝ }
-    ensures { λ r. ⌜ Grouped count (groupIn anew small limit (pagesOf small (now (image .entry))) (now (lens .entry)) (now (slots .entry)) count (now (buffer .entry)) number)
+    ensures { λ r. ⌜ Grouped count (groupIn snapshot small limit (pagesOf small (now (image .entry))) (now (lens .entry)) (now (slots .entry)) count (now (buffer .entry)) number)
         (ownIn limit number count (now (buffer .entry))) r ⌝ }
 {
     if count > 960 {
         return nothing();
     }
-    if anew {
+    if snapshot {
         let f = view::node_view(image, lens, slots, buffer, count, number, limit);
         return rewritten(f);
     }

@@ -4,8 +4,8 @@ ghost use Prim.Native.Nat.{_+_, _%_, _<_, _≤_};
 ghost use lib.ListN.{length, getD};
 ghost use Rattle.chip.specs.Geometry.{small};
 ghost use Rattle.chip.specs.Chip.{pagesOf};
-ghost use Rattle.plan.specs.Group.{groupIn};
-ghost use Rattle.plan.specs.PackCode.{filled, Packs};
+ghost use Rattle.plan.specs.PackCode.{putGroup, Packs};
+ghost use Rattle.plan.specs.GroupCode.{groupIn};
 use crate::group;
 use chip::geometry::UNITS;
 
@@ -18,7 +18,7 @@ pub struct Filling {
 // A group of `len` units put on the page begun last if it fits there, else on a new page.
 fn put_next(t: Filling, len: usize) -> Filling
     requires { ⌜ (t .pages < 256) × (t .fill ≤ 42) × (len ≤ 17) ⌝ }
-    ensures { λ r. ⌜ (r ≡ filled t len) × (r .pages ≤ t .pages + 1) ⌝ }
+    ensures { λ r. ⌜ (r ≡ putGroup t len) × (r .pages ≤ t .pages + 1) ⌝ }
 {
     let pages = t.pages;
     let fill = t.fill + len;
@@ -40,11 +40,11 @@ fn pack_nodes(
     buffer: &[u8; 11520],
     count: usize,
     limit: u32,
-    anew: bool,
+    snapshot: bool,
     bounds: &mut [u32],
 ) -> usize
     requires { ⌜ (length (now image) % 528 ≡ 0) × (limit ≤ 256) × (length (now bounds) ≡ 257) × (getD (now bounds) 0 0 ≡ 0) ⌝ }
-    ensures { λ r. ⌜ Packs (groupIn anew small limit (pagesOf small (now (image .entry))) (now (lens .entry)) (now (slots .entry)) count (now (buffer .entry)))
+    ensures { λ r. ⌜ Packs (groupIn snapshot small limit (pagesOf small (now (image .entry))) (now (lens .entry)) (now (slots .entry)) count (now (buffer .entry)))
         limit (now (bounds .exit)) r ⌝ }
 {
     let mut t = Filling {
@@ -53,7 +53,7 @@ fn pack_nodes(
     };
     let mut n: u32 = 0;
     while n < limit {
-        let g = group::group_of(image, lens, slots, buffer, count, limit, n, anew);
+        let g = group::group_of(image, lens, slots, buffer, count, limit, n, snapshot);
         let len = g.len;
         t = put_next(t, len);
         n += 1;
@@ -71,13 +71,13 @@ pub fn pack_pages(
     buffer: &[u8; 11520],
     count: usize,
     limit: u32,
-    anew: bool,
+    snapshot: bool,
     bounds: &mut [u32; 257],
 ) -> usize
     requires { ⌜ (length (now image) % 528 ≡ 0) × (limit ≤ 256) ⌝ }
-    ensures { λ r. ⌜ Packs (groupIn anew small limit (pagesOf small (now (image .entry))) (now (lens .entry)) (now (slots .entry)) count (now (buffer .entry)))
+    ensures { λ r. ⌜ Packs (groupIn snapshot small limit (pagesOf small (now (image .entry))) (now (lens .entry)) (now (slots .entry)) count (now (buffer .entry)))
         limit (now (bounds .exit)) r ⌝ }
 {
     bounds[0] = 0;
-    pack_nodes(image, lens, slots, buffer, count, limit, anew, bounds)
+    pack_nodes(image, lens, slots, buffer, count, limit, snapshot, bounds)
 }

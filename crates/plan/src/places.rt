@@ -8,10 +8,10 @@ ghost use lib.ListN.{length, take, getD};
 ghost use Rattle.lists.specs.Lists.{all, flat};
 ghost use Rattle.chip.specs.Geometry.{small};
 ghost use Rattle.chip.specs.Chip.{pagesOf};
-ghost use Rattle.log.specs.Plan.{freeAt, pagesIn};
-ghost use Rattle.log.proofs.PlanLoops.{erasesFrom};
-ghost use Rattle.plan.specs.Ground.{freePages, Spare, Lays, LaysErases};
-use crate::ground;
+ghost use Rattle.log.specs.Policy.{freeAt, pagesIn};
+ghost use Rattle.plan.specs.SurveyCode.{freePages};
+ghost use Rattle.plan.specs.PlacesCode.{Spare, Lays, LaysErases, erasesFrom};
+use crate::survey;
 use chip::geometry::PAGE;
 use chip::geometry::PAGES;
 use chip::page;
@@ -37,7 +37,7 @@ fn put_free(image: &[u8], at: usize, places: &mut [u32]) -> usize
     let mut n = 0;
     let mut p = first;
     while p < end {
-        n = ground::push_if(is_free_at(image, p), p as u32, places, n);
+        n = survey::push_if(is_free_at(image, p), p as u32, places, n);
         p += 1;
     }
     n
@@ -52,7 +52,7 @@ fn page_of(ring: &[u32], j: usize) -> u32
     b * 32 + (j % PAGES) as u32
 }
 
-// Places from `n` to `need` filled with the pages of the first `width` blocks of the ring.
+// Places from `n` to `need` putGroup with the pages of the first `width` blocks of the ring.
 fn put_rest(
     ring: &[u32],
     blocks: usize,
@@ -110,8 +110,8 @@ pub fn lay_places(
     lay_in(image, blocks, head, ring, width, need, places);
 }
 
-// `a` less `b`, 0 where `b` is greater.
-fn less(a: usize, b: usize) -> usize
+// By how much `a` exceeds `b`, 0 where it does not.
+pub fn excess(a: usize, b: usize) -> usize
     ensures { λ r. ⌜ r ≡ a - b ⌝ }
 {
     if a < b { 0 } else { a - b }
@@ -125,7 +125,7 @@ fn is_erased(image: &[u8], at: usize, left: usize) -> bool
     if left == 0 {
         return false;
     }
-    ground::free_of(image, at) != 32
+    survey::free_of(image, at) != 32
 }
 
 // Those of the first `width` blocks of the ring that are to be erased where `reach` places are to be reached on them.
@@ -147,8 +147,8 @@ fn put_erased(
     let mut j = 0;
     while j < width {
         let b = ring[j];
-        n = ground::push_if(is_erased(image, b as usize, left), b, erased, n);
-        left = less(left, 32);
+        n = survey::push_if(is_erased(image, b as usize, left), b, erased, n);
+        left = excess(left, 32);
         j += 1;
     }
     n
@@ -170,7 +170,7 @@ fn lay_erases_in(
         × (length (now ring) ≡ 32) × (length (now erased) ≡ 32) ⌝ }
     ensures { λ r. ⌜ LaysErases blocks head width need (pagesOf small (now (image .entry))) (now (ring .entry)) (now (erased .exit)) r ⌝ }
 {
-    let reach = less(need, free);
+    let reach = excess(need, free);
     put_erased(image, blocks, head, ring, width, reach, erased)
 }
 

@@ -1,1 +1,3 @@
 pub mod ShowBounds
+pub mod MakesLaws
+pub mod BytesLaws

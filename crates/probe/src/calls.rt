@@ -1,6 +1,8 @@
 // The store's calls, each with its reply.
 ghost use Prim.Native.Nat.{_+_, _≤_};
 ghost use lib.ListN.{length};
+ghost use mathlib.Core.Path.{_≡_};
+ghost use Rattle.probe.specs.Makes.{Makes};
 use orders::order::Call;
 use orders::reply;
 use store::answer;
@@ -26,6 +28,7 @@ pub struct Told {
 // What format, commit and mount tell.
 fn tell_wrote(w: Wrote, out: &mut [u8], at: usize) -> Told
     requires { ⌜ at + 1011 ≤ length (now out) ⌝ }
+    ensures { λ r. ⌜ r .state ≡ w .state ⌝ }
 {
     let given = w.answer;
     let ops = w.ops;
@@ -38,6 +41,7 @@ fn tell_wrote(w: Wrote, out: &mut [u8], at: usize) -> Told
 // What insert and delete tell.
 fn tell_updated(u: Updated, out: &mut [u8], at: usize) -> Told
     requires { ⌜ at + 1011 ≤ length (now out) ⌝ }
+    ensures { λ r. ⌜ r .state ≡ u .state ⌝ }
 {
     let given = u.answer;
     let state = u.state;
@@ -49,6 +53,7 @@ fn tell_updated(u: Updated, out: &mut [u8], at: usize) -> Told
 // What a look up tells.
 fn tell_look(state: State, look: Look, out: &mut [u8], at: usize) -> Told
     requires { ⌜ at + 1011 ≤ length (now out) ⌝ }
+    ensures { λ r. ⌜ r .state ≡ state ⌝ }
 {
     let end = reply::put_look(out, at, look);
     Told { state, at: end }
@@ -57,6 +62,7 @@ fn tell_look(state: State, look: Look, out: &mut [u8], at: usize) -> Told
 // What a block report tells.
 fn tell_report(state: State, told: Report, out: &mut [u8], at: usize) -> Told
     requires { ⌜ at + 1011 ≤ length (now out) ⌝ }
+    ensures { λ r. ⌜ r .state ≡ state ⌝ }
 {
     let end = reply::put_report(out, at, told);
     Told { state, at: end }
@@ -84,6 +90,7 @@ pub fn call(
     call: Call,
 ) -> Told
     requires { ⌜ at + 1011 ≤ length (now out) ⌝ }
+    ensures { λ r. ⌜ Makes call (now (torn .entry)) state (now (image .entry)) (r .state) (now (image .exit)) ⌝ }
 {
     match call {
         Call::Format(n) => tell_wrote(format::format(state, image, torn, n), out, at),

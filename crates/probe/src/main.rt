@@ -2,6 +2,7 @@
 // hexadecimal from standard input, one a line, and answers each by a line.
 ghost use mathlib.Core.Path.{_≡_};
 ghost use lib.ListN.{length};
+ghost use Rattle.probe.specs.Makes.{rig, CarriesOut, CarriesLine, CarriesIn, CarriesSome};
 
 mod bed;
 mod calls;
@@ -34,6 +35,8 @@ struct Reading {
 // An order carried out, and its reply gathered.
 fn carry_out(probe: Probe, image: &mut [u8], torn: &mut [u8], out: &mut [u8], given: Order) -> Probe
     requires { ⌜ length (now out) ≡ 65536 ⌝ }
+    ensures { λ r. ⌜ CarriesOut given (rig (probe .bed) (now (torn .entry)) (probe .state) (now (image .entry)))
+        (rig (r .bed) (now (torn .exit)) (r .state) (now (image .exit))) ⌝ }
 {
     let state = probe.state;
     let lent = probe.bed;
@@ -73,6 +76,8 @@ fn carry_out(probe: Probe, image: &mut [u8], torn: &mut [u8], out: &mut [u8], gi
 // A line that has ended.
 fn answer_line(probe: Probe, image: &mut [u8], torn: &mut [u8], out: &mut [u8], l: Line) -> Probe
     requires { ⌜ length (now out) ≡ 65536 ⌝ }
+    ensures { λ r. ⌜ CarriesLine l (rig (probe .bed) (now (torn .entry)) (probe .state) (now (image .entry)))
+        (rig (r .bed) (now (torn .exit)) (r .state) (now (image .exit))) ⌝ }
 {
     let given = order::order_of(l);
     carry_out(probe, image, torn, out, given)
@@ -87,6 +92,8 @@ fn take_bytes(
     bytes: &[u8],
 ) -> Reading
     requires { ⌜ length (now out) ≡ 65536 ⌝ }
+    ensures { λ r. ⌜ CarriesIn (now (bytes .entry)) (reading .line) (rig (reading .probe .bed) (now (torn .entry)) (reading .probe .state) (now (image .entry)))
+        (r .line) (rig (r .probe .bed) (now (torn .exit)) (r .probe .state) (now (image .exit))) ⌝ }
 {
     let mut probe = reading.probe;
     let mut l = reading.line;
@@ -117,6 +124,8 @@ fn read_into(
     buffer: &mut [u8],
 ) -> Reading
     requires { ⌜ length (now out) ≡ 65536 ⌝ }
+    ensures { λ r. ⌜ CarriesSome (reading .line) (rig (reading .probe .bed) (now (torn .entry)) (reading .probe .state) (now (image .entry)))
+        (r .line) (rig (r .probe .bed) (now (torn .exit)) (r .probe .state) (now (image .exit))) ⌝ }
 {
     let got = libc::read(0, buffer);
     let n = io::count(got, buffer);
@@ -126,6 +135,8 @@ fn read_into(
 // One read of standard input, as much as a buffer holds.
 fn turn(reading: Reading, image: &mut [u8], torn: &mut [u8], out: &mut [u8]) -> Reading
     requires { ⌜ length (now out) ≡ 65536 ⌝ }
+    ensures { λ r. ⌜ CarriesSome (reading .line) (rig (reading .probe .bed) (now (torn .entry)) (reading .probe .state) (now (image .entry)))
+        (r .line) (rig (r .probe .bed) (now (torn .exit)) (r .probe .state) (now (image .exit))) ⌝ }
 {
     let mut buffer = [0u8; 4096];
     read_into(reading, image, torn, out, &mut buffer)

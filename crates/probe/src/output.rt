@@ -1,10 +1,12 @@
 // The output, gathered in a buffer and written when the buffer is nearly full.
-ghost use Prim.Native.Nat.{_≤_};
+ghost use mathlib.Core.Path.{_≡_};
+ghost use Prim.Native.Nat.{_≤_, min};
+ghost use lib.ListN.{length};
 ghost use Rattle.io.specs.Counts.{Counts};
 
 // A number of bytes that a slice has: n, or its length where that is less.
 pub fn within(n: usize, bytes: &[u8]) -> usize
-    ensures { λ r. ⌜ Counts r (now (bytes .entry)) ⌝ }
+    ensures { λ r. ⌜ Counts r (now (bytes .entry)) × (r ≡ min n (length (now (bytes .entry)))) ⌝ }
 {
     let most = bytes.len();
     if n < most {

@@ -3,15 +3,21 @@ use mathlib.Core.Path.{_≡_, refl}
 use mathlib.Core.Bool.{Bool, true, false}
 use mathlib.Core.List.{List, [], _∷_, _++_, map}
 use Prim.Native.Nat.{ℕ, zero, suc}
+use native.Mathlib.Omega.{arith}
 use lib.ListN.{replicate}
 use Rattle.chip.specs.Geometry.{small}
 use Rattle.views.specs.Nodes.{Entry, entry, untouched, view}
 use Rattle.tree.specs.Tree as T
-use Rattle.promise.specs.Plain.{Call, formats, inserts, deletes, looksUp, commits, mounts, Answer, refuses, accepted, finds, Plain, Fed, Compared, plainRun, isChipSize, isTornSize, hasBlocks, inserting, verdict, leaf, fresh, updated, committed, mounted, finished, off, cutOff, acceptedAnswer}
+use Rattle.promise.specs.Plain.{Call, formats, inserts, deletes, looksUp, commits, mounts, lookingUp, insertion, deletion, Answer, refuses, accepted, finds, lookedUp, Plain, Fed, Compared, plainRun, isChipSize, isTornSize, hasBlocks, verdict, leaf, resting, updated, committed, finished, off, cutOff, acceptedAnswer}
 use Rattle.promise.specs.Calls.{stateOf}
-use Rattle.promise.specs.Steps.{Act, format, insert, lookUp, commit, mount, Step, Formatted, Agrees}
-use Rattle.promise.proofs.Promise.{promise}
-use Rattle.promise.proofs.Sample.{sample, SampleState, SampleImage, act, stepsOf, runs, allowed}
+use Rattle.promise.specs.Steps.{format, insert, delete, lookUp, commit, mount, Step, Only, starts, Formatted, Agrees}
+use Rattle.promise.specs.Promise.{plainAt, Later}
+use Rattle.promise.proofs.Promise.{accepted-not, tells-not, format-starts}
+use Rattle.promise.proofs.Claims.{promise}
+use Rattle.promise.proofs.Trees.{leaf-tree, insert-lawful, delete-lawful}
+use Rattle.promise.proofs.Durable.{durable}
+use Rattle.promise.proofs.Proper.{look-up-proper, insert-proper, delete-proper}
+use Rattle.promise.proofs.Sample.{sample, SampleState, SampleImage, act, Order, next, reboot, stepOf, stepsOf, Fine, runs, allowed}
 
 -- the length of an image of 3 blocks, and of a torn slice
 abbrev pub image : ℕ
@@ -88,7 +94,7 @@ pub examples :
     × (answers [] (call (formats 2000 image page) ∷ call (commits 0 image page) ∷ []) ≡ accepted ∷ accepted ∷ [])
     × (lateAnswers 4294967295 (call (commits 2000 image page) ∷ call (mounts 255 image page) ∷ call (commits 2000 image page) ∷ []) ≡ refuses 6 ∷ accepted ∷ accepted ∷ [])
     × (lateAnswers 9 (call (inserts 16 0 image) ∷ call (inserts 15 0 image) ∷ call (looksUp 15 image) ∷ []) ≡ refuses 5 ∷ accepted ∷ finds 0 ∷ [])
-unfolding isChipSize isTornSize hasBlocks inserting verdict leaf fresh updated committed mounted finished off cutOff acceptedAnswer T.insert T.allowed T.inserted T.insertAt T.gain T.hold T.halve T.raise T.find T.delete T.deleteAt
+unfolding lookingUp insertion deletion isChipSize isTornSize hasBlocks verdict leaf resting updated committed finished off cutOff acceptedAnswer T.insert T.allowed T.inserted T.insertAt T.gain T.fitOrSplit T.halve T.raise T.find T.delete T.deleteAt
 examples = (refl, refl, refl, refl, refl, refl, refl, refl, refl, refl, refl, refl, refl)
 
 -- ---- the small store
@@ -96,20 +102,29 @@ abbrev pub torn : ℕ → List ℕ
 torn b = replicate page b
 
 abbrev pub chip : SampleImage
-chip = record { tree = []; number = 0; whole = false; void = false; size = image }
+chip = record { tree = []; number = 0; whole = false; void = false; roomy = false; size = image }
 
 abbrev pub start : SampleState
 start = record { on = false; blocks = 0; number = 0; pending = 0; buffer = [] }
 
+-- a state that no call gave
+abbrev pub junk : SampleState
+junk = record { on = true; blocks = 3; number = 77; pending = 5; buffer = [] }
+
 abbrev pub sampleAnswer : Step sample → Answer
 sampleAnswer x = x .answer
 
-abbrev pub calls : List Act
-calls = insert 7 99 ∷ lookUp 7 ∷ commit 0 (torn 90) ∷ lookUp 7 ∷ mount 255 (torn 90) ∷ lookUp 7 ∷ []
+-- a commit that is cut at once
+abbrev pub lost : List Order
+lost = next (insert 7 99) ∷ next (lookUp 7) ∷ next (commit 0 (torn 90)) ∷ next (lookUp 7) ∷ next (mount 255 (torn 90)) ∷ next (lookUp 7) ∷ []
 
 -- a cut commit that counts: its last operation is torn to 0
-abbrev pub found : List Act
-found = insert 7 99 ∷ commit 2 (torn 0) ∷ mount 255 (torn 90) ∷ lookUp 7 ∷ []
+abbrev pub found : List Order
+found = next (insert 7 99) ∷ next (commit 2 (torn 0)) ∷ next (mount 255 (torn 90)) ∷ next (lookUp 7) ∷ []
+
+-- the battery is pulled with an update pending, and the mount is given a state that no call gave
+abbrev pub pulled : List Order
+pulled = next (insert 7 99) ∷ next (commit 2000 (torn 90)) ∷ next (insert 8 1) ∷ reboot junk (mount 255 (torn 90)) ∷ next (lookUp 7) ∷ next (lookUp 8) ∷ []
 
 abbrev pub s₀ : SampleState
 s₀ = act (format 2000 (torn 90)) start chip .state
@@ -119,16 +134,74 @@ i₀ = act (format 2000 (torn 90)) start chip .image
 
 pub sample-examples :
     (act (format 2000 (torn 90)) start chip .answer ≡ accepted)
-    × (map sampleAnswer (stepsOf calls s₀ i₀) ≡ accepted ∷ finds 99 ∷ refuses 10 ∷ refuses 2 ∷ accepted ∷ refuses 4 ∷ [])
+    × (map sampleAnswer (stepsOf lost s₀ i₀) ≡ accepted ∷ finds 99 ∷ refuses 10 ∷ refuses 2 ∷ accepted ∷ refuses 4 ∷ [])
     × (map sampleAnswer (stepsOf found s₀ i₀) ≡ accepted ∷ refuses 10 ∷ accepted ∷ finds 99 ∷ [])
-unfolding isChipSize isTornSize hasBlocks stateOf inserting leaf T.insert T.allowed T.inserted T.insertAt T.gain T.hold T.halve T.raise T.find
-sample-examples = (refl, refl, refl)
+    × (map sampleAnswer (stepsOf pulled s₀ i₀) ≡ accepted ∷ accepted ∷ accepted ∷ accepted ∷ finds 99 ∷ refuses 4 ∷ [])
+unfolding lookingUp insertion isChipSize isTornSize hasBlocks stateOf leaf T.insert T.allowed T.inserted T.insertAt T.gain T.fitOrSplit T.halve T.raise T.find
+sample-examples = (refl, refl, refl, refl)
 
 -- and the promise is about these lists
-started : Formatted small sample s₀ i₀
+pub formatted : Formatted small sample s₀ i₀
 unfolding isChipSize isTornSize
-started = record { allowance = 2000; torn = torn 90; before = start; was = chip; ops = 4; says = allowed (format 2000 (torn 90)) start chip }
+formatted = record { allowance = 2000; torn = torn 90; before = start; was = chip; ops = 4; says = allowed (format 2000 (torn 90)) tt start chip }
 
-pub sample-agrees : Agrees small sample (fresh 3) i₀ (stepsOf calls s₀ i₀)
+fine : Fine pulled s₀ i₀
+unfolding isChipSize isTornSize hasBlocks stateOf insertion T.insert T.allowed T.inserted T.insertAt leaf T.gain T.fitOrSplit
+fine = (insert-proper 7 99, (tt, (insert-proper 8 1, ((tt, refl, accepted-not 1), (look-up-proper 7, (look-up-proper 8, tt))))))
+
+pub sample-agrees : Agrees small sample (starts small sample (leaf 3) 1 i₀) i₀ (stepsOf pulled s₀ i₀)
 unfolding isChipSize isTornSize
-sample-agrees = promise small sample s₀ i₀ (stepsOf calls s₀ i₀) started (runs calls s₀ i₀ (tt, (tt, (tt, (tt, (tt, (tt, tt)))))))
+sample-agrees =
+    promise small sample (leaf 3) 1 s₀ i₀ (stepsOf pulled s₀ i₀)
+    (record { started = format-starts small sample s₀ i₀ formatted; runs = runs pulled (Only sample s₀) s₀ i₀ refl fine; uncut = (refl, (refl, (refl, (refl, (refl, (refl, tt)))))) })
+
+-- ---- what a finished commit kept is found after the battery was pulled, whatever was done to the key without a commit
+abbrev pub kept : List Order
+kept = next (insert 7 99) ∷ next (commit 2000 (torn 90)) ∷ next (insert 7 1) ∷ next (delete 9) ∷ reboot junk (mount 255 (torn 90)) ∷ next (lookUp 7) ∷ []
+
+kept-fine : Fine kept s₀ i₀
+unfolding lookingUp insertion deletion isChipSize isTornSize hasBlocks stateOf leaf T.insert T.allowed T.inserted T.insertAt T.gain T.fitOrSplit T.halve T.raise T.find
+kept-fine = (insert-proper 7 99, (tt, (insert-proper 7 1, (delete-proper 9, ((tt, refl, accepted-not 1), (look-up-proper 7, tt))))))
+
+-- the steps
+abbrev first : Step sample
+first = stepOf (next (insert 7 99)) s₀ i₀
+
+abbrev second : Step sample
+second = stepOf (next (commit 2000 (torn 90))) (first .state) (first .image)
+
+abbrev third : Step sample
+third = stepOf (next (insert 7 1)) (second .state) (second .image)
+
+abbrev fourth : Step sample
+fourth = stepOf (next (delete 9)) (third .state) (third .image)
+
+abbrev fifth : Step sample
+fifth = stepOf (reboot junk (mount 255 (torn 90))) (fourth .state) (fourth .image)
+
+abbrev sixth : Step sample
+sixth = stepOf (next (lookUp 7)) (fifth .state) (fifth .image)
+
+later : Later small sample (leaf 3) 1 s₀ i₀ (first ∷ []) (third ∷ fourth ∷ fifth ∷ []) [] second sixth 7
+unfolding lookingUp insertion deletion isChipSize isTornSize hasBlocks verdict resting updated committed finished acceptedAnswer stateOf leaf T.insert T.allowed T.inserted T.insertAt T.gain T.fitOrSplit T.halve T.raise T.find
+later =
+    record {
+      course = record { started = format-starts small sample s₀ i₀ formatted; runs = runs kept (Only sample s₀) s₀ i₀ refl kept-fine; uncut = (refl, (refl, (refl, (refl, (refl, (refl, tt)))))) };
+      tree = leaf-tree 3 (omega arith);
+      lawful = (insert-lawful 7 99 (omega arith), (tt, (insert-lawful 7 1 (omega arith), (delete-lawful 9 (omega arith), (tt, (tt, tt))))));
+      unformatted = (refl, (refl, (refl, tt)));
+      key = omega arith;
+      looks = record { act = refl; lent = λ e. tells-not (99 ∷ []) 1 e };
+      on = λ e. tells-not (99 ∷ []) 2 e;
+      keptSince = tt;
+      pendingSince = tt;
+    }
+
+finished-answer : second .answer ≡ accepted
+unfolding isChipSize isTornSize hasBlocks stateOf insertion T.insert T.allowed T.inserted T.insertAt leaf T.gain T.fitOrSplit
+finished-answer = refl
+
+pub sample-durable : sixth .answer ≡ lookedUp (T.find 7 (plainAt small sample (leaf 3) 1 i₀ (first ∷ []) .present))
+sample-durable =
+    durable small sample (leaf 3) 1 s₀ i₀ (first ∷ []) (third ∷ fourth ∷ fifth ∷ []) [] second sixth 7 later
+    (record { allowance = 2000; torn = torn 90; act = refl; answer = finished-answer })

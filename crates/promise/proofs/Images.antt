@@ -14,16 +14,16 @@ use Rattle.views.specs.Table as Views
 use Rattle.views.proofs.Entries.{RisingView, FewView}
 use Rattle.views.proofs.Folds.{node-rising, node-few}
 use Rattle.tree.specs.Tree.{Table, entriesOf, entriesAt}
-use Rattle.tree.specs.Step6.{step6, Fits, Tree}
+use Rattle.tree.specs.Step6.{step6, NodeFits, Tree}
 use Rattle.promise.specs.Calls.{invalid, means}
 use Rattle.promise.specs.Image.{viewsOf, bySix, imageMeaning}
 
-fits-view : (w : View) → RisingView w → FewView w → Fits (entriesOf w)
+fits-view : (w : View) → RisingView w → FewView w → NodeFits (entriesOf w)
 fits-view untouched r f = record { rising = tt; few = omega arith }
 fits-view broken r f = record { rising = tt; few = omega arith }
 fits-view (view l es) r f = record { rising = r; few = f }
 
-fits-at : (f : ℕ → Views.Node) → ((n : ℕ) → Fits (entriesOf (f n .now))) → (k m n : ℕ) → Fits (entriesAt (viewsOf (tab k m f)) n)
+fits-at : (f : ℕ → Views.Node) → ((n : ℕ) → NodeFits (entriesOf (f n .now))) → (k m n : ℕ) → NodeFits (entriesAt (viewsOf (tab k m f)) n)
 fits-at f h k zero n = record { rising = tt; few = omega arith }
 fits-at f h k (suc m) zero = h k
 fits-at f h k (suc m) (suc n) = fits-at f h (suc k) m n

@@ -1,12 +1,11 @@
 pub mod Promise
-pub mod Choices
-pub mod Formats
-pub mod Answers
-pub mod Limits
+pub mod Lists
+pub mod Claims
 pub mod Images
 pub mod Trees
-pub mod Durable
 pub mod Values
+pub mod Durable
+pub mod Proper
 pub mod Falls
 pub mod Sample
 pub mod Examples

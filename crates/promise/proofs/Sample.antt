@@ -1,40 +1,40 @@
 -- A small store that meets every contract: the image holds a tree, the state the updates that are pending. So the contracts can be met. Assumes nothing.
-use mathlib.Core.Path.{_≡_, refl, sym, ap, _∙_}
-use mathlib.Core.Logic.{_⊎_, inl, inr, ⊎-elim}
-use mathlib.Core.Bool.{Bool, true, false, cond, _&&_}
+use mathlib.Core.Path.{_≡_, refl, sym, ap, _∙_, subst}
+use mathlib.Core.Bool.{Bool, true, false, cond, not, _&&_}
 use mathlib.Core.List.{List, [], _∷_}
 use Prim.Native.Nat.{ℕ, zero, suc, _<_, _≤_}
 use native.Mathlib.Omega.{arith}
 use lib.Dec.{ltb, leb, eqb}
 use lib.ListN.{length, getD}
 use borrow.Author.Tests.{le-leb, lt-leb, lt-ltb, le-ltb}
-use Rattle.lists.proofs.Tests.{cases}
+use Rattle.lists.proofs.Tests.{cases, clash, or-right}
 use Rattle.chip.specs.Geometry.{small, blocksOf}
-use Rattle.tree.specs.Tree.{Table, find, Found, absent, found}
-use Rattle.promise.specs.Plain.{Call, formats, inserts, deletes, looksUp, commits, mounts, Answer, refuses, accepted, Plain, orElse, when, firstRefusal, laterRefusal, isAbsent, isRefused, leaf, fresh, inserting, updated, committed, lookedUp}
-use Rattle.promise.specs.Calls.{Meaning, invalid, means, treeIn, Store, stateOf, FirstTests, LaterTests, Insert, Delete, LookUp, Power, Format, Commit, mountedAt, Mount}
-use Rattle.promise.specs.Steps.{Act, format, insert, delete, lookUp, commit, mount, Step, Allowed, one, Uncut, Runs}
-use Rattle.promise.specs.History.{Update, insertion, deletion, applied}
-use Rattle.promise.proofs.Promise.{apart, accepted-not, finds-not}
+use Rattle.tree.specs.Tree.{Table}
+use Rattle.promise.specs.Plain.{Answer, refuses, accepted, tells, Plain, orElse, when, ReadCall, UpdateCall, Call, reads, updates, formats, commits, mounts, isChipSize, isTornSize, hasBlocks, firstRefusal, laterRefusal, lastNumber, leaf, resting, updated, committed}
+use Rattle.promise.specs.Calls.{Meaning, invalid, means, treeIn, Store, isOneOf, tellsOr, acceptsOr, ProperRead, ProperUpdate, stateOf, Same, FirstTests, Reads, Updates, Format, Committing, Commit, Mount}
+use Rattle.promise.specs.Steps.{Act, read, update, format, commit, mount, boots, Step, one, Hands, Allowed, Runs}
+use Rattle.promise.proofs.Promise.{apart, accepted-not, when-is}
+use Rattle.promise.proofs.Proper.{apart-from}
 
--- the state, with the newest update first; the image: the tree and number of its last whole commit, and whether it has a void page
+-- the state, with the newest update first; the image: the tree and number of its last whole commit, whether it has a void page, whether it has room
 pub record SampleState : Type 0 where
   pub on : Bool
   pub blocks : ℕ
   pub number : ℕ
   pub pending : ℕ
-  pub buffer : List Update
+  pub buffer : List UpdateCall
 
 pub record SampleImage : Type 0 where
   pub tree : Table
   pub number : ℕ
   pub whole : Bool
   pub void : Bool
+  pub roomy : Bool
   pub size : ℕ
 
-abbrev pub grown : ℕ → List Update → Table → Table
+abbrev pub grown : ℕ → List UpdateCall → Table → Table
 grown B [] t = t
-grown B (u ∷ us) t = applied B u (grown B us t)
+grown B (u ∷ us) t = u .step B (grown B us t)
 
 abbrev pub meaningOf : SampleImage → Meaning
 meaningOf i = cond (i .whole) (means (i .tree) (i .number)) (invalid 7)
@@ -60,11 +60,13 @@ sample =
       number = λ s. s .number;
       present = presentOf;
       meaning = meaningOf;
-      mountOps = mountOpsOf;
-      commitOps = λ s i. commitOpsOf s;
-      formatOps = λ B. 4;
+      mountCount = mountOpsOf;
+      commitCount = λ s i. commitOpsOf s;
+      formatCount = λ B. 4;
+      most = 3;
       Good = λ s i. Unit {0};
-      Room = λ i. Unit {0};
+      Room = λ i. i .roomy ≡ true;
+      able = λ s i. i .roomy;
     }
 
 -- ---- the calls
@@ -86,28 +88,28 @@ sieve zero zero s i o = o
 abbrev pub call : Call → SampleState → SampleImage → Outcome → Outcome
 call c s i o = sieve (firstRefusal small (s .on) (s .blocks) c) (laterRefusal (stateOf sample s i) c) s i o
 
-abbrev pub push : Update → SampleState → SampleState
+abbrev pub push : UpdateCall → SampleState → SampleState
 push u s = record { on = s .on; blocks = s .blocks; number = s .number; pending = suc (s .pending); buffer = u ∷ s .buffer }
 
 abbrev pub down : SampleState → SampleState
 down s = record { on = false; blocks = s .blocks; number = s .number; pending = s .pending; buffer = s .buffer }
 
 abbrev pub written : SampleState → SampleImage → SampleImage
-written s i = record { tree = presentOf s i; number = suc (s .number); whole = true; void = false; size = i .size }
+written s i = record { tree = presentOf s i; number = suc (s .number); whole = true; void = false; roomy = i .roomy; size = i .size }
 
 abbrev pub voided : Bool → SampleImage → SampleImage
-voided b i = record { tree = i .tree; number = i .number; whole = i .whole; void = b; size = i .size }
+voided b i = record { tree = i .tree; number = i .number; whole = i .whole; void = b; roomy = i .roomy; size = i .size }
 
-abbrev pub flushed : SampleState → SampleState
-flushed s = record { on = s .on; blocks = s .blocks; number = suc (s .number); pending = 0; buffer = [] }
+abbrev pub emptied : SampleState → SampleState
+emptied s = record { on = s .on; blocks = s .blocks; number = suc (s .number); pending = 0; buffer = [] }
 
 abbrev pub cutImage : ℕ → List ℕ → SampleState → SampleImage → SampleImage
-cutImage n torn s i = cond (eqb n 2 && eqb (getD torn 0 0) 0) (written s i) (voided true i)
+cutImage n torn s i = cond (eqb (suc n) 3 && eqb (getD torn 0 0) 0) (written s i) (voided true i)
 
 abbrev pub commitDone : ℕ → List ℕ → SampleState → SampleImage → Outcome
 commitDone n torn s i =
     cond (ltb 0 (s .pending))
-    (cond (leb 3 n) (out accepted 3 (flushed s) (written s i)) (out (refuses 10) n (down s) (cutImage n torn s i)))
+    (cond (i .roomy) (cond (leb 3 n) (out accepted 3 (emptied s) (written s i)) (out (refuses 10) n (down s) (cutImage n torn s i))) (out (refuses 6) 0 s i))
     (out accepted 0 s i)
 
 abbrev pub opened : SampleImage → SampleState
@@ -123,141 +125,185 @@ abbrev pub formatDone : ℕ → SampleState → SampleImage → Outcome
 formatDone n s i =
     cond (leb 4 n)
     (out accepted 4 (record { on = true; blocks = blocksOf small (i .size); number = 1; pending = 0; buffer = [] })
-    (record { tree = leaf (blocksOf small (i .size)); number = 1; whole = true; void = false; size = i .size }))
-    (out (refuses 10) n (down s) (record { tree = []; number = 0; whole = false; void = false; size = i .size }))
+    (record { tree = leaf (blocksOf small (i .size)); number = 1; whole = true; void = false; roomy = true; size = i .size }))
+    (out (refuses 10) n (down s) (record { tree = []; number = 0; whole = false; void = false; roomy = false; size = i .size }))
 
 abbrev pub act : Act → SampleState → SampleImage → Outcome
+act (read r) s i = call (reads r (i .size)) s i (out (r .answer (stateOf sample s i)) 0 s i)
+act (update u) s i = call (updates u (i .size)) s i (out accepted 0 (push u s) i)
 act (format n torn) s i = call (formats n (i .size) (length torn)) s i (formatDone n s i)
-act (insert k v) s i = call (inserts k v (i .size)) s i (out accepted 0 (push (insertion k v) s) i)
-act (delete k) s i = call (deletes k (i .size)) s i (out accepted 0 (push (deletion k) s) i)
-act (lookUp k) s i = call (looksUp k (i .size)) s i (out (lookedUp (find k (presentOf s i))) 0 s i)
 act (commit n torn) s i = call (commits n (i .size) (length torn)) s i (commitDone n torn s i)
 act (mount n torn) s i = call (mounts n (i .size) (length torn)) s i (mountDone n s i)
 
--- ---- no refusal that comes later is 1 or 2
-when-later : (n : ℕ) (b : Bool) → 3 ≤ n → (when n b ≡ 0) ⊎ (3 ≤ when n b)
-when-later n true h = inr h
-when-later n false h = inl refl
+-- ---- a fact of all outcomes of a call
+sieve-case : (P : Outcome → Type 0) (n m : ℕ) (s : SampleState) (i : SampleImage) (o : Outcome)
+    → ((k : ℕ) → n ≡ suc k → P (out (refuses (suc k)) 0 s i)) → ((k : ℕ) → n ≡ 0 → m ≡ suc k → P (out (refuses (suc k)) 0 s i)) → (n ≡ 0 → m ≡ 0 → P o) → P (sieve n m s i o)
+sieve-case P (suc n) m s i o f h p = f n refl
+sieve-case P zero (suc m) s i o f h p = h m refl refl
+sieve-case P zero zero s i o f h p = p refl refl
 
-or-later : (n m : ℕ) → (n ≡ 0) ⊎ (3 ≤ n) → (m ≡ 0) ⊎ (3 ≤ m) → (orElse n m ≡ 0) ⊎ (3 ≤ orElse n m)
-or-later zero m h k = k
-or-later (suc n) m h k = h
+same : {s : SampleState} {i : SampleImage} → Same sample s i s i
+same = record { state = refl; image = refl }
 
-later-is : (p : Plain) (c : Call) → (laterRefusal p c ≡ 0) ⊎ (3 ≤ laterRefusal p c)
-later-is p (formats a i t) = inl refl
-later-is p (inserts k v i) = or-later (when 3 (leb 16 (p .pending))) (when 5 (isRefused (inserting k v p))) (when-later 3 (leb 16 (p .pending)) (omega arith)) (when-later 5 (isRefused (inserting k v p)) (omega arith))
-later-is p (deletes k i) = or-later (when 3 (leb 16 (p .pending))) (when 4 (isAbsent (find k (p .present)))) (when-later 3 (leb 16 (p .pending)) (omega arith)) (when-later 4 (isAbsent (find k (p .present))) (omega arith))
-later-is p (looksUp k i) = when-later 4 (isAbsent (find k (p .present))) (omega arith)
-later-is p (commits a i t) = when-later 6 (ltb 0 (p .pending) && eqb (p .number) 4294967295) (omega arith)
-later-is p (mounts a i t) = inl refl
+-- a refusal that is neither 1 nor 2
+abbrev NotFirst : ℕ → Type 0
+NotFirst m = (m ≡ 1 → ⊥) × (m ≡ 2 → ⊥)
 
--- ---- what every contract says first
-first-by : (c : Call) (s : SampleState) (i : SampleImage) (o : Outcome) (n m : ℕ) → firstRefusal small (s .on) (s .blocks) c ≡ n → (m ≡ 0) ⊎ (3 ≤ m)
-    → (o .answer ≡ refuses 1 → ⊥) → (o .answer ≡ refuses 2 → ⊥) → o .image .size ≡ i .size
-    → FirstTests small sample c s i (sieve n m s i o .answer) (sieve n m s i o .state) (sieve n m s i o .image)
-first-by c s i o (suc n) m e l a b z =
-    record { refused = λ k f. (ap refuses (sym e ∙ f), refl, refl); not1 = λ f r. omega arith; not2 = λ f r. omega arith; sameSize = refl }
-first-by c s i o zero (suc m) e l a b z =
+later-when : (n m : ℕ) (b : Bool) → NotFirst (suc n) → when (suc n) b ≡ suc m → NotFirst (suc m)
+later-when n m b h e = let q = when-is (suc n) m b e in (λ z. h .0 (sym q ∙ z), λ z. h .1 (sym q ∙ z))
+
+-- what every contract says first
+first-ok : (c : Call) (s : SampleState) (i : SampleImage) (o : Outcome) → ((m : ℕ) → laterRefusal (stateOf sample s i) c ≡ suc m → NotFirst (suc m)) → ((m : ℕ) → o .answer ≡ refuses m → NotFirst m)
+    → o .image .size ≡ i .size → FirstTests small sample c s i (call c s i o .answer) (call c s i o .state) (call c s i o .image)
+first-ok c s i o l a z =
     record {
-      refused = λ k f. absurd (omega arith);
-      not1 = λ f r. ⊎-elim (λ h. omega arith) (λ h. apart (suc m) 1 (λ q. omega arith) r) l;
-      not2 = λ f r. ⊎-elim (λ h. omega arith) (λ h. apart (suc m) 2 (λ q. omega arith) r) l;
-      sameSize = refl;
-    }
-first-by c s i o zero zero e l a b z = record { refused = λ k f. absurd (omega arith); not1 = λ f r. a r; not2 = λ f r. b r; sameSize = z }
-
-first-ok : (c : Call) (s : SampleState) (i : SampleImage) (o : Outcome) → (o .answer ≡ refuses 1 → ⊥) → (o .answer ≡ refuses 2 → ⊥) → o .image .size ≡ i .size
-    → FirstTests small sample c s i (call c s i o .answer) (call c s i o .state) (call c s i o .image)
-first-ok c s i o a b z =
-    first-by c s i o (firstRefusal small (s .on) (s .blocks) c) (laterRefusal (stateOf sample s i) c) refl (later-is (stateOf sample s i) c) a b z
-
-later-ok : (c : Call) (s : SampleState) (i : SampleImage) (o : Outcome) → LaterTests small sample c s i (call c s i o .answer) (call c s i o .state) (call c s i o .image)
-later-ok c s i o = record { refused = λ good t n e. rw (t, e) (refl, refl, refl) }
-
-lookedUp-not : (f : Found) (n : ℕ) → n < 3 → lookedUp f ≡ refuses n → ⊥
-lookedUp-not absent n h e = apart 4 n (λ q. omega arith) e
-lookedUp-not (found v) n h e = finds-not v n e
-
-quiet-by : (n m : ℕ) (s : SampleState) (i : SampleImage) (o : Outcome) → ((k : ℕ) → o .answer ≡ refuses k → (k ≡ 10 → ⊥) → o .ops ≡ 0)
-    → (k : ℕ) → sieve n m s i o .answer ≡ refuses k → (k ≡ 10 → ⊥) → sieve n m s i o .ops ≡ 0
-quiet-by (suc n) m s i o h k e f = refl
-quiet-by zero (suc m) s i o h k e f = refl
-quiet-by zero zero s i o h k e f = h k e f
-
-ten-loud : (n k : ℕ) → refuses 10 ≡ refuses k → (k ≡ 10 → ⊥) → n ≡ 0
-ten-loud n k e f = let q : _≡_ {A = ℕ} 10 k = cc in absurd (f (sym q))
-
--- ---- insert, delete, look up
-insert-ok : (k v : ℕ) (s : SampleState) (i : SampleImage) → Insert small sample k v s i (act (insert k v) s i .answer) (act (insert k v) s i .state) (act (insert k v) s i .image)
-unfolding stateOf updated inserting
-insert-ok k v s i =
-    let o = out accepted 0 (push (insertion k v) s) i in
-    let c = inserts k v (i .size) in
-    record {
-      first = first-ok c s i o (accepted-not 1) (accepted-not 2) refl;
-      then = later-ok c s i o;
-      done = λ good t e. rw (t, e) (refl, record { is = refl; image = refl; good = tt });
+      refused = λ n e. rw e (refl, same);
+      not1 = λ t. sieve-case (λ x. x .answer ≡ refuses 1 → ⊥) (firstRefusal small (s .on) (s .blocks) c) (laterRefusal (stateOf sample s i) c) s i o
+          (λ k e. absurd (omega arith)) (λ k f e r. l k e .0 (let q : suc k ≡ 1 = cc in q)) (λ f e r. a 1 r .0 refl);
+      not2 = λ t. sieve-case (λ x. x .answer ≡ refuses 2 → ⊥) (firstRefusal small (s .on) (s .blocks) c) (laterRefusal (stateOf sample s i) c) s i o
+          (λ k e. absurd (omega arith)) (λ k f e r. l k e .1 (let q : suc k ≡ 2 = cc in q)) (λ f e r. a 2 r .1 refl);
+      sameSize = sieve-case (λ x. x .image .size ≡ i .size) (firstRefusal small (s .on) (s .blocks) c) (laterRefusal (stateOf sample s i) c) s i o
+          (λ k e. refl) (λ k f e. refl) (λ f e. z);
     }
 
-delete-ok : (k : ℕ) (s : SampleState) (i : SampleImage) → Delete small sample k s i (act (delete k) s i .answer) (act (delete k) s i .state) (act (delete k) s i .image)
+-- ---- the answers that a call can give
+two-one : (a b : Bool) (ns : List ℕ) (k : ℕ) → orElse (when 2 a) (when 1 b) ≡ suc k → isOneOf (suc k) (2 ∷ 1 ∷ ns) ≡ true
+two-one true b ns k e = subst (λ m. isOneOf m (2 ∷ 1 ∷ ns) ≡ true) e refl
+two-one false true ns k e = subst (λ m. isOneOf m (2 ∷ 1 ∷ ns) ≡ true) e refl
+two-one false false ns k e = absurd (omega arith)
+
+only-one : (b : Bool) (ns : List ℕ) (k : ℕ) → when 1 b ≡ suc k → isOneOf (suc k) (1 ∷ ns) ≡ true
+only-one b ns k e = subst (λ m. isOneOf m (1 ∷ ns) ≡ true) (sym (when-is 1 k b e)) refl
+
+pub more : (n m : ℕ) (ns : List ℕ) → isOneOf n ns ≡ true → isOneOf n (m ∷ ns) ≡ true
+more n m ns e = or-right (eqb n m) (isOneOf n ns) e
+
+tells-more : (a : Answer) (m : ℕ) (ns : List ℕ) → tellsOr ns a ≡ true → tellsOr (m ∷ ns) a ≡ true
+tells-more (refuses n) m ns e = more n m ns e
+tells-more accepted m ns e = e
+tells-more (tells vs) m ns e = e
+
+-- ---- reads
+own-read : (r : ReadCall) → ProperRead r → (p : Plain) (m : ℕ) → r .answer p ≡ refuses m → NotFirst m
+own-read r w p m e =
+    let t : isOneOf m (r .numbers) ≡ true = subst (λ (a : Answer). tellsOr (r .numbers) a ≡ true) e (w .range p) in
+    (λ z. apart-from m 1 (r .numbers) t (w .own 1 refl) z, λ z. apart-from m 2 (r .numbers) t (w .own 2 refl) z)
+
+read-ok : (r : ReadCall) → ProperRead r → (s : SampleState) (i : SampleImage) → Reads small sample r s i (act (read r) s i .answer) (act (read r) s i .state) (act (read r) s i .image)
+read-ok r w s i =
+    let o = out (r .answer (stateOf sample s i)) 0 s i in
+    let c = reads r (i .size) in
+    let f = firstRefusal small (s .on) (s .blocks) c in
+    record {
+      first = first-ok c s i o (λ m e. absurd (omega arith)) (own-read r w (stateOf sample s i)) refl;
+      range = sieve-case (λ x. tellsOr (2 ∷ 1 ∷ r .numbers) (x .answer) ≡ true) f 0 s i o
+          (two-one (not (s .on)) (not (isChipSize small (i .size) && hasBlocks small (s .blocks) (i .size))) (r .numbers)) (λ k z e. absurd (omega arith))
+          (λ z e. tells-more (r .answer (stateOf sample s i)) 2 (1 ∷ r .numbers) (tells-more (r .answer (stateOf sample s i)) 1 (r .numbers) (w .range (stateOf sample s i))));
+      same = sieve-case (λ x. Same sample s i (x .state) (x .image)) f 0 s i o (λ k e. same) (λ k z e. same) (λ z e. same);
+      done = λ good t. rw t;
+    }
+
+-- ---- updates
+pub or-is : (a b k : ℕ) (P : ℕ → Type 0) → ((n : ℕ) → a ≡ suc n → P (suc n)) → ((n : ℕ) → b ≡ suc n → P (suc n)) → orElse a b ≡ suc k → P (suc k)
+or-is zero b k P f h e = h k e
+or-is (suc a) b k P f h e = f k e
+
+own-update : (u : UpdateCall) → ProperUpdate u → (B : ℕ) (t : Table) (m : ℕ) → u .refusal B t ≡ suc m → NotFirst (suc m)
+own-update u w B t m e =
+    let q = w .range B t m e in
+    (λ z. apart-from (suc m) 1 (u .numbers) q (w .own 1 refl) z, λ z. apart-from (suc m) 2 (u .numbers) q (w .own 2 refl) z)
+
+three-later : (u : UpdateCall) → ProperUpdate u → (B : ℕ) (t : Table) (k x : ℕ) → x < 16 → orElse (when 3 (leb 16 x)) (u .refusal B t) ≡ suc k → suc k ≡ 3 → ⊥
+three-later u w B t k x h e q = let f : u .refusal B t ≡ suc k = (rw (lt-leb 16 x h) at e) in apart-from (suc k) 3 (u .numbers) (w .range B t k f) (w .own 3 refl) q
+
+update-ok : (u : UpdateCall) → ProperUpdate u → (s : SampleState) (i : SampleImage)
+    → Updates small sample u s i (act (update u) s i .answer) (act (update u) s i .state) (act (update u) s i .image)
 unfolding stateOf updated
-delete-ok k s i =
-    let o = out accepted 0 (push (deletion k) s) i in
-    let c = deletes k (i .size) in
+update-ok u w s i =
+    let o = out accepted 0 (push u s) i in
+    let c = updates u (i .size) in
+    let f = firstRefusal small (s .on) (s .blocks) c in
+    let b = u .refusal (s .blocks) (presentOf s i) in
+    let l = orElse (when 3 (leb 16 (s .pending))) b in
     record {
-      first = first-ok c s i o (accepted-not 1) (accepted-not 2) refl;
-      then = later-ok c s i o;
-      done = λ good t e. rw (t, e) (refl, record { is = refl; image = refl; good = tt });
-    }
-
-sieve-same : (n m : ℕ) (s : SampleState) (i : SampleImage) (a : Answer) → (sieve n m s i (out a 0 s i) .state ≡ s) × (sieve n m s i (out a 0 s i) .image ≡ i)
-sieve-same (suc n) m s i a = (refl, refl)
-sieve-same zero (suc m) s i a = (refl, refl)
-sieve-same zero zero s i a = (refl, refl)
-
-lookUp-ok : (k : ℕ) (s : SampleState) (i : SampleImage) → LookUp small sample k s i (act (lookUp k) s i .answer) (act (lookUp k) s i .state) (act (lookUp k) s i .image)
-unfolding stateOf
-lookUp-ok k s i =
-    let o = out (lookedUp (find k (presentOf s i))) 0 s i in
-    let c = looksUp k (i .size) in
-    record {
-      first = first-ok c s i o (lookedUp-not (find k (presentOf s i)) 1 (omega arith)) (lookedUp-not (find k (presentOf s i)) 2 (omega arith)) refl;
-      then = later-ok c s i o;
-      same = sieve-same (firstRefusal small (s .on) (s .blocks) c) (laterRefusal (stateOf sample s i) c) s i (lookedUp (find k (presentOf s i)));
-      done = λ good t e. rw (t, e);
+      first = first-ok c s i o
+          (λ m e. or-is (when 3 (leb 16 (s .pending))) b m NotFirst
+          (λ n q. later-when 2 n (leb 16 (s .pending)) ((λ z. omega arith), (λ z. omega arith)) q) (own-update u w (s .blocks) (presentOf s i)) e)
+          (λ m e. absurd (accepted-not m e)) refl;
+      range = sieve-case (λ x. acceptsOr (2 ∷ 1 ∷ 3 ∷ u .numbers) (x .answer) ≡ true) f l s i o
+          (two-one (not (s .on)) (not (isChipSize small (i .size) && hasBlocks small (s .blocks) (i .size))) (3 ∷ u .numbers))
+          (λ k z e. or-is (when 3 (leb 16 (s .pending))) b k (λ n. isOneOf n (2 ∷ 1 ∷ 3 ∷ u .numbers) ≡ true)
+          (λ n q. subst (λ m. isOneOf m (2 ∷ 1 ∷ 3 ∷ u .numbers) ≡ true) (sym (when-is 3 n (leb 16 (s .pending)) q)) refl)
+          (λ n q. more (suc n) 2 (1 ∷ 3 ∷ u .numbers) (more (suc n) 1 (3 ∷ u .numbers) (more (suc n) 3 (u .numbers) (w .range (s .blocks) (presentOf s i) n q)))) e)
+          (λ z e. refl);
+      image = sieve-case (λ x. x .image ≡ i) f l s i o (λ k e. refl) (λ k z e. refl) (λ z e. refl);
+      still = λ n. sieve-case (λ x. x .answer ≡ refuses n → x .state ≡ s) f l s i o (λ k e q. refl) (λ k z e q. refl) (λ z e q. absurd (accepted-not n q));
+      full = λ t h. rw (t, le-leb 16 (s .pending) h);
+      notFull = λ t h. sieve-case (λ x. x .answer ≡ refuses 3 → ⊥) f l s i o
+          (λ k e. absurd (omega arith))
+          (λ k z e r. three-later u w (s .blocks) (presentOf s i) k (s .pending) h e (let q : suc k ≡ 3 = cc in q))
+          (λ z e r. accepted-not 3 r);
+      then = λ good t n e. rw (t, e);
+      done = λ good t e. rw (t, e) (refl, refl, tt);
     }
 
 -- ---- commit
-ten-not : (n : ℕ) → n < 3 → refuses 10 ≡ refuses n → ⊥
-ten-not n h e = apart 10 n (λ q. omega arith) e
+not-later : (m : ℕ) → accepted ≡ refuses m → NotFirst m
+not-later m e = absurd (accepted-not m e)
 
--- a fact of all three outcomes
+far : (n m : ℕ) → 2 < n → refuses n ≡ refuses m → NotFirst m
+far n m h e = let q : n ≡ m = cc in (λ z. omega arith, λ z. omega arith)
+
+cond-case : {A : Type 0} (P : A → Type 0) (b : Bool) (x y : A) → P x → P y → P (cond b x y)
+cond-case P true x y h k = h
+cond-case P false x y h k = k
+
+-- a fact of all four outcomes
 commit-cases : (P : Outcome → Type 0) (n : ℕ) (torn : List ℕ) (s : SampleState) (i : SampleImage)
-    → P (out accepted 3 (flushed s) (written s i)) → P (out (refuses 10) n (down s) (cutImage n torn s i)) → P (out accepted 0 s i) → P (commitDone n torn s i)
-commit-cases P n torn s i a b c =
-    cases (ltb 0 (s .pending)) (λ t. rw t (cases (leb 3 n) (λ u. rw u a) (λ u. rw u b))) (λ t. rw t c)
+    → P (out accepted 3 (emptied s) (written s i)) → P (out (refuses 10) n (down s) (cutImage n torn s i)) → P (out (refuses 6) 0 s i) → P (out accepted 0 s i) → P (commitDone n torn s i)
+commit-cases P n torn s i a b d c =
+    let x = out accepted 3 (emptied s) (written s i) in
+    let y = out (refuses 10) n (down s) (cutImage n torn s i) in
+    let z = out (refuses 6) 0 s i in
+    cond-case P (ltb 0 (s .pending)) (cond (i .roomy) (cond (leb 3 n) x y) z) (out accepted 0 s i)
+    (cond-case P (i .roomy) (cond (leb 3 n) x y) z (cond-case P (leb 3 n) x y a b) d) c
 
 cut-size : (b : Bool) (s : SampleState) (i : SampleImage) → cond b (written s i) (voided true i) .size ≡ i .size
 cut-size true s i = refl
 cut-size false s i = refl
 
-cut-means : (b : Bool) (s : SampleState) (i : SampleImage)
-    → (meaningOf (cond b (written s i) (voided true i)) ≡ meaningOf i) ⊎ (meaningOf (cond b (written s i) (voided true i)) ≡ means (presentOf s i) (suc (s .number)))
-cut-means true s i = inr refl
-cut-means false s i = inl refl
+cut-room : (b : Bool) (s : SampleState) (i : SampleImage) → i .roomy ≡ true → cond b (written s i) (voided true i) .roomy ≡ true
+cut-room true s i h = h
+cut-room false s i h = h
 
-commit-few : (b : Bool) → cond b 3 0 ≤ 2000
+cut-means : (b : Bool) (s : SampleState) (i : SampleImage)
+    → meaningOf (cond b (written s i) (voided true i)) ≡ cond b (means (presentOf s i) (suc (s .number))) (meaningOf i)
+cut-means true s i = refl
+cut-means false s i = refl
+
+commit-few : (b : Bool) → cond b 3 0 ≤ 3
 commit-few true = omega arith
 commit-few false = omega arith
 
-commit-power : (n : ℕ) (torn : List ℕ) (s : SampleState) (i : SampleImage) → Power (commitOpsOf s) n (commitDone n torn s i .answer) (commitDone n torn s i .ops)
-commit-power n torn s i =
-    cases (ltb 0 (s .pending))
-    (λ t. rw t (record {
-      enough = λ h. rw (le-leb 3 n h) (refl, refl);
-      short = λ h. rw (lt-leb 3 n h) (refl, refl);
-    }))
-    (λ t. rw t (record { enough = λ h. (refl, refl); short = λ h. absurd (omega arith) }))
+quiet-ten : (n k : ℕ) (s s' : SampleState) (i i' : SampleImage) → refuses 10 ≡ refuses k → (k ≡ 10 → ⊥) → (n ≡ 0) × Same sample s i s' i'
+quiet-ten n k s s' i i' e f = let q : _≡_ {A = ℕ} 10 k = cc in absurd (f (sym q))
+
+-- the outcome of a commit that has something to do
+commit-is : (n : ℕ) (torn : List ℕ) (s : SampleState) (i : SampleImage) → Committing small sample n torn s i
+    → act (commit n torn) s i ≡ cond (i .roomy) (cond (leb 3 n) (out accepted 3 (emptied s) (written s i)) (out (refuses 10) n (down s) (cutImage n torn s i))) (out (refuses 6) 0 s i)
+unfolding stateOf
+commit-is n torn s i q =
+    let t = q .passes in
+    let e = q .numbers in
+    let z = q .pending in
+    rw (t, e, lt-ltb 0 (s .pending) z)
+
+commit-able : (n : ℕ) (torn : List ℕ) (s : SampleState) (i : SampleImage) → Committing small sample n torn s i → i .roomy ≡ true
+    → act (commit n torn) s i ≡ cond (leb 3 n) (out accepted 3 (emptied s) (written s i)) (out (refuses 10) n (down s) (cutImage n torn s i))
+commit-able n torn s i q b = commit-is n torn s i q ∙ rw b
+
+three-ops : (n : ℕ) (torn : List ℕ) (s : SampleState) (i : SampleImage) → Committing small sample n torn s i → commitOpsOf s ≡ 3
+three-ops n torn s i q = rw (lt-ltb 0 (s .pending) (q .pending))
 
 commit-ok : (n : ℕ) (torn : List ℕ) (s : SampleState) (i : SampleImage)
     → Commit small sample n torn s i (act (commit n torn) s i .answer) (act (commit n torn) s i .ops) (act (commit n torn) s i .state) (act (commit n torn) s i .image)
@@ -265,32 +311,40 @@ unfolding stateOf committed
 commit-ok n torn s i =
     let o = commitDone n torn s i in
     let c = commits n (i .size) (length torn) in
+    let six = ltb 0 (s .pending) && eqb (s .number) lastNumber in
+    let f = firstRefusal small (s .on) (s .blocks) c in
+    let l = orElse (when 6 six) 0 in
     record {
       first = first-ok c s i o
-          (commit-cases (λ x. x .answer ≡ refuses 1 → ⊥) n torn s i (accepted-not 1) (ten-not 1 (omega arith)) (accepted-not 1))
-          (commit-cases (λ x. x .answer ≡ refuses 2 → ⊥) n torn s i (accepted-not 2) (ten-not 2 (omega arith)) (accepted-not 2))
-          (commit-cases (λ x. x .image .size ≡ i .size) n torn s i refl (cut-size (eqb n 2 && eqb (getD torn 0 0) 0) s i) refl);
-      quiet = quiet-by (firstRefusal small (s .on) (s .blocks) c) (laterRefusal (stateOf sample s i) c) s i o
-          (commit-cases (λ x. (k : ℕ) → x .answer ≡ refuses k → (k ≡ 10 → ⊥) → x .ops ≡ 0) n torn s i (λ k e f. absurd (accepted-not k e)) (ten-loud n) (λ k e f. refl));
-      then = later-ok c s i o;
-      few = λ good room. commit-few (ltb 0 (s .pending));
-      none = λ good z. rw (le-ltb 0 (s .pending) (omega arith));
-      power = λ good room t e. rw (t, e) (commit-power n torn s i);
-      idle = λ good room t e z. rw (t, e, le-ltb 0 (s .pending) (omega arith)) (record { is = refl; image = refl; good = tt });
-      done = λ good room t e z l.
-          let q : 3 ≤ n = (rw (lt-ltb 0 (s .pending) z) at l) in
-          rw (t, e, lt-ltb 0 (s .pending) z, le-leb 3 n q) (refl, refl, tt, tt);
-      cut = λ good room t e l.
-          cases (ltb 0 (s .pending))
-          (λ z. let q : n < 3 = (rw z at l) in rw (t, e, z, lt-leb 3 n q) (refl, tt, cut-means (eqb n 2 && eqb (getD torn 0 0) 0) s i))
-          (λ z. let q : n < 0 = (rw z at l) in absurd (omega arith));
+          (λ m e. or-is (when 6 six) 0 m NotFirst (λ k q. later-when 5 k six ((λ z. omega arith), (λ z. omega arith)) q) (λ k q. absurd (omega arith)) e)
+          (commit-cases (λ x. (m : ℕ) → x .answer ≡ refuses m → NotFirst m) n torn s i not-later (λ m. far 10 m (omega arith)) (λ m. far 6 m (omega arith)) not-later)
+          (commit-cases (λ x. x .image .size ≡ i .size) n torn s i refl (cut-size (eqb (suc n) 3 && eqb (getD torn 0 0) 0) s i) refl refl);
+      range = sieve-case (λ x. acceptsOr (2 ∷ 1 ∷ 6 ∷ 10 ∷ []) (x .answer) ≡ true) f l s i o
+          (two-one (not (s .on)) (not (isChipSize small (i .size) && (isTornSize small (length torn) && hasBlocks small (s .blocks) (i .size)))) (6 ∷ 10 ∷ []))
+          (λ k z e. or-is (when 6 six) 0 k (λ m. isOneOf m (2 ∷ 1 ∷ 6 ∷ 10 ∷ []) ≡ true)
+          (λ m q. subst (λ y. isOneOf y (2 ∷ 1 ∷ 6 ∷ 10 ∷ []) ≡ true) (sym (when-is 6 m six q)) refl) (λ m q. absurd (omega arith)) e)
+          (λ z e. commit-cases (λ x. acceptsOr (2 ∷ 1 ∷ 6 ∷ 10 ∷ []) (x .answer) ≡ true) n torn s i refl refl refl refl);
+      quiet = sieve-case (λ x. (k : ℕ) → x .answer ≡ refuses k → (k ≡ 10 → ⊥) → (x .ops ≡ 0) × Same sample s i (x .state) (x .image)) f l s i o
+          (λ k e m q d. (refl, same)) (λ k z e m q d. (refl, same))
+          (λ z e. commit-cases (λ x. (k : ℕ) → x .answer ≡ refuses k → (k ≡ 10 → ⊥) → (x .ops ≡ 0) × Same sample s i (x .state) (x .image)) n torn s i
+          (λ k q d. absurd (accepted-not k q)) (λ k. quiet-ten n k s (down s) i (cutImage n torn s i)) (λ k q d. (refl, same)) (λ k q d. absurd (accepted-not k q)));
+      last = λ t k e. rw (t, e);
+      idle = λ t z. rw (t, le-ltb 0 (s .pending) (omega arith)) (refl, refl, same);
+      none = λ z. rw (le-ltb 0 (s .pending) (omega arith));
+      bound = omega arith;
+      stuck = λ q b. ap (λ x. x .answer) (commit-is n torn s i q) ∙ rw b;
+      able = λ q r. r;
+      few = λ q b. commit-few (ltb 0 (s .pending));
+      power = λ q b. rw (commit-able n torn s i q b, three-ops n torn s i q)
+          (record { enough = λ h. rw (le-leb 3 n h) (refl, refl); short = λ h. rw (lt-leb 3 n h) (refl, refl) });
+      choice = λ q b. rw (commit-able n torn s i q b, three-ops n torn s i q)
+          (cases (leb 3 n) (λ u. rw u) (λ u. rw u (cut-means (eqb (suc n) 3 && eqb (getD torn 0 0) 0) s i)));
+      room = λ q b r. rw (commit-able n torn s i q b) (cases (leb 3 n) (λ u. rw u r) (λ u. rw u (cut-room (eqb (suc n) 3 && eqb (getD torn 0 0) 0) s i r)));
+      done = λ q b h. let j : 3 ≤ n = (rw (three-ops n torn s i q) at h) in rw (commit-able n torn s i q b, le-leb 3 n j) (refl, tt);
+      cut = λ q b h. let j : n < 3 = (rw (three-ops n torn s i q) at h) in rw (commit-able n torn s i q b, lt-leb 3 n j);
     }
 
 -- ---- mount
-cond-case : {A : Type 0} (P : A → Type 0) (b : Bool) (x y : A) → P x → P y → P (cond b x y)
-cond-case P true x y h k = h
-cond-case P false x y h k = k
-
 mount-cases : (P : Outcome → Type 0) (n : ℕ) (s : SampleState) (i : SampleImage) → P (out accepted (mountOpsOf i) (opened i) (voided false i)) → P (out (refuses 10) n (down s) i)
     → P (out (refuses 7) 0 (down s) i) → P (mountDone n s i)
 mount-cases P n s i a b c =
@@ -316,9 +370,13 @@ invalid-by true t n m e = let u : _≡_ {A = ℕ} 0 1 = cc in absurd (omega arit
 invalid-by false t n m e = (refl, cc)
 
 cond-means : (b : Bool) (i : SampleImage) (n v : ℕ) (s s' : SampleState)
-    → meaningOf (cond b (out accepted v s (voided false i)) (out (refuses 10) n s' i) .image) ≡ meaningOf i
-cond-means true i n v s s' = refl
-cond-means false i n v s s' = refl
+    → (meaningOf (cond b (out accepted v s (voided false i)) (out (refuses 10) n s' i) .image) ≡ meaningOf i)
+    × (cond b (out accepted v s (voided false i)) (out (refuses 10) n s' i) .image .roomy ≡ i .roomy)
+cond-means true i n v s s' = (refl, refl)
+cond-means false i n v s s' = (refl, refl)
+
+ten-loud : (n k : ℕ) → refuses 10 ≡ refuses k → (k ≡ 10 → ⊥) → n ≡ 0
+ten-loud n k e f = let q : _≡_ {A = ℕ} 10 k = cc in absurd (f (sym q))
 
 -- the outcome of a mount that passed its test of size
 mount-is : (n : ℕ) (torn : List ℕ) (s : SampleState) (i : SampleImage) → firstRefusal small (s .on) (s .blocks) (mounts n (i .size) (length torn)) ≡ 0 → act (mount n torn) s i ≡ mountDone n s i
@@ -326,17 +384,20 @@ mount-is n torn s i t = rw t
 
 mount-ok : (n : ℕ) (torn : List ℕ) (s : SampleState) (i : SampleImage)
     → Mount small sample n torn s i (act (mount n torn) s i .answer) (act (mount n torn) s i .ops) (act (mount n torn) s i .state) (act (mount n torn) s i .image)
-unfolding stateOf mountedAt
+unfolding stateOf resting
 mount-ok n torn s i =
     let o = mountDone n s i in
     let c = mounts n (i .size) (length torn) in
+    let f = firstRefusal small (s .on) (s .blocks) c in
     record {
-      first = first-ok c s i o
-          (mount-cases (λ x. x .answer ≡ refuses 1 → ⊥) n s i (accepted-not 1) (ten-not 1 (omega arith)) (apart 7 1 (λ q. omega arith)))
-          (mount-cases (λ x. x .answer ≡ refuses 2 → ⊥) n s i (accepted-not 2) (ten-not 2 (omega arith)) (apart 7 2 (λ q. omega arith)))
+      first = first-ok c s i o (λ m e. absurd (omega arith))
+          (mount-cases (λ x. (m : ℕ) → x .answer ≡ refuses m → NotFirst m) n s i not-later (λ m. far 10 m (omega arith)) (λ m. far 7 m (omega arith)))
           (mount-cases (λ x. x .image .size ≡ i .size) n s i refl refl refl);
-      quiet = quiet-by (firstRefusal small (s .on) (s .blocks) c) (laterRefusal (stateOf sample s i) c) s i o
-          (mount-cases (λ x. (k : ℕ) → x .answer ≡ refuses k → (k ≡ 10 → ⊥) → x .ops ≡ 0) n s i (λ k e f. absurd (accepted-not k e)) (ten-loud n) (λ k e f. refl));
+      range = sieve-case (λ x. acceptsOr (1 ∷ 7 ∷ 8 ∷ 9 ∷ 10 ∷ []) (x .answer) ≡ true) f 0 s i o
+          (only-one (not (isChipSize small (i .size) && isTornSize small (length torn))) (7 ∷ 8 ∷ 9 ∷ 10 ∷ [])) (λ k z e. absurd (omega arith))
+          (λ z e. mount-cases (λ x. acceptsOr (1 ∷ 7 ∷ 8 ∷ 9 ∷ 10 ∷ []) (x .answer) ≡ true) n s i refl refl refl);
+      quiet = sieve-case (λ x. (k : ℕ) → x .answer ≡ refuses k → (k ≡ 10 → ⊥) → x .ops ≡ 0) f 0 s i o (λ k e m q d. refl) (λ k z e m q d. refl)
+          (λ z e. mount-cases (λ x. (k : ℕ) → x .answer ≡ refuses k → (k ≡ 10 → ⊥) → x .ops ≡ 0) n s i (λ k e f. absurd (accepted-not k e)) (ten-loud n) (λ k e f. refl));
       few = λ K G e. void-few (i .void);
       refused = λ t m e.
           let b = invalid-by (i .whole) (i .tree) (i .number) m e in
@@ -347,7 +408,9 @@ mount-ok n torn s i =
           (record { enough = λ h. rw (le-leb (mountOpsOf i) n h) (refl, refl); short = λ h. rw (lt-leb (mountOpsOf i) n h) (refl, refl) });
       stays = λ t K G e.
           let b = holds-by (i .whole) (i .tree) (i .number) K G e in
-          (ap (λ x. meaningOf (x .image)) (mount-is n torn s i t ∙ mount-whole n s i (b .0)) ∙ cond-means (leb (mountOpsOf i) n) i n (mountOpsOf i) (opened i) (down s) ∙ e, λ r. tt);
+          let d = mount-is n torn s i t ∙ mount-whole n s i (b .0) in
+          let k = cond-means (leb (mountOpsOf i) n) i n (mountOpsOf i) (opened i) (down s) in
+          (ap (λ x. meaningOf (x .image)) d ∙ k .0 ∙ e, λ r. ap (λ x. x .image .roomy) d ∙ k .1 ∙ r);
       done = λ t K G e h.
           let b = holds-by (i .whole) (i .tree) (i .number) K G e in (
             ap (λ x. stateOf sample (x .state) (x .image)) (mount-is n torn s i t ∙ mount-whole n s i (b .0))
@@ -364,50 +427,82 @@ mount-ok n torn s i =
 
 -- ---- format
 format-cases : (P : Outcome → Type 0) (n : ℕ) (s : SampleState) (i : SampleImage)
-    → P (cond true (formatDone 4 s i) (formatDone 4 s i)) → P (out (refuses 10) n (down s) (record { tree = []; number = 0; whole = false; void = false; size = i .size })) → P (formatDone n s i)
+    → P (cond true (formatDone 4 s i) (formatDone 4 s i)) → P (out (refuses 10) n (down s) (record { tree = []; number = 0; whole = false; void = false; roomy = false; size = i .size })) → P (formatDone n s i)
 format-cases P n s i a b = cases (leb 4 n) (λ u. rw u a) (λ u. rw u b)
 
 format-ok : (n : ℕ) (torn : List ℕ) (s : SampleState) (i : SampleImage)
     → Format small sample n torn s i (act (format n torn) s i .answer) (act (format n torn) s i .ops) (act (format n torn) s i .state) (act (format n torn) s i .image)
-unfolding stateOf fresh
+unfolding stateOf resting
 format-ok n torn s i =
     let o = formatDone n s i in
     let c = formats n (i .size) (length torn) in
+    let f = firstRefusal small (s .on) (s .blocks) c in
     record {
-      first = first-ok c s i o
-          (format-cases (λ x. x .answer ≡ refuses 1 → ⊥) n s i (accepted-not 1) (ten-not 1 (omega arith)))
-          (format-cases (λ x. x .answer ≡ refuses 2 → ⊥) n s i (accepted-not 2) (ten-not 2 (omega arith)))
+      first = first-ok c s i o (λ m e. absurd (omega arith))
+          (format-cases (λ x. (m : ℕ) → x .answer ≡ refuses m → NotFirst m) n s i not-later (λ m. far 10 m (omega arith)))
           (format-cases (λ x. x .image .size ≡ i .size) n s i refl refl);
-      quiet = quiet-by (firstRefusal small (s .on) (s .blocks) c) (laterRefusal (stateOf sample s i) c) s i o
-          (format-cases (λ x. (k : ℕ) → x .answer ≡ refuses k → (k ≡ 10 → ⊥) → x .ops ≡ 0) n s i (λ k e f. absurd (accepted-not k e)) (ten-loud n));
+      range = sieve-case (λ x. acceptsOr (1 ∷ 10 ∷ []) (x .answer) ≡ true) f 0 s i o
+          (only-one (not (isChipSize small (i .size) && isTornSize small (length torn))) (10 ∷ [])) (λ k z e. absurd (omega arith))
+          (λ z e. format-cases (λ x. acceptsOr (1 ∷ 10 ∷ []) (x .answer) ≡ true) n s i refl refl);
+      quiet = sieve-case (λ x. (k : ℕ) → x .answer ≡ refuses k → (k ≡ 10 → ⊥) → x .ops ≡ 0) f 0 s i o (λ k e m q d. refl) (λ k z e m q d. refl)
+          (λ z e. format-cases (λ x. (k : ℕ) → x .answer ≡ refuses k → (k ≡ 10 → ⊥) → x .ops ≡ 0) n s i (λ k e f. absurd (accepted-not k e)) (ten-loud n));
       few = λ t. omega arith;
       power = λ t. rw t (record { enough = λ h. rw (le-leb 4 n h) (refl, refl); short = λ h. rw (lt-leb 4 n h) (refl, refl) });
-      done = λ t h. rw (t, le-leb 4 n h) (refl, refl, tt, tt);
+      done = λ t h. rw (t, le-leb 4 n h) (refl, refl, tt, refl);
       cut = λ t h. rw (t, lt-leb 4 n h);
     }
 
--- ---- any call of the small store is allowed by its contract
-pub allowed : (x : Act) (s : SampleState) (i : SampleImage) → Allowed small sample x s i (act x s i .answer) (act x s i .ops) (act x s i .state) (act x s i .image)
-allowed (format n torn) s i = format-ok n torn s i
-allowed (insert k v) s i = insert-ok k v s i
-allowed (delete k) s i = delete-ok k s i
-allowed (lookUp k) s i = lookUp-ok k s i
-allowed (commit n torn) s i = commit-ok n torn s i
-allowed (mount n torn) s i = mount-ok n torn s i
+-- ---- any proper call of the small store is allowed by its contract
+abbrev pub Proper : Act → Type 0
+Proper (read r) = ProperRead r
+Proper (update u) = ProperUpdate u
+Proper (format n torn) = Unit {0}
+Proper (commit n torn) = Unit {0}
+Proper (mount n torn) = Unit {0}
 
--- ---- and so any list of calls on it is one that the promise is about
-abbrev pub stepOf : Act → SampleState → SampleImage → Step sample
-stepOf x s i =
-    record { act = x; lent = i; left = act x s i .image; answer = act x s i .answer; ops = act x s i .ops; state = act x s i .state; image = act x s i .image }
+pub allowed : (x : Act) → Proper x → (s : SampleState) (i : SampleImage) → Allowed small sample x s i (act x s i .answer) (act x s i .ops) (act x s i .state) (act x s i .image)
+allowed (read r) w s i = read-ok r w s i
+allowed (update u) w s i = update-ok u w s i
+allowed (format n torn) w s i = format-ok n torn s i
+allowed (commit n torn) w s i = commit-ok n torn s i
+allowed (mount n torn) w s i = mount-ok n torn s i
 
-abbrev pub stepsOf : List Act → SampleState → SampleImage → List (Step sample)
+-- ---- and so any list of calls on it is one that the promise is about, also where the box was without power before a mount or a format
+pub data Order : Type 0 where
+  next : Act → Order
+  reboot : SampleState → Act → Order
+
+abbrev pub actOf : Order → Act
+actOf (next x) = x
+actOf (reboot t x) = x
+
+abbrev pub givenOf : Order → SampleState → SampleState
+givenOf (next x) s = s
+givenOf (reboot t x) s = t
+
+abbrev pub stepOf : Order → SampleState → SampleImage → Step sample
+stepOf o s i =
+    let r = act (actOf o) (givenOf o s) i in
+    record { act = actOf o; given = givenOf o s; lent = i; left = r .image; answer = r .answer; ops = r .ops; state = r .state; image = r .image }
+
+abbrev pub stepsOf : List Order → SampleState → SampleImage → List (Step sample)
 stepsOf [] s i = []
-stepsOf (x ∷ xs) s i = stepOf x s i ∷ stepsOf xs (act x s i .state) (act x s i .image)
+stepsOf (x ∷ xs) s i = stepOf x s i ∷ stepsOf xs (stepOf x s i .state) (stepOf x s i .image)
 
-abbrev pub AllUncut : List (Step sample) → Type 0
-AllUncut [] = Unit {0}
-AllUncut (x ∷ xs) = Uncut (x .act) (x .answer) × AllUncut xs
+-- proper calls; after a reboot a mount or a format that is not refused with 1
+abbrev pub Fine : List Order → SampleState → SampleImage → Type 0
+Fine [] s i = Unit {0}
+Fine (next x ∷ xs) s i = Proper x × Fine xs (stepOf (next x) s i .state) (stepOf (next x) s i .image)
+Fine (reboot t x ∷ xs) s i =
+    (Proper x × (boots x ≡ true) × (act x t i .answer ≡ refuses 1 → ⊥)) × Fine xs (stepOf (reboot t x) s i .state) (stepOf (reboot t x) s i .image)
 
-pub runs : (xs : List Act) (s : SampleState) (i : SampleImage) → AllUncut (stepsOf xs s i) → Runs small sample s i (stepsOf xs s i)
-runs [] s i u = tt
-runs (x ∷ xs) s i u = (record { allowed = allowed x s i; lends = one refl refl; uncut = u .0 }, runs xs (act x s i .state) (act x s i .image) (u .1))
+pub runs : (xs : List Order) (H : SampleState → Type 0) (s : SampleState) (i : SampleImage) → H s → Fine xs s i → Runs small sample H i (stepsOf xs s i)
+runs [] H s i h f = tt
+runs (next x ∷ xs) H s i h f = (
+  record { allowed = allowed x (f .0) s i; lends = one refl refl; handed = λ b. h },
+  runs xs (Hands sample H (stepOf (next x) s i)) (act x s i .state) (act x s i .image) (record { returned = refl; known = λ e. h }) (f .1),
+)
+runs (reboot t x ∷ xs) H s i h f = (
+  record { allowed = allowed x (f .0 .0) t i; lends = one refl refl; handed = λ b. clash (f .0 .1) b },
+  runs xs (Hands sample H (stepOf (reboot t x) s i)) (act x t i .state) (act x t i .image) (record { returned = refl; known = λ e. absurd (f .0 .2 e) }) (f .1),
+)

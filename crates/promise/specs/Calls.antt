@@ -1,14 +1,15 @@
 -- What the contract of each call says: for every input and every refusal the answer, what the state means at exit, and the image.
 -- The store's insides are abstract: a record Store names what the contracts speak of.
 use mathlib.Core.Path.{_≡_}
-use mathlib.Core.Logic.{_⊎_}
-use mathlib.Core.Bool.{Bool, true, false}
-use mathlib.Core.List.{List, []}
+use mathlib.Core.Bool.{Bool, true, false, cond, _||_}
+use mathlib.Core.List.{List, [], _∷_}
 use Prim.Native.Nat.{ℕ, suc, _<_, _≤_}
-use lib.ListN.{length}
+use lib.Dec.{eqb}
+use lib.ListN.{length, getD}
 use Rattle.chip.specs.Geometry.{Geometry, blocksOf}
-use Rattle.tree.specs.Tree.{Table, delete, find}
-use Rattle.promise.specs.Plain.{Call, formats, inserts, deletes, looksUp, commits, mounts, Answer, refuses, accepted, Plain, firstRefusal, laterRefusal, leaf, fresh, inserting, updated, tableAfter, committed, lookedUp, enoughWrites, enoughMarks}
+use Rattle.chip.specs.Power.{takesEffect}
+use Rattle.tree.specs.Tree.{Table}
+use Rattle.promise.specs.Plain.{Answer, refuses, accepted, tells, Plain, ReadCall, UpdateCall, Call, reads, updates, formats, commits, mounts, lookingUp, insertion, deletion, firstRefusal, numbersRefusal, laterRefusal, leaf, resting, fresh, updated, committed, enoughWrites, enoughMarks}
 
 -- what the steps read from an image: 7, 8 or 9, or its tree and its greatest standing number
 pub data Meaning : Type 0 where
@@ -37,21 +38,47 @@ pub record Store : Type 1 where
   pub present : State → Image → Table
   pub meaning : Image → Meaning
   -- the operations of a mount (one for each void page), of a commit, and of a format of a chip with that many blocks
-  pub mountOps : Image → ℕ
-  pub commitOps : State → Image → ℕ
-  pub formatOps : ℕ → ℕ
+  pub mountCount : Image → ℕ
+  pub commitCount : State → Image → ℕ
+  pub formatCount : ℕ → ℕ
+  -- the most operations that a commit has
+  pub most : ℕ
   -- the state is one that calls gave for this image; the image has the unused blocks that a commit may need
   pub Good : State → Image → Type 0
   pub Room : Image → Type 0
+  -- the plan of a commit is not stuck: it finds places for its pages
+  pub able : State → Image → Bool
+
+-- ---- the answers that a call can give at all, by the numbers of its refusals
+abbrev pub isOneOf : ℕ → List ℕ → Bool
+isOneOf n [] = false
+isOneOf n (m ∷ ms) = eqb n m || isOneOf n ms
+
+-- refused with one of these, or it tells something
+abbrev pub tellsOr : List ℕ → Answer → Bool
+tellsOr ns (refuses n) = isOneOf n ns
+tellsOr ns accepted = false
+tellsOr ns (tells vs) = true
+
+-- refused with one of these, or accepted
+abbrev pub acceptsOr : List ℕ → Answer → Bool
+acceptsOr ns (refuses n) = isOneOf n ns
+acceptsOr ns accepted = true
+acceptsOr ns (tells vs) = false
+
+-- a read or an update that is refused only with the numbers it names, and these are its own
+pub record ProperRead (r : ReadCall) : Type 0 where
+  pub range : (p : Plain) → tellsOr (r .numbers) (r .answer p) ≡ true
+  pub own : (n : ℕ) → isOneOf n (1 ∷ 2 ∷ 10 ∷ []) ≡ true → isOneOf n (r .numbers) ≡ false
+
+pub record ProperUpdate (u : UpdateCall) : Type 0 where
+  pub range : (B : ℕ) (t : Table) (n : ℕ) → u .refusal B t ≡ suc n → isOneOf (suc n) (u .numbers) ≡ true
+  pub own : (n : ℕ) → isOneOf n (1 ∷ 2 ∷ 3 ∷ 10 ∷ []) ≡ true → isOneOf n (u .numbers) ≡ false
 
 -- ---- with `need` operations to do: the answer and the operations told, which are the smallest allowance that finishes the call, or the allowance
-pub record Power (need allowance : ℕ) (a : Answer) (ops : ℕ) : Type 0 where
+pub record OpsTold (need allowance : ℕ) (a : Answer) (ops : ℕ) : Type 0 where
   pub enough : need ≤ allowance → (a ≡ accepted) × (ops ≡ need)
   pub short : allowance < need → (a ≡ refuses 10) × (ops ≡ allowance)
-
--- the state that a finished mount of an image with the meaning (K, G) gives
-unfoldable pub mountedAt : Geometry → Table → ℕ → ℕ → Plain
-mountedAt g K G image = record { kept = K; present = K; pending = 0; number = G; on = true; blocks = blocksOf g image }
 
 module _ (S : Store) where
   -- the state's meaning on an image, as a plain store
@@ -63,11 +90,14 @@ module _ (S : Store) where
   abbrev pub PassesLater : Call → S .State → S .Image → Type 0
   PassesLater c s i = laterRefusal (stateOf s i) c ≡ 0
 
-  -- a call that does no operation: the state means p at exit, and the image is as it was
-  pub record Stays (s' : S .State) (i i' : S .Image) (p : Plain) : Type 0 where
-    pub is : stateOf s' i' ≡ p
+  -- refused with neither 3 nor 6
+  abbrev pub PassesNumbers : Call → S .State → Type 0
+  PassesNumbers c s = numbersRefusal (S .pending s) (S .number s) c ≡ 0
+
+  -- nothing changed
+  pub record Same (s : S .State) (i : S .Image) (s' : S .State) (i' : S .Image) : Type 0 where
+    pub state : s' ≡ s
     pub image : i' ≡ i
-    pub good : S .Good s' i'
 
 module _ (g : Geometry) (S : Store) where
   -- refused with neither 2 nor 1
@@ -76,79 +106,99 @@ module _ (g : Geometry) (S : Store) where
 
   -- ---- every call: 2 and 1 exactly, on any state and any image; a call refused so changes nothing, and no call changes the image's length
   pub record FirstTests (c : Call) (s : S .State) (i : S .Image) (a : Answer) (s' : S .State) (i' : S .Image) : Type 0 where
-    pub refused : (n : ℕ) → firstRefusal g (S .on s) (S .blocks s) c ≡ suc n → (a ≡ refuses (suc n)) × (s' ≡ s) × (i' ≡ i)
+    pub refused : (n : ℕ) → firstRefusal g (S .on s) (S .blocks s) c ≡ suc n → (a ≡ refuses (suc n)) × Same S s i s' i'
     pub not1 : PassesFirst c s → a ≡ refuses 1 → ⊥
     pub not2 : PassesFirst c s → a ≡ refuses 2 → ⊥
     pub sameSize : S .size i' ≡ S .size i
 
-  -- ---- 3 to 6, read on the state's meaning; a call refused so changes nothing
-  pub record LaterTests (c : Call) (s : S .State) (i : S .Image) (a : Answer) (s' : S .State) (i' : S .Image) : Type 0 where
-    pub refused : S .Good s i → PassesFirst c s → (n : ℕ) → laterRefusal (stateOf S s i) c ≡ suc n → (a ≡ refuses (suc n)) × (s' ≡ s) × (i' ≡ i)
+  -- ---- reads
+  pub record Reads (r : ReadCall) (s : S .State) (i : S .Image) (a : Answer) (s' : S .State) (i' : S .Image) : Type 0 where
+    pub first : FirstTests (reads r (S .size i)) s i a s' i'
+    pub range : tellsOr (2 ∷ 1 ∷ r .numbers) a ≡ true
+    pub same : Same S s i s' i'
+    pub done : S .Good s i → PassesFirst (reads r (S .size i)) s → a ≡ r .answer (stateOf S s i)
 
-  pub record Insert (k v : ℕ) (s : S .State) (i : S .Image) (a : Answer) (s' : S .State) (i' : S .Image) : Type 0 where
-    pub first : FirstTests (inserts k v (S .size i)) s i a s' i'
-    pub then : LaterTests (inserts k v (S .size i)) s i a s' i'
-    pub done : S .Good s i → PassesFirst (inserts k v (S .size i)) s → PassesLater S (inserts k v (S .size i)) s i
-        → (a ≡ accepted) × Stays S s' i i' (updated (tableAfter (S .present s i) (inserting k v (stateOf S s i))) (stateOf S s i))
+  -- ---- updates: no image is written, and a refusal changes nothing, on any state
+  pub record Updates (u : UpdateCall) (s : S .State) (i : S .Image) (a : Answer) (s' : S .State) (i' : S .Image) : Type 0 where
+    pub first : FirstTests (updates u (S .size i)) s i a s' i'
+    pub range : acceptsOr (2 ∷ 1 ∷ 3 ∷ u .numbers) a ≡ true
+    pub image : i' ≡ i
+    pub still : (n : ℕ) → a ≡ refuses n → s' ≡ s
+    -- 3 exactly when 16 are pending, on any state and any image
+    pub full : PassesFirst (updates u (S .size i)) s → 16 ≤ S .pending s → a ≡ refuses 3
+    pub notFull : PassesFirst (updates u (S .size i)) s → S .pending s < 16 → a ≡ refuses 3 → ⊥
+    pub then : S .Good s i → PassesFirst (updates u (S .size i)) s → (n : ℕ) → laterRefusal (stateOf S s i) (updates u (S .size i)) ≡ suc n → a ≡ refuses (suc n)
+    pub done : S .Good s i → PassesFirst (updates u (S .size i)) s → PassesLater S (updates u (S .size i)) s i
+        → (a ≡ accepted) × (stateOf S s' i' ≡ updated (u .step (S .blocks s) (S .present s i)) (stateOf S s i)) × S .Good s' i'
 
-  pub record Delete (k : ℕ) (s : S .State) (i : S .Image) (a : Answer) (s' : S .State) (i' : S .Image) : Type 0 where
-    pub first : FirstTests (deletes k (S .size i)) s i a s' i'
-    pub then : LaterTests (deletes k (S .size i)) s i a s' i'
-    pub done : S .Good s i → PassesFirst (deletes k (S .size i)) s → PassesLater S (deletes k (S .size i)) s i
-        → (a ≡ accepted) × Stays S s' i i' (updated (delete k (S .present s i)) (stateOf S s i))
+  abbrev pub Insert : (k v : ℕ) → S .State → S .Image → Answer → S .State → S .Image → Type 0
+  Insert k v = Updates (insertion k v)
+
+  abbrev pub Delete : (k : ℕ) → S .State → S .Image → Answer → S .State → S .Image → Type 0
+  Delete k = Updates (deletion k)
 
   -- look up gives no state back: s' is s
-  pub record LookUp (k : ℕ) (s : S .State) (i : S .Image) (a : Answer) (s' : S .State) (i' : S .Image) : Type 0 where
-    pub first : FirstTests (looksUp k (S .size i)) s i a s' i'
-    pub then : LaterTests (looksUp k (S .size i)) s i a s' i'
-    pub same : (s' ≡ s) × (i' ≡ i)
-    pub done : S .Good s i → PassesFirst (looksUp k (S .size i)) s → PassesLater S (looksUp k (S .size i)) s i
-        → a ≡ lookedUp (find k (S .present s i))
+  abbrev pub LookUp : (k : ℕ) → S .State → S .Image → Answer → S .State → S .Image → Type 0
+  LookUp k = Reads (lookingUp k)
 
+  -- ---- writes
   pub record Format (allowance : ℕ) (torn : List ℕ) (s : S .State) (i : S .Image) (a : Answer) (ops : ℕ) (s' : S .State) (i' : S .Image) : Type 0 where
     pub first : FirstTests (formats allowance (S .size i) (length torn)) s i a s' i'
+    pub range : acceptsOr (1 ∷ 10 ∷ []) a ≡ true
     -- with a refusal other than 10 no operation is told
     pub quiet : (n : ℕ) → a ≡ refuses n → (n ≡ 10 → ⊥) → ops ≡ 0
-    pub few : PassesFirst (formats allowance (S .size i) (length torn)) s → S .formatOps (blocksOf g (S .size i)) ≤ enoughWrites
-    pub power : PassesFirst (formats allowance (S .size i) (length torn)) s → Power (S .formatOps (blocksOf g (S .size i))) allowance a ops
-    pub done : PassesFirst (formats allowance (S .size i) (length torn)) s → S .formatOps (blocksOf g (S .size i)) ≤ allowance
+    pub few : PassesFirst (formats allowance (S .size i) (length torn)) s → S .formatCount (blocksOf g (S .size i)) ≤ enoughWrites
+    pub power : PassesFirst (formats allowance (S .size i) (length torn)) s → OpsTold (S .formatCount (blocksOf g (S .size i))) allowance a ops
+    pub done : PassesFirst (formats allowance (S .size i) (length torn)) s → S .formatCount (blocksOf g (S .size i)) ≤ allowance
         → (stateOf S s' i' ≡ fresh (blocksOf g (S .size i))) × (S .meaning i' ≡ means (leaf (blocksOf g (S .size i))) 1) × S .Good s' i' × S .Room i'
-    pub cut : PassesFirst (formats allowance (S .size i) (length torn)) s → allowance < S .formatOps (blocksOf g (S .size i)) → S .on s' ≡ false
+    pub cut : PassesFirst (formats allowance (S .size i) (length torn)) s → allowance < S .formatCount (blocksOf g (S .size i)) → S .on s' ≡ false
+
+  -- a commit that the first tests pass, with updates pending and a number left, on a state that calls gave
+  pub record Committing (allowance : ℕ) (torn : List ℕ) (s : S .State) (i : S .Image) : Type 0 where
+    pub good : S .Good s i
+    pub passes : PassesFirst (commits allowance (S .size i) (length torn)) s
+    pub numbers : PassesNumbers S (commits allowance (S .size i) (length torn)) s
+    pub pending : 0 < S .pending s
 
   pub record Commit (allowance : ℕ) (torn : List ℕ) (s : S .State) (i : S .Image) (a : Answer) (ops : ℕ) (s' : S .State) (i' : S .Image) : Type 0 where
     pub first : FirstTests (commits allowance (S .size i) (length torn)) s i a s' i'
-    -- with a refusal other than 10 no operation is told
-    pub quiet : (n : ℕ) → a ≡ refuses n → (n ≡ 10 → ⊥) → ops ≡ 0
-    pub then : LaterTests (commits allowance (S .size i) (length torn)) s i a s' i'
-    pub few : S .Good s i → S .Room i → S .commitOps s i ≤ enoughWrites
-    pub none : S .Good s i → S .pending s ≡ 0 → S .commitOps s i ≡ 0
-    pub power : S .Good s i → S .Room i → PassesFirst (commits allowance (S .size i) (length torn)) s
-        → PassesLater S (commits allowance (S .size i) (length torn)) s i → Power (S .commitOps s i) allowance a ops
-    -- nothing pending: nothing happens
-    pub idle : S .Good s i → S .Room i → PassesFirst (commits allowance (S .size i) (length torn)) s
-        → PassesLater S (commits allowance (S .size i) (length torn)) s i → S .pending s ≡ 0 → Stays S s' i i' (stateOf S s i)
-    -- finished: the image means P and G + 1
-    pub done : S .Good s i → S .Room i → PassesFirst (commits allowance (S .size i) (length torn)) s
-        → PassesLater S (commits allowance (S .size i) (length torn)) s i → 0 < S .pending s → S .commitOps s i ≤ allowance
-        → (S .meaning i' ≡ means (S .present s i) (suc (S .number s))) × (stateOf S s' i' ≡ committed (stateOf S s i)) × S .Good s' i' × S .Room i'
-    -- cut: off, and the image means what it did, or P and G + 1
-    pub cut : S .Good s i → S .Room i → PassesFirst (commits allowance (S .size i) (length torn)) s
-        → PassesLater S (commits allowance (S .size i) (length torn)) s i → allowance < S .commitOps s i
-        → (S .on s' ≡ false) × S .Room i' × ((S .meaning i' ≡ S .meaning i) ⊎ (S .meaning i' ≡ means (S .present s i) (suc (S .number s))))
+    pub range : acceptsOr (2 ∷ 1 ∷ 6 ∷ 10 ∷ []) a ≡ true
+    -- with a refusal other than 10 no operation is told, and nothing is changed, on any state and any image
+    pub quiet : (n : ℕ) → a ≡ refuses n → (n ≡ 10 → ⊥) → (ops ≡ 0) × Same S s i s' i'
+    -- the last number: 6, on any state and any image
+    pub last : PassesFirst (commits allowance (S .size i) (length torn)) s → (n : ℕ)
+        → numbersRefusal (S .pending s) (S .number s) (commits allowance (S .size i) (length torn)) ≡ suc n → a ≡ refuses (suc n)
+    -- nothing pending: accepted, no operation, nothing changed, on any state and any image
+    pub idle : PassesFirst (commits allowance (S .size i) (length torn)) s → S .pending s ≡ 0 → (a ≡ accepted) × (ops ≡ 0) × Same S s i s' i'
+    pub none : S .pending s ≡ 0 → S .commitCount s i ≡ 0
+    pub bound : S .most ≤ enoughWrites
+    -- no places: 6, and by `quiet` nothing is changed; where the image has room there are places
+    pub stuck : Committing allowance torn s i → S .able s i ≡ false → a ≡ refuses 6
+    pub able : Committing allowance torn s i → S .Room i → S .able s i ≡ true
+    pub few : Committing allowance torn s i → S .able s i ≡ true → S .commitCount s i ≤ S .most
+    pub power : Committing allowance torn s i → S .able s i ≡ true → OpsTold (S .commitCount s i) allowance a ops
+    -- the image means P and G + 1 where the commit takes effect, else what it meant
+    pub choice : Committing allowance torn s i → S .able s i ≡ true
+        → S .meaning i' ≡ cond (takesEffect (getD torn 0 0) allowance (S .commitCount s i)) (means (S .present s i) (suc (S .number s))) (S .meaning i)
+    pub room : Committing allowance torn s i → S .able s i ≡ true → S .Room i → S .Room i'
+    pub done : Committing allowance torn s i → S .able s i ≡ true → S .commitCount s i ≤ allowance
+        → (stateOf S s' i' ≡ committed (stateOf S s i)) × S .Good s' i'
+    pub cut : Committing allowance torn s i → S .able s i ≡ true → allowance < S .commitCount s i → S .on s' ≡ false
 
   -- mount reads the image alone
   pub record Mount (allowance : ℕ) (torn : List ℕ) (s : S .State) (i : S .Image) (a : Answer) (ops : ℕ) (s' : S .State) (i' : S .Image) : Type 0 where
     pub first : FirstTests (mounts allowance (S .size i) (length torn)) s i a s' i'
+    pub range : acceptsOr (1 ∷ 7 ∷ 8 ∷ 9 ∷ 10 ∷ []) a ≡ true
     -- with a refusal other than 10 no operation is told
     pub quiet : (n : ℕ) → a ≡ refuses n → (n ≡ 10 → ⊥) → ops ≡ 0
-    pub few : (K : Table) (G : ℕ) → S .meaning i ≡ means K G → S .mountOps i ≤ enoughMarks
+    pub few : (K : Table) (G : ℕ) → S .meaning i ≡ means K G → S .mountCount i ≤ enoughMarks
     pub refused : PassesFirst (mounts allowance (S .size i) (length torn)) s → (n : ℕ) → S .meaning i ≡ invalid n
         → (a ≡ refuses n) × (ops ≡ 0) × (S .on s' ≡ false) × (i' ≡ i)
     pub power : PassesFirst (mounts allowance (S .size i) (length torn)) s → (K : Table) (G : ℕ) → S .meaning i ≡ means K G
-        → Power (S .mountOps i) allowance a ops
+        → OpsTold (S .mountCount i) allowance a ops
     pub stays : PassesFirst (mounts allowance (S .size i) (length torn)) s → (K : Table) (G : ℕ) → S .meaning i ≡ means K G
         → (S .meaning i' ≡ means K G) × (S .Room i → S .Room i')
     pub done : PassesFirst (mounts allowance (S .size i) (length torn)) s → (K : Table) (G : ℕ) → S .meaning i ≡ means K G
-        → S .mountOps i ≤ allowance → (stateOf S s' i' ≡ mountedAt g K G (S .size i)) × S .Good s' i'
+        → S .mountCount i ≤ allowance → (stateOf S s' i' ≡ resting K G (blocksOf g (S .size i))) × S .Good s' i'
     pub cut : PassesFirst (mounts allowance (S .size i) (length torn)) s → (K : Table) (G : ℕ) → S .meaning i ≡ means K G
-        → allowance < S .mountOps i → S .on s' ≡ false
+        → allowance < S .mountCount i → S .on s' ≡ false

@@ -1,96 +1,94 @@
--- The history of a plain store since its last finished format: the updates that it keeps, and those that are pending. The newest is first.
+-- The history of a plain store since its start or its last finished format: the updates that it keeps, and those that are pending. The newest is first.
 use mathlib.Core.Path.{_≡_}
-use mathlib.Core.Bool.{Bool, false, cond}
+use mathlib.Core.Bool.{Bool, cond}
 use mathlib.Core.List.{List, [], _∷_, _++_}
-use Prim.Native.Nat.{ℕ, _*_, _<_}
-use lib.Dec.{eqb}
+use Prim.Native.Nat.{ℕ, _*_, _<_, _≤_}
 use lib.ListN.{length}
-use Rattle.chip.specs.Geometry.{Geometry}
-use Rattle.tree.specs.Tree.{Table, Found, absent, found, insert, delete}
-use Rattle.tree.specs.Step6.{top}
-use Rattle.promise.specs.Plain.{Call, formats, inserts, deletes, looksUp, commits, mounts, Answer, accepted, Plain, Verdict, denied, cut, passed, verdict, leaf, isRefused, tableAfter}
+use Rattle.chip.specs.Geometry.{Geometry, blocksOf}
+use Rattle.tree.specs.Tree.{Table, Found, absent, found, find, rootLevel}
+use Rattle.tree.specs.Tree as T
+use Rattle.tree.specs.Step6.{top, Tree}
+use Rattle.promise.specs.Plain.{Plain, UpdateCall, Said, nothing, holds, gone, Call, reads, updates, formats, commits, mounts, Verdict, denied, cut, passed, verdict, leaf}
 use Rattle.promise.specs.Calls.{Store}
-use Rattle.promise.specs.Steps as L
-use Rattle.promise.specs.Steps.{Act, Step, fed, isTen, counts, next}
+use Rattle.promise.specs.Steps.{Act, read, update, format, commit, mount, Step, fed, isTen, counts, next}
 
--- an accepted insert or delete
-pub data Update : Type 0 where
-  insertion : (key value : ℕ) → Update
-  deletion : (key : ℕ) → Update
+-- a tree of a chip with B blocks
+pub record TreeOf (B : ℕ) (t : Table) : Type 0 where
+  pub tree : Tree t
+  pub size : length t ≡ 8 * B
+  pub numbers : T.next t ≤ 8 * B
+  pub levels : rootLevel t ≤ 3
 
-abbrev pub applied : ℕ → Update → Table → Table
-applied B (insertion k v) t = tableAfter t (insert (8 * B) k v t)
-applied B (deletion k) t = delete k t
+-- the value of a key after an update that said so
+abbrev pub afterSaid : Said → Found → Found
+afterSaid nothing f = f
+afterSaid (holds v) f = found v
+afterSaid gone f = absent
 
--- the tree that the updates give
-abbrev pub tree : ℕ → List Update → Table
-tree B [] = leaf B
-tree B (u ∷ us) = applied B u (tree B us)
+-- an update whose step makes trees of trees, and of each key's value what it says
+pub record Lawful (u : UpdateCall) : Type 0 where
+  pub tree : (B : ℕ) (t : Table) → TreeOf B t → u .refusal B t ≡ 0 → TreeOf B (u .step B t)
+  pub value : (B : ℕ) (t : Table) (k : ℕ) → TreeOf B t → u .refusal B t ≡ 0 → k < top → find k (u .step B t) ≡ afterSaid (u .says k) (find k t)
 
--- the value of a key after the updates: what the newest update of that key says
-abbrev pub valueOf : ℕ → List Update → Found
-valueOf k [] = absent
-valueOf k (insertion j v ∷ us) = cond (eqb j k) (found v) (valueOf k us)
-valueOf k (deletion j ∷ us) = cond (eqb j k) absent (valueOf k us)
+abbrev pub LawfulAct : Act → Type 0
+LawfulAct (read r) = Unit {0}
+LawfulAct (update u) = Lawful u
+LawfulAct (format n torn) = Unit {0}
+LawfulAct (commit n torn) = Unit {0}
+LawfulAct (mount n torn) = Unit {0}
 
--- updates that a chip of B blocks accepted: keys have 32 bits, and no insert was refused with 5
-abbrev pub Accepted : ℕ → List Update → Type 0
-Accepted B [] = Unit {0}
-Accepted B (insertion k v ∷ us) = (k < top) × ((isRefused (insert (8 * B) k v (tree B us)) ≡ false) × Accepted B us)
-Accepted B (deletion k ∷ us) = (k < top) × Accepted B us
+-- the value of a key after the updates: what the newest that speaks of it says, or what was there before
+abbrev pub valueOf : ℕ → Table → List UpdateCall → Found
+valueOf k t [] = find k t
+valueOf k t (u ∷ us) = afterSaid (u .says k) (valueOf k t us)
 
-pub record Log : Type 0 where
-  pub kept : List Update
-  pub pending : List Update
+-- none of the updates speaks of the key
+abbrev pub Silent : ℕ → List UpdateCall → Type 0
+Silent k [] = Unit {0}
+Silent k (u ∷ us) = (u .says k ≡ nothing) × Silent k us
 
-abbrev pub noLog : Log
-noLog = record { kept = []; pending = [] }
+-- the tree it began with, and the updates since
+pub record History : Type 0 where
+  pub base : Table
+  pub kept : List UpdateCall
+  pub pending : List UpdateCall
 
--- the history after a call: a finished commit keeps what was pending, a mount drops it, a format starts anew
-abbrev pub logged : Verdict → Bool → Call → Log → Log
-logged (denied n) counts c l = l
-logged passed counts (formats a image torn) l = record { kept = []; pending = [] }
-logged passed counts (inserts k v image) l = record { kept = l .kept; pending = insertion k v ∷ l .pending }
-logged passed counts (deletes k image) l = record { kept = l .kept; pending = deletion k ∷ l .pending }
-logged passed counts (looksUp k image) l = l
-logged passed counts (commits a image torn) l = record { kept = l .pending ++ l .kept; pending = [] }
-logged passed counts (mounts a image torn) l = record { kept = l .kept; pending = [] }
-logged cut counts (formats a image torn) l = l
-logged cut counts (inserts k v image) l = l
-logged cut counts (deletes k image) l = l
-logged cut counts (looksUp k image) l = l
-logged cut counts (commits a image torn) l = cond counts (record { kept = l .pending ++ l .kept; pending = [] }) l
-logged cut counts (mounts a image torn) l = l
+abbrev pub begun : Table → History
+begun t = record { base = t; kept = []; pending = [] }
 
--- the store is what its history says
-pub record Matches (p : Plain) (l : Log) : Type 0 where
-  pub kept : p .kept ≡ tree (p .blocks) (l .kept)
-  pub present : p .present ≡ tree (p .blocks) (l .pending ++ l .kept)
-  pub pending : p .pending ≡ length (l .pending)
+abbrev pub flushed : History → History
+flushed l = record { base = l .base; kept = l .pending ++ l .kept; pending = [] }
 
--- not a finished format
-abbrev pub Unformatted : Act → Answer → Type 0
-Unformatted (L.format allowance torn) a = a ≡ accepted → ⊥
-Unformatted (L.insert k v) a = Unit {0}
-Unformatted (L.delete k) a = Unit {0}
-Unformatted (L.lookUp k) a = Unit {0}
-Unformatted (L.commit allowance torn) a = Unit {0}
-Unformatted (L.mount allowance torn) a = Unit {0}
+abbrev pub dropped : History → History
+dropped l = record { base = l .base; kept = l .kept; pending = [] }
 
--- no format of the list is finished
-abbrev pub NoFormat : (S : Store) → List (Step S) → Type 0
-NoFormat S [] = Unit {0}
-NoFormat S (x ∷ xs) = Unformatted (x .act) (x .answer) × NoFormat S xs
+-- the history after a call: a commit keeps what was pending, where it is finished or takes effect; a mount and a cut drop it; a format starts anew
+abbrev pub historyAfter : Geometry → Verdict → Bool → Call → History → History
+historyAfter g (denied n) w c l = l
+historyAfter g passed w (reads r image) l = l
+historyAfter g passed w (updates u image) l = record { base = l .base; kept = l .kept; pending = u ∷ l .pending }
+historyAfter g passed w (formats a image torn) l = begun (leaf (blocksOf g image))
+historyAfter g passed w (commits a image torn) l = flushed l
+historyAfter g passed w (mounts a image torn) l = dropped l
+historyAfter g cut w (reads r image) l = l
+historyAfter g cut w (updates u image) l = l
+historyAfter g cut w (formats a image torn) l = dropped l
+historyAfter g cut w (commits a image torn) l = cond w (flushed l) (dropped l)
+historyAfter g cut w (mounts a image torn) l = dropped l
 
 module _ (g : Geometry) (S : Store) where
-  abbrev pub nextLog : Plain → S .Image → Step S → Log → Log
-  nextLog p i x l = logged (verdict g p (fed (x .act) (S .size (x .lent))) (isTen (x .answer))) (counts S i (x .image)) (fed (x .act) (S .size (x .lent))) l
+  abbrev pub nextHistory : Plain → S .Image → Step S → History → History
+  nextHistory p i x l = historyAfter g (verdict g p (fed (x .act) (S .size (x .lent))) (isTen (x .answer))) (counts S i (x .image)) (fed (x .act) (S .size (x .lent))) l
 
-  -- the plain store and its history after a list
-  abbrev pub lastPlain : Plain → S .Image → List (Step S) → Plain
-  lastPlain p i [] = p
-  lastPlain p i (x ∷ xs) = lastPlain (next g S p i x) (x .image) xs
+  -- the history after a list
+  abbrev pub lastHistory : Plain → S .Image → List (Step S) → History → History
+  lastHistory p i [] l = l
+  lastHistory p i (x ∷ xs) l = lastHistory (next g S p i x) (x .image) xs (nextHistory p i x l)
 
-  abbrev pub lastLog : Plain → S .Image → List (Step S) → Log → Log
-  lastLog p i [] l = l
-  lastLog p i (x ∷ xs) l = lastLog (next g S p i x) (x .image) xs (nextLog p i x l)
+  -- the updates of a list that are kept or pending at its end, where nothing is pending before it
+  abbrev pub since : Plain → S .Image → List (Step S) → History
+  since p i xs = lastHistory p i xs (begun [])
+
+abbrev pub AllLawful : (S : Store) → List (Step S) → Type 0
+AllLawful S [] = Unit {0}
+AllLawful S (x ∷ xs) = LawfulAct (x .act) × AllLawful S xs

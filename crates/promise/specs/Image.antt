@@ -18,7 +18,7 @@ viewsOf nodes = map (λ (s : Views.Node). s .now) nodes
 abbrev pub checked : Table → ℕ → Meaning
 checked t G = cond (step6 t) (means t G) (invalid 9)
 
-abbrev pub bySix : Views.Meaning → Meaning
+abbrev pub bySix : Views.NodesRead → Meaning
 bySix (Views.refusal n) = invalid n
 bySix (Views.means nodes G) = checked (viewsOf nodes) G
 

@@ -7,22 +7,17 @@ use lib.Dec.{ltb, leb, eqb}
 use lib.ListN.{replicate}
 use Rattle.chip.specs.Geometry.{Geometry, pageSize, blocksOf}
 use Rattle.views.specs.Nodes.{untouched, view}
-use Rattle.tree.specs.Tree.{Table, Found, absent, found, Step, refusal, done, insert, delete, find}
+use Rattle.tree.specs.Tree.{Table, Found, absent, found, TreeStep, refusal, done, insert, delete, find}
 
--- ---- a call: its kind, its numbers, the lengths of the slices lent
-pub data Call : Type 0 where
-  formats : (allowance image torn : ℕ) → Call
-  inserts : (key value image : ℕ) → Call
-  deletes : (key image : ℕ) → Call
-  looksUp : (key image : ℕ) → Call
-  commits : (allowance image torn : ℕ) → Call
-  mounts : (allowance image torn : ℕ) → Call
-
--- ---- an answer: a refusal's number, or that there is none, and the value that a look up found
+-- ---- an answer: a refusal's number, or that there is none, and what a read tells
 pub data Answer : Type 0 where
   refuses : ℕ → Answer
   accepted : Answer
-  finds : ℕ → Answer
+  tells : List ℕ → Answer
+
+-- the value that a look up found
+abbrev pub finds : ℕ → Answer
+finds v = tells (v ∷ [])
 
 -- ---- State: trees K (kept) and P (present), pending count, commit number G, on or off; and the B of the last finished format
 pub record Plain : Type 0 where
@@ -42,7 +37,89 @@ abbrev pub when : ℕ → Bool → ℕ
 when n true = n
 when n false = 0
 
--- Size (1): an image length that is not B × 16,896 for a B from 3 to 32, or a torn length other than 528;
+abbrev pub isAbsent : Found → Bool
+isAbsent absent = true
+isAbsent (found v) = false
+
+abbrev pub isRefused : TreeStep → Bool
+isRefused (refusal n) = true
+isRefused (done t) = false
+
+abbrev pub tableAfter : Table → TreeStep → Table
+tableAfter t (refusal n) = t
+tableAfter t (done t') = t'
+
+-- ---- the classes of calls; kind and numbers of a read or an update are the definition that it names, as `lookingUp 7`.
+-- A read changes nothing: after 2 and 1 it answers by the store alone
+pub record ReadCall : Type 0 where
+  -- the numbers it can be refused with, beside 2 and 1
+  pub numbers : List ℕ
+  pub answer : Plain → Answer
+
+-- what an update says of a key
+pub data Said : Type 0 where
+  nothing : Said
+  holds : (value : ℕ) → Said
+  gone : Said
+
+abbrev pub saidIf : Bool → Said → Said
+saidIf true s = s
+saidIf false s = nothing
+
+-- an update is refused, after 2, 1 and 3, or makes a new P; both by B and P
+pub record UpdateCall : Type 0 where
+  -- the numbers it can be refused with, beside 2, 1 and 3
+  pub numbers : List ℕ
+  pub refusal : ℕ → Table → ℕ
+  pub step : ℕ → Table → Table
+  pub says : ℕ → Said
+
+-- a write goes by its own rule: format, commit, mount
+pub data Call : Type 0 where
+  reads : ReadCall → (image : ℕ) → Call
+  updates : UpdateCall → (image : ℕ) → Call
+  formats : (allowance image torn : ℕ) → Call
+  commits : (allowance image torn : ℕ) → Call
+  mounts : (allowance image torn : ℕ) → Call
+
+-- ---- look up finds in P: 4, or the value
+abbrev pub lookedUp : Found → Answer
+lookedUp absent = refuses 4
+lookedUp (found v) = finds v
+
+unfoldable pub lookingUp : ℕ → ReadCall
+lookingUp k = record { numbers = 4 ∷ []; answer = λ p. lookedUp (find k (p .present)) }
+
+-- insert: 5 by the tree step; node numbers are below 8 × B
+unfoldable pub insertion : ℕ → ℕ → UpdateCall
+insertion k v =
+    record {
+      numbers = 5 ∷ [];
+      refusal = λ B t. when 5 (isRefused (insert (8 * B) k v t));
+      step = λ B t. tableAfter t (insert (8 * B) k v t);
+      says = λ j. saidIf (eqb k j) (holds v);
+    }
+
+-- delete: 4 key absent
+unfoldable pub deletion : ℕ → UpdateCall
+deletion k =
+    record {
+      numbers = 4 ∷ [];
+      refusal = λ B t. when 4 (isAbsent (find k t));
+      step = λ B t. delete k t;
+      says = λ j. saidIf (eqb k j) gone;
+    }
+
+abbrev pub inserts : (key value image : ℕ) → Call
+inserts k v image = updates (insertion k v) image
+
+abbrev pub deletes : (key image : ℕ) → Call
+deletes k image = updates (deletion k) image
+
+abbrev pub looksUp : (key image : ℕ) → Call
+looksUp k image = reads (lookingUp k) image
+
+-- ---- Size (1): an image length that is not B × 16,896 for a B from 3 to 32, or a torn length other than 528;
 -- where a call can give 2, also a B other than the state's
 unfoldable pub isChipSize : Geometry → ℕ → Bool
 isChipSize g image = ltb 0 (blocksOf g image)
@@ -53,35 +130,40 @@ isTornSize g torn = eqb torn (pageSize g)
 unfoldable pub hasBlocks : Geometry → ℕ → ℕ → Bool
 hasBlocks g B image = eqb (blocksOf g image) B
 
--- 2 off and 1 size, as each call can give them; `on` and `B` are the state's
+-- 2 off and 1 size of a call that is lent an image alone; `on` and `B` are the state's
+abbrev pub admission : Geometry → (on : Bool) (B image : ℕ) → ℕ
+admission g on B image = orElse (when 2 (not on)) (when 1 (not (isChipSize g image && hasBlocks g B image)))
+
+-- 2 off and 1 size, as each call can give them
 abbrev pub firstRefusal : Geometry → Bool → ℕ → Call → ℕ
+firstRefusal g on B (reads r image) = admission g on B image
+firstRefusal g on B (updates u image) = admission g on B image
 firstRefusal g on B (formats a image torn) = when 1 (not (isChipSize g image && isTornSize g torn))
-firstRefusal g on B (inserts k v image) = orElse (when 2 (not on)) (when 1 (not (isChipSize g image && hasBlocks g B image)))
-firstRefusal g on B (deletes k image) = orElse (when 2 (not on)) (when 1 (not (isChipSize g image && hasBlocks g B image)))
-firstRefusal g on B (looksUp k image) = orElse (when 2 (not on)) (when 1 (not (isChipSize g image && hasBlocks g B image)))
 firstRefusal g on B (commits a image torn) = orElse (when 2 (not on)) (when 1 (not (isChipSize g image && (isTornSize g torn && hasBlocks g B image))))
 firstRefusal g on B (mounts a image torn) = when 1 (not (isChipSize g image && isTornSize g torn))
 
--- 3 when 16 are pending; 4 key absent; 5 by the tree step; 6 when pending is above 0 and G is 4,294,967,295
-abbrev pub isAbsent : Found → Bool
-isAbsent absent = true
-isAbsent (found v) = false
+-- the greatest commit number
+abbrev pub lastNumber : ℕ
+lastNumber = 4294967295
 
-abbrev pub isRefused : Step → Bool
-isRefused (refusal n) = true
-isRefused (done t) = false
+-- 3 when 16 are pending; 6 when pending is above 0 and G is 4,294,967,295: these read the numbers of the state alone
+abbrev pub numbersRefusal : (pending number : ℕ) → Call → ℕ
+numbersRefusal pending G (reads r image) = 0
+numbersRefusal pending G (updates u image) = when 3 (leb 16 pending)
+numbersRefusal pending G (formats a image torn) = 0
+numbersRefusal pending G (commits a image torn) = when 6 (ltb 0 pending && eqb G lastNumber)
+numbersRefusal pending G (mounts a image torn) = 0
 
--- the tree step of an insert: node numbers are below 8 × B
-unfoldable pub inserting : ℕ → ℕ → Plain → Step
-inserting k v p = insert (8 * p .blocks) k v (p .present)
+-- 4 and 5, read on P
+abbrev pub treeRefusal : Plain → Call → ℕ
+treeRefusal p (reads r image) = 0
+treeRefusal p (updates u image) = u .refusal (p .blocks) (p .present)
+treeRefusal p (formats a image torn) = 0
+treeRefusal p (commits a image torn) = 0
+treeRefusal p (mounts a image torn) = 0
 
 abbrev pub laterRefusal : Plain → Call → ℕ
-laterRefusal p (formats a image torn) = 0
-laterRefusal p (inserts k v image) = orElse (when 3 (leb 16 (p .pending))) (when 5 (isRefused (inserting k v p)))
-laterRefusal p (deletes k image) = orElse (when 3 (leb 16 (p .pending))) (when 4 (isAbsent (find k (p .present))))
-laterRefusal p (looksUp k image) = when 4 (isAbsent (find k (p .present)))
-laterRefusal p (commits a image torn) = when 6 (ltb 0 (p .pending) && eqb (p .number) 4294967295)
-laterRefusal p (mounts a image torn) = 0
+laterRefusal p c = orElse (numbersRefusal (p .pending) (p .number) c) (treeRefusal p c)
 
 -- it refuses 1 to 6 as under Calls
 abbrev pub refusalOf : Geometry → Plain → Call → ℕ
@@ -95,10 +177,9 @@ abbrev pub enoughMarks : ℕ
 enoughMarks = 255
 
 abbrev pub mayCut : Plain → Call → Bool
+mayCut p (reads r image) = false
+mayCut p (updates u image) = false
 mayCut p (formats a image torn) = ltb a enoughWrites
-mayCut p (inserts k v image) = false
-mayCut p (deletes k image) = false
-mayCut p (looksUp k image) = false
 mayCut p (commits a image torn) = ltb a enoughWrites && ltb 0 (p .pending)
 mayCut p (mounts a image torn) = ltb a enoughMarks
 
@@ -121,31 +202,30 @@ verdict g p c ten = judge (refusalOf g p c) (mayCut p c && ten)
 unfoldable pub leaf : ℕ → Table
 leaf B = view 0 [] ∷ replicate (8 * B - 1) untouched
 
+-- on, with nothing pending: K and P are one tree
+unfoldable pub resting : Table → ℕ → ℕ → Plain
+resting K G B = record { kept = K; present = K; pending = 0; number = G; on = true; blocks = B }
+
 -- finished format: K and P one empty leaf, pending 0, G = 1, on
-unfoldable pub fresh : ℕ → Plain
-fresh B = record { kept = leaf B; present = leaf B; pending = 0; number = 1; on = true; blocks = B }
+abbrev pub fresh : ℕ → Plain
+fresh B = resting (leaf B) 1 B
 
 -- accepted insert or delete: P by the tree step, pending + 1
 unfoldable pub updated : Table → Plain → Plain
 updated t p = record { kept = p .kept; present = t; pending = suc (p .pending); number = p .number; on = p .on; blocks = p .blocks }
-
-abbrev pub tableAfter : Table → Step → Table
-tableAfter t (refusal n) = t
-tableAfter t (done t') = t'
 
 -- finished commit: if pending is above 0, K becomes P, G + 1, pending 0
 unfoldable pub committed : Plain → Plain
 committed p = record { kept = p .present; present = p .present; pending = 0; number = suc (p .number); on = p .on; blocks = p .blocks }
 
 -- finished mount: P becomes K, pending 0, on
-unfoldable pub mounted : Plain → Plain
-mounted p = record { kept = p .kept; present = p .kept; pending = 0; number = p .number; on = true; blocks = p .blocks }
+abbrev pub mounted : Plain → Plain
+mounted p = resting (p .kept) (p .number) (p .blocks)
 
 unfoldable pub finished : Geometry → Plain → Call → Plain
+finished g p (reads r image) = p
+finished g p (updates u image) = updated (u .step (p .blocks) (p .present)) p
 finished g p (formats a image torn) = fresh (blocksOf g image)
-finished g p (inserts k v image) = updated (tableAfter (p .present) (inserting k v p)) p
-finished g p (deletes k image) = updated (delete k (p .present)) p
-finished g p (looksUp k image) = p
 finished g p (commits a image torn) = cond (ltb 0 (p .pending)) (committed p) p
 finished g p (mounts a image torn) = mounted p
 
@@ -156,23 +236,16 @@ off p = record { kept = p .kept; present = p .present; pending = p .pending; num
 -- cut commit: off; either K becomes P and G + 1, or neither, chosen then: `counts` is the choice. Cut mount: off.
 -- Cut format: off, and nothing is promised until a finished format
 unfoldable pub cutOff : Bool → Plain → Call → Plain
+cutOff counts p (reads r image) = p
+cutOff counts p (updates u image) = p
 cutOff counts p (formats a image torn) = off p
-cutOff counts p (inserts k v image) = p
-cutOff counts p (deletes k image) = p
-cutOff counts p (looksUp k image) = p
 cutOff counts p (commits a image torn) = cond counts (off (committed p)) (off p)
 cutOff counts p (mounts a image torn) = off p
 
--- ---- look up finds in P
-abbrev pub lookedUp : Found → Answer
-lookedUp absent = refuses 4
-lookedUp (found v) = finds v
-
 unfoldable pub acceptedAnswer : Plain → Call → Answer
+acceptedAnswer p (reads r image) = r .answer p
+acceptedAnswer p (updates u image) = accepted
 acceptedAnswer p (formats a image torn) = accepted
-acceptedAnswer p (inserts k v image) = accepted
-acceptedAnswer p (deletes k image) = accepted
-acceptedAnswer p (looksUp k image) = lookedUp (find k (p .present))
 acceptedAnswer p (commits a image torn) = accepted
 acceptedAnswer p (mounts a image torn) = accepted
 
@@ -199,10 +272,9 @@ pub record Fed : Type 0 where
   pub ten : Bool
 
 abbrev pub isCommit : Call → Bool
+isCommit (reads r image) = false
+isCommit (updates u image) = false
 isCommit (formats a image torn) = false
-isCommit (inserts k v image) = false
-isCommit (deletes k image) = false
-isCommit (looksUp k image) = false
 isCommit (commits a image torn) = true
 isCommit (mounts a image torn) = false
 
@@ -215,13 +287,13 @@ abbrev pub cuts : List Fed → ℕ
 cuts [] = 0
 cuts (f ∷ fs) = cond (isCut f) (suc (cuts fs)) (cuts fs)
 
-abbrev pub first : List Bool → Bool
-first [] = false
-first (c ∷ cs) = c
+abbrev pub firstChoice : List Bool → Bool
+firstChoice [] = false
+firstChoice (c ∷ cs) = c
 
-abbrev pub others : List Bool → List Bool
-others [] = []
-others (c ∷ cs) = cs
+abbrev pub laterChoices : List Bool → List Bool
+laterChoices [] = []
+laterChoices (c ∷ cs) = cs
 
 -- compared at each place of the list: the answer, and, after the call, K and G
 pub record Compared : Type 0 where
@@ -235,5 +307,5 @@ compared a p = record { answer = a; kept = p .kept; number = p .number }
 abbrev pub plainRun : Geometry → Plain → List Bool → List Fed → List Compared
 plainRun g p cs [] = []
 plainRun g p cs (f ∷ fs) =
-    let q = after g (first cs) p (f .call) (f .ten) in
-    compared (answer g p (f .call) (f .ten)) q ∷ plainRun g q (cond (isCut f) (others cs) cs) fs
+    let q = after g (firstChoice cs) p (f .call) (f .ten) in
+    compared (answer g p (f .call) (f .ten)) q ∷ plainRun g q (cond (isCut f) (laterChoices cs) cs) fs

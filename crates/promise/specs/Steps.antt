@@ -7,71 +7,66 @@ use Prim.Native.Nat.{ℕ}
 use lib.Dec.{eqb}
 use lib.ListN.{length}
 use Rattle.chip.specs.Geometry.{Geometry, blocksOf}
-use Rattle.promise.specs.Plain.{Call, formats, inserts, deletes, looksUp, commits, mounts, Answer, refuses, accepted, finds, Plain, fresh, answer, after, Fed, Compared, isCut}
-use Rattle.promise.specs.Calls.{Meaning, means, numberIn, Store, Format, Insert, Delete, LookUp, Commit, Mount}
+use Rattle.tree.specs.Tree.{Table}
+use Rattle.promise.specs.Plain.{Answer, refuses, accepted, tells, Plain, ReadCall, UpdateCall, Call, reads, updates, formats, commits, mounts, lookingUp, insertion, deletion, lastNumber, resting, fresh, answer, after, Fed, Compared, isCut}
+use Rattle.promise.specs.Calls.{Meaning, means, numberIn, Store, stateOf, Reads, Updates, Format, Commit, Mount}
 
 -- a call with its numbers and its torn slice
 pub data Act : Type 0 where
+  read : ReadCall → Act
+  update : UpdateCall → Act
   format : (allowance : ℕ) (torn : List ℕ) → Act
-  insert : (key value : ℕ) → Act
-  delete : (key : ℕ) → Act
-  lookUp : (key : ℕ) → Act
   commit : (allowance : ℕ) (torn : List ℕ) → Act
   mount : (allowance : ℕ) (torn : List ℕ) → Act
 
+abbrev pub insert : (key value : ℕ) → Act
+insert k v = update (insertion k v)
+
+abbrev pub delete : (key : ℕ) → Act
+delete k = update (deletion k)
+
+abbrev pub lookUp : (key : ℕ) → Act
+lookUp k = read (lookingUp k)
+
 -- what the plain store is fed of it
 abbrev pub fed : Act → ℕ → Call
+fed (read r) image = reads r image
+fed (update u) image = updates u image
 fed (format a torn) image = formats a image (length torn)
-fed (insert k v) image = inserts k v image
-fed (delete k) image = deletes k image
-fed (lookUp k) image = looksUp k image
 fed (commit a torn) image = commits a image (length torn)
 fed (mount a torn) image = mounts a image (length torn)
 
 abbrev pub isTen : Answer → Bool
 isTen (refuses n) = eqb n 10
 isTen accepted = false
-isTen (finds v) = false
-
--- not a cut format: after one nothing is promised until a finished format, and with that another list starts
-abbrev pub Uncut : Act → Answer → Type 0
-Uncut (format allowance torn) a = a ≡ refuses 10 → ⊥
-Uncut (insert k v) a = Unit {0}
-Uncut (delete k) a = Unit {0}
-Uncut (lookUp k) a = Unit {0}
-Uncut (commit allowance torn) a = Unit {0}
-Uncut (mount allowance torn) a = Unit {0}
-
-abbrev pub isCutFormat : Act → Answer → Bool
-isCutFormat (format allowance torn) a = isTen a
-isCutFormat (insert k v) a = false
-isCutFormat (delete k) a = false
-isCutFormat (lookUp k) a = false
-isCutFormat (commit allowance torn) a = false
-isCutFormat (mount allowance torn) a = false
+isTen (tells vs) = false
 
 abbrev pub isAccepted : Answer → Bool
 isAccepted (refuses n) = false
 isAccepted accepted = true
-isAccepted (finds v) = false
+isAccepted (tells vs) = false
 
-abbrev pub isFinishedFormat : Act → Answer → Bool
-isFinishedFormat (format allowance torn) a = isAccepted a
-isFinishedFormat (insert k v) a = false
-isFinishedFormat (delete k) a = false
-isFinishedFormat (lookUp k) a = false
-isFinishedFormat (commit allowance torn) a = false
-isFinishedFormat (mount allowance torn) a = false
+abbrev pub isFormat : Act → Bool
+isFormat (read r) = false
+isFormat (update u) = false
+isFormat (format a torn) = true
+isFormat (commit a torn) = false
+isFormat (mount a torn) = false
 
--- a plain store that a list is held to, or none since a format was cut
-pub data Mode : Type 0 where
-  promised : Plain → Mode
-  unpromised : Mode
+-- a mount or a format: it reads nothing of the state that it is given
+abbrev pub boots : Act → Bool
+boots (read r) = false
+boots (update u) = false
+boots (format a torn) = true
+boots (commit a torn) = false
+boots (mount a torn) = true
 
 module _ (S : Store) where
-  -- one call: the image lent to it and what it left of that, the answer, the operations told, the state returned; and the one image after the call
+  -- one call: the state given and the image lent to it, what it left of that, the answer, the operations told, the state returned; and the one image after
+  -- the call
   pub record Step : Type 0 where
     pub act : Act
+    pub given : S .State
     pub lent : S .Image
     pub left : S .Image
     pub answer : Answer
@@ -84,11 +79,20 @@ module _ (S : Store) where
     one : x .lent ≡ i → x .image ≡ x .left → Lends i x
     other : (x .answer ≡ refuses 1) ⊎ (x .answer ≡ refuses 2) → x .image ≡ i → Lends i x
 
-  -- the state and the one image after a list
-  abbrev pub lastState : S .State → List Step → S .State
-  lastState s [] = s
-  lastState s (x ∷ xs) = lastState (x .state) xs
+  -- the states that the next call may be given, unless it is a mount or a format, which may be given any: the one that the last call returned.
+  -- A mount or format that is refused with 1 returns the state it was given: was that one not at hand, then none is
+  abbrev pub Only : S .State → S .State → Type 0
+  Only s t = t ≡ s
 
+  pub record Hands (H : S .State → Type 0) (x : Step) (t : S .State) : Type 0 where
+    pub returned : t ≡ x .state
+    pub known : x .answer ≡ refuses 1 → H (x .given)
+
+  abbrev pub lastHands : (S .State → Type 0) → List Step → S .State → Type 0
+  lastHands H [] = H
+  lastHands H (x ∷ xs) = lastHands (Hands H x) xs
+
+  -- the one image after a list
   abbrev pub lastImage : S .Image → List Step → S .Image
   lastImage i [] = i
   lastImage i (x ∷ xs) = lastImage (x .image) xs
@@ -113,28 +117,77 @@ module _ (S : Store) where
   abbrev pub seen : Step → Answer × Meaning
   seen x = (x .answer, S .meaning (x .image))
 
+  -- ---- no commit of the list is stuck: where it answers 6 the number is the last
+  abbrev pub SixIsLast : Act → S .State → Answer → Type 0
+  SixIsLast (read r) s a = Unit {0}
+  SixIsLast (update u) s a = Unit {0}
+  SixIsLast (format n torn) s a = Unit {0}
+  SixIsLast (commit n torn) s a = a ≡ refuses 6 → S .number s ≡ lastNumber
+  SixIsLast (mount n torn) s a = Unit {0}
+
+  abbrev pub Unstuck : List Step → Type 0
+  Unstuck [] = Unit {0}
+  Unstuck (x ∷ xs) = SixIsLast (x .act) (x .given) (x .answer) × Unstuck xs
+
+  -- ---- formats that are cut, and finished ones
+  abbrev pub isCutFormat : Step → Bool
+  isCutFormat x = cond (isFormat (x .act)) (isTen (x .answer)) false
+
+  abbrev pub isFinishedFormat : Step → Bool
+  isFinishedFormat x = cond (isFormat (x .act)) (isAccepted (x .answer)) false
+
+  -- no format of the list is cut; none is finished
+  abbrev pub Uncut : List Step → Type 0
+  Uncut [] = Unit {0}
+  Uncut (x ∷ xs) = (isCutFormat x ≡ false) × Uncut xs
+
+  abbrev pub NoFormat : List Step → Type 0
+  NoFormat [] = Unit {0}
+  NoFormat (x ∷ xs) = (isFinishedFormat x ≡ false) × NoFormat xs
+
+-- a plain store that a list is held to, or none since a format was cut
+pub data Mode : Type 0 where
+  promised : Plain → Mode
+  unpromised : Mode
+
+abbrev pub expected : Compared → Answer × Meaning
+expected r = (r .answer, means (r .kept) (r .number))
+
 module _ (g : Geometry) (S : Store) where
   -- the call's contract allows what happened, from the state s
   abbrev pub Allowed : Act → S .State → S .Image → Answer → ℕ → S .State → S .Image → Type 0
+  Allowed (read r) s i a ops s' i' = Reads g S r s i a s' i'
+  Allowed (update u) s i a ops s' i' = Updates g S u s i a s' i'
   Allowed (format allowance torn) s i a ops s' i' = Format g S allowance torn s i a ops s' i'
-  Allowed (insert k v) s i a ops s' i' = Insert g S k v s i a s' i'
-  Allowed (delete k) s i a ops s' i' = Delete g S k s i a s' i'
-  Allowed (lookUp k) s i a ops s' i' = LookUp g S k s i a s' i'
   Allowed (commit allowance torn) s i a ops s' i' = Commit g S allowance torn s i a ops s' i'
   Allowed (mount allowance torn) s i a ops s' i' = Mount g S allowance torn s i a ops s' i'
 
-  -- a step from the state s and the one image i
-  pub record Takes (s : S .State) (i : S .Image) (x : Step S) : Type 0 where
-    pub allowed : Allowed (x .act) s (x .lent) (x .answer) (x .ops) (x .state) (x .left)
+  -- a step from the one image i, where H are the states at hand
+  pub record Takes (H : S .State → Type 0) (i : S .Image) (x : Step S) : Type 0 where
+    pub allowed : Allowed (x .act) (x .given) (x .lent) (x .answer) (x .ops) (x .state) (x .left)
     pub lends : Lends S i x
-    pub uncut : Uncut (x .act) (x .answer)
+    pub handed : boots (x .act) ≡ false → H (x .given)
 
-  -- each call gets the state that the last one returned, and nothing else writes state or image in between
-  abbrev pub Runs : S .State → S .Image → List (Step S) → Type 0
-  Runs s i [] = Unit {0}
-  Runs s i (x ∷ xs) = Takes s i x × Runs (x .state) (x .image) xs
+  -- each call gets the state that the last one returned, a mount or a format any state, and nothing else writes state or image in between
+  abbrev pub Runs : (S .State → Type 0) → S .Image → List (Step S) → Type 0
+  Runs H i [] = Unit {0}
+  Runs H i (x ∷ xs) = Takes H i x × Runs (Hands S H x) (x .image) xs
 
-  -- the state and the image that a finished format left
+  -- ---- on with nothing pending, where the image means (K, G): so a finished mount leaves any image with a meaning
+  pub record Mounted (K : Table) (G : ℕ) (s : S .State) (i : S .Image) : Type 0 where
+    pub is : stateOf S s i ≡ resting K G (blocksOf g (S .size i))
+    pub image : S .meaning i ≡ means K G
+    pub good : S .Good s i
+
+  -- a list starts there, with room
+  pub record Started (K : Table) (G : ℕ) (s : S .State) (i : S .Image) : Type 0 where
+    pub mounted : Mounted K G s i
+    pub room : S .Room i
+
+  abbrev pub starts : Table → ℕ → S .Image → Plain
+  starts K G i = resting K G (blocksOf g (S .size i))
+
+  -- so after a finished format
   pub record Formatted (s : S .State) (i : S .Image) : Type 0 where
     pub allowance : ℕ
     pub torn : List ℕ
@@ -143,34 +196,30 @@ module _ (g : Geometry) (S : Store) where
     pub ops : ℕ
     pub says : Format g S allowance torn before was accepted ops s i
 
-  -- the plain store that a list from this image starts with
-  abbrev pub starts : S .Image → Plain
-  starts i = fresh (blocksOf g (S .size i))
-
-  -- the plain store after a step from the one image i
+  -- the plain store after a step from the one image i, and after a list
   abbrev pub next : Plain → S .Image → Step S → Plain
   next p i x = after g (counts S i (x .image)) p (fed (x .act) (S .size (x .lent))) (isTen (x .answer))
+
+  abbrev pub lastPlain : Plain → S .Image → List (Step S) → Plain
+  lastPlain p i [] = p
+  lastPlain p i (x ∷ xs) = lastPlain (next p i x) (x .image) xs
+
+  -- the answer that the plain store gives to this step
+  abbrev pub answerTo : Plain → Step S → Answer
+  answerTo p x = answer g p (fed (x .act) (S .size (x .lent))) (isTen (x .answer))
 
   -- compared at each place: the answer; and, after the call, K and G with what the image means
   abbrev pub Agrees : Plain → S .Image → List (Step S) → Type 0
   Agrees p i [] = Unit {0}
-  Agrees p i (x ∷ xs) =
-      (x .answer ≡ answer g p (fed (x .act) (S .size (x .lent))) (isTen (x .answer)))
-      × (S .meaning (x .image) ≡ means (next p i x .kept) (next p i x .number))
-      × Agrees (next p i x) (x .image) xs
+  Agrees p i (x ∷ xs) = (x .answer ≡ answerTo p x) × (S .meaning (x .image) ≡ means (next p i x .kept) (next p i x .number)) × Agrees (next p i x) (x .image) xs
 
-  -- ---- a list in which formats may be cut: nothing is promised from a cut format until a finished one
-  abbrev pub RunsAny : S .State → S .Image → List (Step S) → Type 0
-  RunsAny s i [] = Unit {0}
-  RunsAny s i (x ∷ xs) = (Allowed (x .act) s (x .lent) (x .answer) (x .ops) (x .state) (x .left) × Lends S i x) × RunsAny (x .state) (x .image) xs
-
-  -- the plain store, or that nothing is promised, after a step
+  -- ---- formats may be cut: nothing is promised from a cut format until a finished one
   abbrev pub nextMode : Mode → S .Image → Step S → Mode
-  nextMode (promised p) i x = cond (isCutFormat (x .act) (x .answer)) unpromised (promised (next p i x))
-  nextMode unpromised i x = cond (isFinishedFormat (x .act) (x .answer)) (promised (starts (x .image))) unpromised
+  nextMode (promised p) i x = cond (isCutFormat S x) unpromised (promised (next p i x))
+  nextMode unpromised i x = cond (isFinishedFormat S x) (promised (fresh (blocksOf g (S .size (x .image))))) unpromised
 
   abbrev pub AnswerIs : Mode → Step S → Type 0
-  AnswerIs (promised p) x = x .answer ≡ answer g p (fed (x .act) (S .size (x .lent))) (isTen (x .answer))
+  AnswerIs (promised p) x = x .answer ≡ answerTo p x
   AnswerIs unpromised x = Unit {0}
 
   abbrev pub MeaningIs : Mode → S .Image → Type 0
@@ -180,6 +229,3 @@ module _ (g : Geometry) (S : Store) where
   abbrev pub AgreesAny : Mode → S .Image → List (Step S) → Type 0
   AgreesAny m i [] = Unit {0}
   AgreesAny m i (x ∷ xs) = AnswerIs m x × MeaningIs (nextMode m i x) (x .image) × AgreesAny (nextMode m i x) (x .image) xs
-
-abbrev pub expected : Compared → Answer × Meaning
-expected r = (r .answer, means (r .kept) (r .number))

@@ -21,15 +21,15 @@ use Rattle.views.proofs.ViewLaws.{view-stored}
 use Rattle.tree.specs.Tree.{Table, there, at, next}
 use Rattle.tree.specs.Shown.{shown}
 use Rattle.tree.specs.Step6.{step6}
-use Rattle.log.specs.Plan.{nodeAt}
+use Rattle.log.specs.Policy.{nodeAt}
 use Rattle.log.proofs.PlanFair.{fair-kept}
 use Rattle.log.proofs.PlanNodes.{Fair, nothing}
 use Rattle.promise.specs.Image.{viewsOf, bySix, imageMeaning}
 use Rattle.promise.proofs.Images.{image-tree}
 use Rattle.promise.specs.Calls as P
 use Rattle.store.specs.declared.state.State.{State}
-use Rattle.store.specs.Admit.{ChipOf}
-use Rattle.store.specs.Fresh.{NextOf}
+use Rattle.store.specs.AdmitCode.{ChipOf}
+use Rattle.store.specs.FreshCode.{NextOf}
 use Rattle.store.specs.State.{nodeFrom, nodesOf, goods, unitsOf, presentOf, Good}
 use Rattle.store.specs.Contracts.{index}
 use Rattle.store.proofs.BegunViews.{map-tab, views-at, views-all, views-size, view-at, image-bytes, fair-entries, fair-level, some-there, none-there, next-is}
@@ -218,12 +218,6 @@ module _ (s : State) (i : List ℕ) (nodes : List Node) (b : Begun s i nodes) wh
         pending = b .pending;
         count = b .count;
       }
-
-  pub begun-nodes : nodesOf small s i ≡ nodes
-  begun-nodes = settled-nodes s i nodes begun-settled
-
-  pub begun-present : presentOf small s i ≡ viewsOf nodes
-  begun-present = settled-present s i nodes begun-settled
 
   pub begun-meaning : imageMeaning small i ≡ P.means (viewsOf nodes) (s .commit)
   begun-meaning = settled-meaning s i nodes begun-settled

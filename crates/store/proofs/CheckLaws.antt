@@ -2,7 +2,7 @@
 use mathlib.Core.Path.{_≡_, refl, sym, ap, subst, _∙_}
 use mathlib.Core.Bool.{Bool, true, false, cond, _&&_, not}
 use mathlib.Core.List.{List, [], _∷_, _++_, map, append-assoc}
-use Prim.Native.Nat.{ℕ, zero, suc, _+_, _*_, _-_, _/_, _≤_, _<_}
+use Prim.Native.Nat.{ℕ, _+_, _*_, _-_, _/_, _≤_, _<_}
 use native.Mathlib.Omega.{arith}
 use lib.Dec.{eqb}
 use lib.ListN.{length, drop, getD, length-append, length-map}
@@ -19,31 +19,30 @@ use Rattle.chip.specs.Page.{Page}
 use Rattle.chip.specs.Chip.{pagesOf}
 use Rattle.pages.specs.declared.standing.Standing.the-variants.{Refused, Stands}
 use Rattle.pages.specs.Steps.{Live, liveFrom, commit, count, full, lastFrom, ofCommit, ordered, Stood, refused, stand, without, splitLast, steps}
-use Rattle.pages.specs.Keys.{keyOf, Shown, Says}
+use Rattle.pages.specs.KeyCode.{keyOf, Shown, Says}
 use Rattle.pages.proofs.KeyLaws.{Bounded, image-bounded, key-commit}
 use Rattle.pages.proofs.Order.{chain}
 use Rattle.pages.proofs.Pairs.{own, ordered-is, steps-ordered}
-use Rattle.pages.proofs.Settle.{last-snoc}
 use Rattle.views.specs.Table as Views
 use Rattle.views.specs.Table.{Node, fresh, events, table, nodeOf, isSound, isWell, readStood, read}
 use Rattle.views.specs.Stored.{Stores, storedList, listView, bufferView, nodeView}
-use Rattle.views.specs.Read.{ReadTable}
+use Rattle.views.specs.ReadCode.{ReadTable}
 use Rattle.views.proofs.Groups.{well-is}
-use Rattle.views.proofs.Meanings.{inOrder}
+use Rattle.views.proofs.Meanings.{inOrder, stood}
 use Rattle.views.proofs.ViewLaws.{view-listed}
 use Rattle.tree.specs.Step6.{step6}
 use Rattle.tree.specs.Shown.{shown}
-use Rattle.tree.specs.CheckCode.{listed}
-use Rattle.log.specs.Mount.{lower, mountOps, retire}
-use Rattle.log.specs.Plan.{nodeAt}
+use Rattle.tree.specs.CheckCode.{pagesTable}
+use Rattle.log.specs.Mount.{lowerPlace, mountOps, retire}
+use Rattle.log.specs.Policy.{nodeAt}
 use Rattle.log.proofs.Voids.{Found, found}
 use Rattle.log.proofs.MountLaws.{void-pages, void-scan}
 use Rattle.promise.specs.Calls.{invalid}
 use Rattle.promise.specs.Image.{viewsOf, bySix, imageMeaning}
 use Rattle.store.proofs.BegunViews.{map-tab}
 use Rattle.store.specs.declared.check.Judged.the-variants as J
-use Rattle.store.specs.Admit.{ChipOf}
-use Rattle.store.specs.Check.{isRead, isTree, Passed, JudgesKeys, commitAt, meansBy, Numbered, refusedBy, marksOf, Checks}
+use Rattle.store.specs.AdmitCode.{ChipOf}
+use Rattle.store.specs.CheckCode.{isRead, isTree, Passed, JudgesKeys, commitAt, meansBy, Numbered, refusedBy, marksOf, Checks}
 
 module _ (image lens slots : List ℕ) (limit : ℕ) (few : limit ≤ 256) (v xs : List Live) (st : steps small (pagesOf small image) ≡ stand v xs)
     (read : isRead limit xs ≡ true) (lists : (n : ℕ) → n < 256 → Stores lens slots n (nodeOf n (events limit xs) .pages)) where
@@ -58,7 +57,7 @@ module _ (image lens slots : List ℕ) (limit : ℕ) (few : limit ≤ 256) (v xs
       ∙ sym (view-listed small limit (pagesOf small image) v xs st (and-left (all isSound es) (all isWell (table limit es)) read) n)
 
   -- the table of the stored lists is that of the standing pages
-  pub views-listed : listed image lens slots limit ≡ viewsOf (table limit (events limit xs))
+  pub views-listed : pagesTable image lens slots limit ≡ viewsOf (table limit (events limit xs))
   unfolding shown bufferView
   views-listed =
       tab-same (nodeView small limit (pagesOf small image) lens slots 0 []) (λ (n : ℕ). nodeOf n (events limit xs) .now) 0 limit (λ n l. view-at n (omega arith))
@@ -69,7 +68,7 @@ module _ (image lens slots : List ℕ) (limit : ℕ) (few : limit ≤ 256) (v xs
   pub judged-layout : r ≡ false → isRead limit xs ≡ false
   judged-layout e = sym (t .good) ∙ e
 
-  module _ (e : r ≡ true) (q : Bool) (k : q ≡ step6 (listed image lens slots limit)) where
+  module _ (e : r ≡ true) (q : Bool) (k : q ≡ step6 (pagesTable image lens slots limit)) where
     judged-same : q ≡ isTree limit xs
     judged-same = k ∙ ap step6 (views-listed image lens slots limit few v xs st (sym (t .good) ∙ e) (t .lists e))
 
@@ -114,10 +113,6 @@ refused-checks image lens slots n e =
     (λ t. let q = refused-number small (pagesOf small image) n e (eqb-false n 7 t) in rw t (m ∙ ap invalid q))
 
 -- ---- the keys of the standing pages xs and of the void pages v behind them
-read-snoc : (limit : ℕ) (v s : List Live) (z : Live) → readStood limit (stand v (s ++ (z ∷ []))) ≡ read limit (s ++ (z ∷ [])) (commit z)
-read-snoc limit v [] z = refl
-read-snoc limit v (x ∷ s) z = rw (last-snoc x s z)
-
 module _ (order : List ℕ) (first voids : ℕ) (v xs : List Live) (k : Shown (Stands first voids) order v xs) where
   voids-is : voids ≡ length v
   voids-is = let e = k .answer in cc
@@ -227,7 +222,7 @@ module _ (image order : List ℕ) (first voids : ℕ) (bytes : (i : ℕ) → get
   meaning-is limit =
       ap (readStood limit) st
       ∙ ap (λ (l : List Live). readStood limit (stand v l)) (parts .ends)
-      ∙ read-snoc limit v (parts .s) (parts .z)
+      ∙ stood limit v (parts .s) (parts .z)
       ∙ ap (λ (l : List Live). read limit l (commit (parts .z))) (sym (parts .ends))
 
   meaning-read : (limit : ℕ) → isRead limit xs ≡ true → Views.meaning small limit ps ≡ Views.means (table limit (events limit xs)) (commit (parts .z))
@@ -239,7 +234,7 @@ module _ (image order : List ℕ) (first voids : ℕ) (bytes : (i : ℕ) → get
       let a = voids-is order first voids v xs k in
       let l : length v ≡ 0 = ap length (sym e) in
       let t : eqb voids 0 ≡ true = eq-eqb voids 0 (omega arith) in
-      rw t (ap (map retire) (void-pages small ps v xs st ∙ ap (sort lower) (sym e)))
+      rw t (ap (map retire) (void-pages small ps v xs st ∙ ap (sort lowerPlace) (sym e)))
   marks-by (snoc s y) e =
       let a = voids-is order first voids v xs k in
       let l : length v ≡ length s + 1 = ap length (sym e) ∙ length-append s (y ∷ []) in

@@ -11,7 +11,7 @@ use Rattle.lists.proofs.Flats.{tab-same, getD-tab}
 use Rattle.chip.specs.declared.power.Power.{Power}
 use Rattle.chip.specs.declared.power.Power.the-variants.{Left}
 use Rattle.chip.specs.Geometry.{small, blocksOf}
-use Rattle.chip.specs.Power.{done, isGone}
+use Rattle.chip.specs.Power.{done, isGone, takesEffect}
 use Rattle.chip.specs.Page.{Page}
 use Rattle.chip.specs.Chip.{Machine, pagesOf}
 use Rattle.chip.proofs.Runs.{run-gone, run-done}
@@ -22,14 +22,13 @@ use Rattle.views.specs.Table.{Node, events, fresh, turn}
 use Rattle.views.proofs.Meanings.{Kept, nodeIn, kept-node}
 use Rattle.tree.specs.Tree.{Table, next}
 use Rattle.tree.specs.Step6.{step6}
-use Rattle.log.specs.Commit.{won}
-use Rattle.log.specs.Plan.{newsOf, nodeAt, spareBlocks}
+use Rattle.log.specs.Policy.{newsOf, nodeAt, spareBlocks}
 use Rattle.log.proofs.PlanLaws.{Safe, imageAfter, nodeAfter}
 use Rattle.promise.specs.Image.{viewsOf, bySix, imageMeaning}
 use Rattle.promise.specs.Calls as P
 use Rattle.commits.specs.Execute.{Executed}
 use Rattle.store.specs.declared.state.State.{State}
-use Rattle.store.specs.Fresh.{committedState}
+use Rattle.store.specs.FreshCode.{committedState}
 use Rattle.store.specs.State.{limitOf, nodesOf, unitsOf, presentOf, Good, Room}
 use Rattle.store.specs.Contracts.{thePlan, theOps}
 use Rattle.store.proofs.BegunViews.{map-tab}
@@ -89,18 +88,18 @@ module _ (n : ℕ) (torn : List ℕ) (s : State) (i i' lens slots : List ℕ) (l
     next-tree = ap step6 next-views ∙ g .tree .passes
 
     -- the commit counts
-    abbrev isWon : Bool
-    isWon = won (getD torn 0 0) n (length (theOps s i))
+    abbrev takes : Bool
+    takes = takesEffect (getD torn 0 0) n (length (theOps s i))
 
-    after-read : Views.meaning small (limitOf s) (pagesOf small i') ≡ cond isWon (Views.means nextNodes (suc (s .commit))) (Views.means tb (s .commit))
+    after-read : Views.meaning small (limitOf s) (pagesOf small i') ≡ cond takes (Views.means nextNodes (suc (s .commit))) (Views.means tb (s .commit))
     after-read = ap (Views.meaning small (limitOf s)) after-pages ∙ sf .cut n
 
     -- old or new
-    pub after-meaning : imageMeaning small i' ≡ cond isWon (P.means (presentOf small s i) (suc (s .commit))) (imageMeaning small i)
+    pub after-meaning : imageMeaning small i' ≡ cond takes (P.means (presentOf small s i) (suc (s .commit))) (imageMeaning small i)
     unfolding imageMeaning
     after-meaning =
         ap (λ (B : ℕ). bySix (Views.meaning small (8 * B) (pagesOf small i'))) (sym after-blocks)
-        ∙ ap bySix after-read ∙ go isWon
+        ∙ ap bySix after-read ∙ go takes
       where
         new : bySix (Views.means nextNodes (suc (s .commit))) ≡ P.means (presentOf small s i) (suc (s .commit))
         new = rw next-tree (ap (λ (t : Table). P.means t (suc (s .commit))) next-views)
@@ -112,7 +111,7 @@ module _ (n : ℕ) (torn : List ℕ) (s : State) (i i' lens slots : List ℕ) (l
 
     -- room for the next one
     pub after-room : Room small i → Room small i'
-    after-room r = go isWon after-read
+    after-room r = go takes after-read
       where
         go : (b : Bool) → Views.meaning small (limitOf s) (pagesOf small i') ≡ cond b (Views.means nextNodes (suc (s .commit))) (Views.means tb (s .commit))
             → Room small i'

@@ -1,24 +1,21 @@
 -- What a commit starts from on a good state: the table and the units that its plan is made of. Assumes nothing.
 use mathlib.Core.Path.{_≡_, refl, sym, ap, subst, _∙_}
 use mathlib.Core.List.{List, reverse-reverse}
-use Prim.Native.Nat.{ℕ, zero, suc, _+_, _*_, _≤_, _<_}
+use Prim.Native.Nat.{ℕ, _+_, _*_, _≤_, _<_}
 use native.Mathlib.Omega.{arith}
 use lib.Dec.{eqb}
-use lib.ListN.{length, drop, getD, length-map, length-reverse}
+use lib.ListN.{length, getD, length-reverse}
 use lib.Seq.{length-take-le}
 use borrow.Author.Tests.{eq-eqb, ne-eqb}
 use Rattle.lists.specs.Lists.{all, part, tab}
 use Rattle.lists.proofs.Flats.{tab-same, getD-tab, tab-all}
 use Rattle.lists.proofs.Parts.{length-part}
-use Rattle.lists.proofs.Tests.{cases}
 use Rattle.chip.specs.Geometry.{small, blocksOf}
 use Rattle.chip.specs.Page.{Page}
 use Rattle.chip.specs.Chip.{pagesOf}
 use Rattle.chip.proofs.ImageLaws.{length-pages}
 use Rattle.chip.proofs.Sizes.{chip-size}
 use Rattle.pages.specs.declared.unit.Unit as U
-use Rattle.pages.specs.declared.unit.Decoded.the-variants as D
-use Rattle.pages.specs.Units.{decodes}
 use Rattle.pages.specs.Steps.{liveFrom}
 use Rattle.views.specs.Nodes.{View}
 use Rattle.views.specs.Groups.{present}
@@ -27,23 +24,20 @@ use Rattle.views.specs.Table.{Node, fresh, isWhole}
 use Rattle.views.specs.Stored.{storedList, nodeView, Stores}
 use Rattle.views.proofs.Meanings.{Kept}
 use Rattle.tree.specs.Shown.{shown}
-use Rattle.tree.proofs.ShownLaws.{buffer-good}
-use Rattle.log.specs.Plan.{nodeAt, spareBlocks}
+use Rattle.views.proofs.NodeViews.{buffer-good}
+use Rattle.log.specs.Policy.{nodeAt, spareBlocks}
 use Rattle.log.proofs.MountLaws.{image-sized}
-use Rattle.log.proofs.PlanBlocks.{head-below, has-room, room-has}
+use Rattle.log.proofs.PlanBlocks.{has-room, room-has}
 use Rattle.log.proofs.PlanBlocks as Log
-use Rattle.log.proofs.PlanChoice.{Ready}
+use Rattle.log.proofs.PlanChoice.{Committable}
 use Rattle.log.proofs.PlanKept.{Buffer, ready}
-use Rattle.promise.specs.Image.{viewsOf, bySix, imageMeaning}
-use Rattle.promise.specs.Calls as P
 use Rattle.commits.specs.Execute.{Plannable}
 use Rattle.store.specs.declared.state.State.{State}
-use Rattle.store.specs.Admit.{ChipOf}
+use Rattle.store.specs.AdmitCode.{ChipOf}
 use Rattle.store.specs.State.{limitOf, nodeFrom, nodesOf, unitsOf, presentOf, Good, RoomIn, Room, commitCount}
-use Rattle.store.specs.Contracts.{thePlan, theOps}
+use Rattle.store.specs.Contracts.{theOps}
 use Rattle.store.proofs.BegunViews.{image-bytes}
 use Rattle.store.proofs.UpdateLaws.{units-many}
-use Rattle.store.proofs.CommitPlan.{length-plan, plan-few}
 
 -- ---- room, as the definition tests it and as the laws of the plan have it
 module _ (i : List ℕ) (B : ℕ) (nodes : List Node) (G : ℕ) (blocks : B ≡ blocksOf small (length i))
@@ -87,11 +81,6 @@ module _ (s : State) (i : List ℕ) (g : Good small s i) where
 
   pub good-long : length ps ≡ s .blocks * 32
   good-long = length-pages small i ∙ omega (arith, good-chip .size)
-
-  pub good-meaning : imageMeaning small i ≡ P.means (viewsOf tb) (s .commit)
-  unfolding imageMeaning
-  good-meaning =
-      ap (λ (B : ℕ). bySix (Views.meaning small (8 * B) ps)) (sym (g .blocks)) ∙ ap bySix (g .means) ∙ rw (g .kept)
 
   pub good-room : Room small i → Log.Room small (s .blocks) (spareBlocks small (s .blocks)) tb (s .commit) (liveFrom small 0 ps)
   good-room r = room-of i (s .blocks) tb (s .commit) (g .blocks) (g .means) r
@@ -141,7 +130,7 @@ module _ (s : State) (i : List ℕ) (g : Good small s i) where
       }
 
   -- ---- what a plan asks
-  pub good-ready : ((j : ℕ) → getD i j 0 < 256) → 0 < s .pending → s .commit < 4294967295 → Ready small (limitOf s) (s .blocks) ps tb (s .commit) us
+  pub good-ready : ((j : ℕ) → getD i j 0 < 256) → 0 < s .pending → s .commit < 4294967295 → Committable small (limitOf s) (s .blocks) ps tb (s .commit) us
   good-ready b h n =
       ready small (limitOf s) (s .blocks) ps tb (s .commit) us good-kept (omega arith) (image-bytes small i b)
       (image-sized i (s .blocks) (good-chip .size)) good-long (good-buffer h)
@@ -149,25 +138,18 @@ module _ (s : State) (i : List ℕ) (g : Good small s i) where
   pub good-plannable : ((j : ℕ) → getD i j 0 < 256) → length (s .slots) ≡ 1024 → 0 < s .pending → s .commit < 4294967295
       → Plannable (limitOf s) (s .blocks) (s .lens) (s .slots) (s .count) (s .buffer) ps tb (s .commit) us
   good-plannable b e h n =
+      let bu = good-buffer h in
       record {
-        ready = good-ready b h n;
+        held = record { is = good-kept .is; clean = good-kept .clean; lists = good-stores e; units = g .units; few = good-few };
         limits = refl;
-        lists = good-stores e;
-        units = g .units;
-        few = good-few;
-        some = good-buffer h .pending;
+        number = omega arith;
+        long = good-long;
+        sizes = image-sized i (s .blocks) (good-chip .size);
+        bytes = image-bytes small i b;
+        some = bu .pending;
+        valid = bu .valid;
+        whole = bu .whole;
       }
-
-  -- ---- the number of operations
-  ops-few : length (theOps s i) ≤ 2000
-  ops-few =
-      let f = plan-few small (limitOf s) (s .blocks) ps tb (s .commit) (nodeAt tb) us
-      (head-below small (limitOf s) (s .blocks) ps tb (s .commit) good-kept (omega arith) good-long) in
-      omega (arith, length-plan small (s .commit) (thePlan s i), f .erased, f .written, good-chip .most)
-
-  pub good-ops : commitCount small s i ≤ 2000
-  unfolding commitCount
-  good-ops = cases (eqb (s .pending) 0) (λ t. rw t (omega arith)) (λ t. rw t ops-few)
 
 -- none with nothing pending, else those of the plan
 pub count-none : (s : State) (i : List ℕ) → s .pending ≡ 0 → commitCount small s i ≡ 0

@@ -7,9 +7,8 @@ use Prim.Native.Nat.{ℕ, zero, suc, _+_, _-_, _*_, _≤_, _<_}
 use native.Mathlib.Omega.{arith}
 use lib.Dec.{leb}
 use lib.ListN.{length, take, length-append, length-map}
-use borrow.Author.Tests.{eq-eqb, leb-true}
-use Rattle.lists.specs.Lists.{All, all, any, none, flat, tab}
-use Rattle.lists.proofs.Alls.{All-head}
+use borrow.Author.Tests.{leb-true}
+use Rattle.lists.specs.Lists.{all, any, flat, tab}
 use Rattle.lists.proofs.Tests.{cases}
 use Rattle.chip.specs.Geometry.{Geometry}
 use Rattle.chip.specs.Page.{Page}
@@ -17,26 +16,19 @@ use Rattle.chip.specs.Chip.{Machine, erase, inBlock}
 use Rattle.chip.proofs.Runs.{run-parts}
 use Rattle.pages.specs.declared.unit.Unit as U
 use Rattle.pages.specs.declared.unit.Update.{Update}
-use Rattle.pages.specs.Units.{Valid}
-use Rattle.pages.specs.Steps.{Live, liveFrom}
-use Rattle.views.specs.Groups.{own}
+use Rattle.pages.specs.Steps.{liveFrom}
 use Rattle.views.specs.Table.{Node, meaning, means}
 use Rattle.views.proofs.Meanings.{nodeIn}
-use Rattle.log.specs.Commit.{Pack, unitsOf, writesOf, pagesFrom, Sheet}
-use Rattle.log.specs.Plan.{Plan, add, delta, freeAt, groups, headBlock, newsOf, opsOf, orElse, pack, pagesIn, places, planBy, planOf, planOn, sheets, snapshot, spareBlocks, stuck, unused}
+use Rattle.log.specs.Commit.{Pack, unitsOfPacks, writesOf, pagesFrom, Sheet}
+use Rattle.log.specs.Policy.{Plan, add, delta, freeAt, groups, headBlock, newsOf, opsOf, planElse, pack, pagesIn, places, planBy, planOf, planOn, sheets, snapshot, spareBlocks, stuck, unused, isEmpty}
 use Rattle.log.proofs.PlanBlocks.{unused-few}
-use Rattle.log.proofs.PlanChoice.{Ready}
-use Rattle.log.proofs.PlanLaws.{Safe, imageAfter, nodeAfter, plan-nodes}
-use Rattle.log.proofs.PlanNodes.{Fits, delta-fits, snapshot-fits}
-use Rattle.log.proofs.PlanPacks.{groups-lack, length-groups, pack-some}
-use Rattle.log.proofs.Sets.{length-filter}
-use Rattle.commits.specs.Execute.{isEmpty}
+use Rattle.log.proofs.PlanChoice.{Committable, length-writes}
+use Rattle.log.proofs.PlanLaws.{Safe, imageAfter, nodeAfter, plan-nodes, any-group}
+use Rattle.log.proofs.PlanNodes.{CommitsNode, delta-fits, snapshot-fits}
+use Rattle.log.proofs.PlanPacks.{length-groups, pack-some}
+use Rattle.lists.proofs.Sets.{length-filter}
 
 -- ---- how many operations
-length-writes : (xs : List Live) → length (flat writesOf xs) ≡ 3 * length xs
-length-writes [] = refl
-length-writes (x ∷ xs) = omega (arith, length-writes xs)
-
 -- an erase for each block, three operations for each page
 pub length-plan : (g : Geometry) (c : ℕ) (q : Plan) → length (opsOf g c q) ≡ length (q .erased) + 3 * length (q .written)
 length-plan g c q =
@@ -49,7 +41,7 @@ length-plan g c q =
 
 add-few : (room : ℕ) (k : Pack) (ps : List (List Pack)) → length (add room k ps) ≤ suc (length ps)
 add-few room k [] = omega arith
-add-few room k (p ∷ ps) = cases (leb (length (unitsOf (k ∷ p))) room) (λ t. rw t (omega arith)) (λ t. rw t (omega arith))
+add-few room k (p ∷ ps) = cases (leb (length (unitsOfPacks (k ∷ p))) room) (λ t. rw t (omega arith)) (λ t. rw t (omega arith))
 
 pack-few : (room : ℕ) (ks : List Pack) → length (pack room ks) ≤ length ks
 pack-few room [] = omega arith
@@ -101,30 +93,13 @@ plan-few g limit B ps tb c T us hb =
         }
 
 -- ---- with a unit there is a group, so a plan that is not stuck has a page
-nil-short : {A : Type 0} (xs : List A) → (xs ≡ [] → ⊥) → 0 < length xs
-nil-short [] h = absurd (h refl)
-nil-short (x ∷ xs) h = omega arith
-
-cons-not : {A : Type 0} (x : A) (xs : List A) → x ∷ xs ≡ [] → ⊥
-cons-not x xs e = let y : _≡_ {A = ℕ} 0 1 = cc in omega arith
-
-some-own : (us : List U.Unit) (u : U.Unit) → own (u .node) (u ∷ us) ≡ [] → ⊥
-some-own us u e = cons-not (u .update) (own (u .node) us) (rw (eq-eqb (u .node) (u .node) refl) at e)
-
-some-group : (T : ℕ → Node) (us : List U.Unit) (limit : ℕ) (f : ℕ → List Update) → All (Valid limit) us → 0 < length us
-    → ((n : ℕ) → n < limit → Fits T us f n) → 0 < length (groups f limit)
-some-group T [] limit f h l k = absurd (omega arith)
-some-group T (u ∷ us) limit f h l k =
-    let b = All-head h .node in
-    nil-short (groups f limit) (λ e. some-own us u (k (u .node) b .covers (groups-lack f limit (u .node) b (rw e none))))
-
 -- a page and a place for it
 sheet-some : (ws : List ℕ) (ks : List (List Pack)) → 0 < length ks → suc (length ks) ≤ length ws → isEmpty (sheets (take (suc (length ks)) ws) ks) ≡ false
 sheet-some ws [] h l = absurd (omega arith)
 sheet-some [] (k ∷ ks) h l = absurd (omega arith)
 sheet-some (w ∷ ws) (k ∷ ks) h l = refl
 
-module _ (g : Geometry) (limit B : ℕ) (ps : List Page) (tb : List Node) (G : ℕ) (us : List U.Unit) (rd : Ready g limit B ps tb G us)
+module _ (g : Geometry) (limit B : ℕ) (ps : List Page) (tb : List Node) (G : ℕ) (us : List U.Unit) (rd : Committable g limit B ps tb G us)
     (pending : 0 < length us) where
   abbrev T : ℕ → Node
   T = nodeIn g limit ps
@@ -132,15 +107,15 @@ module _ (g : Geometry) (limit B : ℕ) (ps : List Page) (tb : List Node) (G : �
   abbrev un : List ℕ
   un = unused g B tb G (liveFrom g 0 ps) (headBlock g ps)
 
-  on-some : (f : ℕ → List Update) → ((n : ℕ) → n < limit → Fits T us f n) → (bs : List ℕ) (other : Plan)
+  on-some : (f : ℕ → List Update) → ((n : ℕ) → n < limit → CommitsNode T us f n) → (bs : List ℕ) (other : Plan)
       → (other ≡ stuck) ⊎ (isEmpty (other .written) ≡ false)
-      → (orElse g ps (headBlock g ps) bs (pack (g .units) (groups f limit)) other ≡ stuck)
-      ⊎ (isEmpty (orElse g ps (headBlock g ps) bs (pack (g .units) (groups f limit)) other .written) ≡ false)
+      → (planElse g ps (headBlock g ps) bs (pack (g .units) (groups f limit)) other ≡ stuck)
+      ⊎ (isEmpty (planElse g ps (headBlock g ps) bs (pack (g .units) (groups f limit)) other .written) ≡ false)
   on-some f k bs other h =
       let ks = pack (g .units) (groups f limit) in
       let ws = places g ps (headBlock g ps) bs in
       cases (leb (suc (length ks)) (length ws))
-      (λ t. inr (rw t (sheet-some ws ks (pack-some (g .units) (groups f limit) (some-group T us limit f (rd .valid) pending k)) (leb-true (suc (length ks)) (length ws) t))))
+      (λ t. inr (rw t (sheet-some ws ks (pack-some (g .units) (groups f limit) (any-group T us limit f (rd .valid) pending k)) (leb-true (suc (length ks)) (length ws) t))))
       (λ t. rw t h)
 
   by-some : (planBy g limit B ps tb G T us ≡ stuck) ⊎ (isEmpty (planBy g limit B ps tb G T us .written) ≡ false)

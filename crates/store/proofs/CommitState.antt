@@ -1,48 +1,47 @@
 -- The state and the image after a commit, by each of the ways out of the call. Assumes nothing.
 use mathlib.Core.Path.{_≡_, refl, sym, ap, subst, _∙_}
 use mathlib.Core.Logic.{_⊎_, inl, inr, ⊎-elim}
-use mathlib.Core.Bool.{Bool, true, false, cond, _&&_}
-use mathlib.Core.List.{List, []}
-use Prim.Native.Nat.{ℕ, suc, _+_, _*_, _≤_, _<_, min}
+use mathlib.Core.Bool.{Bool, true, false, cond, not, _&&_}
+use mathlib.Core.List.{List, [], _∷_}
+use Prim.Native.Nat.{ℕ, zero, suc, _+_, _*_, _≤_, _<_, min}
 use native.Mathlib.Omega.{arith}
 use lib.Dec.{ltb, eqb}
 use lib.ListN.{length, getD}
-use borrow.Author.Tests.{eq-eqb, ne-eqb, lt-ltb, le-ltb, le-leb, ltb-true, ltb-false}
-use Rattle.lists.specs.Lists.{flat}
+use borrow.Author.Tests.{ne-eqb, lt-ltb, le-ltb, le-leb, ltb-true, ltb-false}
 use Rattle.lists.proofs.Tests.{clash}
 use Rattle.chip.specs.declared.power.Power.the-variants.{Left}
 use Rattle.chip.specs.Geometry.{small}
-use Rattle.chip.specs.Power.{done, isGone}
-use Rattle.chip.specs.Page.{Page}
+use Rattle.chip.specs.Power.{done, isGone, takesEffect}
 use Rattle.chip.specs.Chip.{Legal, Machine, pagesOf, run}
-use Rattle.chip.proofs.ImageLaws.{pages-bytes}
 use Rattle.chip.proofs.Runs.{run-parts}
 use Rattle.views.specs.Table.{Node}
-use Rattle.views.proofs.Groups.{Distinct}
-use Rattle.log.specs.Commit.{groupsOf, won}
-use Rattle.log.specs.Plan.{Plan, opsOf, spareBlocks, stuck}
-use Rattle.log.proofs.PlanKept.{chip-small, wide-small}
+use Rattle.views.specs.Groups.{Distinct}
+use Rattle.log.specs.Commit.{groupsOf}
+use Rattle.log.specs.Policy.{Plan, opsOf, spareBlocks, stuck, isEmpty}
+use Rattle.log.proofs.PlanKept.{chip-small, wide-small, few-small}
 use Rattle.log.proofs.PlanLaws.{Safe, committed, foreign}
-use Rattle.promise.specs.Plain.{Answer, refuses, accepted, commits, firstRefusal, laterRefusal}
+use Rattle.promise.specs.Plain.{Answer, refuses, accepted, commits, firstRefusal}
 use Rattle.promise.specs.Plain as Plain
 use Rattle.promise.specs.Calls as P
 use Rattle.promise.specs.Calls.{FirstTests}
 use Rattle.promise.specs.Image.{imageMeaning}
+use Rattle.promise.proofs.Promise.{when-is}
 use Rattle.commits.specs.declared.execute.Ended.{Ended}
-use Rattle.commits.specs.Execute.{Executed, Executes, isEmpty}
+use Rattle.commits.specs.Execute.{Executed, Executes}
 use Rattle.store.specs.declared.answer.Answer as A
-use Rattle.store.specs.declared.answer.Answer.the-variants.{Accepted, Size, Off, Numbers, Power}
+use Rattle.store.specs.declared.answer.Answer.the-variants.{Accepted, Last, Cut}
 use Rattle.store.specs.declared.state.State.{State}
 use Rattle.store.specs.declared.state.Wrote.{Wrote}
+use Rattle.store.specs.AdmitCode.{commitTests, answerFor}
 use Rattle.store.specs.Answers.{answerOf}
-use Rattle.store.specs.Ending.{endedWith}
-use Rattle.store.specs.Fresh.{committedState}
+use Rattle.store.specs.EndingCode.{endedWith}
+use Rattle.store.specs.FreshCode.{committedState}
 use Rattle.store.specs.State.{turnedOff, limitOf, nodesOf, unitsOf, presentOf, Good, Room, commitCount}
 use Rattle.store.specs.Contracts.{index, thePlan, theOps, Commits}
 use Rattle.store.proofs.EndingLaws.{either-end}
 use Rattle.store.proofs.Begun.{Settled, settled-good, settled-state}
 use Rattle.store.proofs.CommitPlan.{safe-some}
-use Rattle.store.proofs.CommitGood.{good-chip, good-few, good-ready, good-buffer, good-plannable, good-room, good-ops, count-none, count-some}
+use Rattle.store.proofs.CommitGood.{good-chip, good-few, good-ready, good-buffer, good-plannable, good-room, count-none, count-some}
 use Rattle.store.proofs.CommitDone.{after-pages, after-gone, after-done, after-meaning, after-room, after-settled, nextNodes, next-views}
 
 -- ---- numbers and answers that differ
@@ -53,9 +52,6 @@ not-refused : {Q : Type 0} (k : ℕ) → accepted ≡ refuses k → Q
 not-refused k e = let u : _≡_ {A = ℕ} 0 1 = cc in absurd (omega arith)
 
 -- the refusal 6 of a commit, by the pending updates and the number
-later-six : (pending number : ℕ) → 0 < pending → number ≡ 4294967295 → Plain.when 6 (ltb 0 pending && eqb number 4294967295) ≡ 6
-later-six p c h e = rw (lt-ltb 0 p h, eq-eqb c 4294967295 e)
-
 later-idle : (pending number : ℕ) → pending ≡ 0 → Plain.when 6 (ltb 0 pending && eqb number 4294967295) ≡ 0
 later-idle p c e = rw (le-ltb 0 p (omega arith))
 
@@ -63,7 +59,7 @@ later-low : (pending number : ℕ) → 0 < pending → number < 4294967295 → P
 later-low p c h l = rw (lt-ltb 0 p h, ne-eqb c 4294967295 (λ e. omega arith))
 
 -- a commit whose operations are all done counts
-all-done : (t n m : ℕ) → m ≤ n → won t n m ≡ true
+all-done : (t n m : ℕ) → m ≤ n → takesEffect t n m ≡ true
 all-done t n m h = rw (le-leb m n h)
 
 module _ (n : ℕ) (torn : List ℕ) (s : State) (i : List ℕ) where
@@ -71,47 +67,79 @@ module _ (n : ℕ) (torn : List ℕ) (s : State) (i : List ℕ) where
   first = firstRefusal small (s .on) (s .blocks) (commits n (length i) (length torn))
 
   abbrev later : ℕ
-  later = laterRefusal (P.stateOf (index small) s i) (commits n (length i) (length torn))
+  later = Plain.when 6 (ltb 0 (s .pending) && eqb (s .commit) 4294967295)
 
-  later-is : later ≡ Plain.when 6 (ltb 0 (s .pending) && eqb (s .commit) 4294967295)
-  unfolding P.stateOf
-  later-is = refl
+  still : P.Same (index small) s i s i
+  still = record { state = refl; image = refl }
 
-  -- ---- refused by the first tests: nothing is done
-  refused : (a : A.Answer) (k : ℕ) → first ≡ suc k → answerOf a ≡ refuses (suc k) → (a ≡ Power → ⊥)
+  -- ---- nothing is begun: what a commit says that no plan is carried out for
+  abbrev Begins : Type 0
+  Begins = P.Committing small (index small) n torn s i
+
+  not-begun : (a : A.Answer) → FirstTests small (index small) (commits n (length i) (length torn)) s i (answerOf a) s i
+      → P.acceptsOr (2 ∷ 1 ∷ 6 ∷ 10 ∷ []) (answerOf a) ≡ true → (answerOf a ≡ refuses 10 → ⊥)
+      → (first ≡ 0 → (m : ℕ) → later ≡ suc m → answerOf a ≡ refuses (suc m)) → (first ≡ 0 → s .pending ≡ 0 → answerOf a ≡ accepted) → (Begins → ⊥)
       → Commits n torn s i (record { answer = a; ops = 0; state = s }) i
-  refused a k f ans d =
+  not-begun a tests kind d l idle never =
       record {
         says = record {
-          first = record {
-            refused = λ m e. (ans ∙ ap refuses (sym f ∙ e), refl, refl);
-            not1 = λ p. absurd (omega arith);
-            not2 = λ p. absurd (omega arith);
-            sameSize = refl;
-          };
-          quiet = λ m e t. refl;
-          then = record { refused = λ g p. absurd (omega arith) };
-          few = λ g r. good-ops s i g;
-          none = λ g h. count-none s i h;
-          power = λ g r p. absurd (omega arith);
-          idle = λ g r p. absurd (omega arith);
-          done = λ g r p. absurd (omega arith);
-          cut = λ g r p. absurd (omega arith);
+          first = tests;
+          range = kind;
+          quiet = λ m e t. (refl, still);
+          last = l;
+          idle = λ p q. (idle p q, refl, still);
+          none = λ h. count-none s i h;
+          bound = omega arith;
+          stuck = λ c. absurd (never c);
+          able = λ c. absurd (never c);
+          few = λ c. absurd (never c);
+          power = λ c. absurd (never c);
+          choice = λ c. absurd (never c);
+          room = λ c. absurd (never c);
+          done = λ c. absurd (never c);
+          cut = λ c. absurd (never c);
         };
-        bytes = λ c. absurd (omega (arith, c .passes));
-        legal = λ c. absurd (omega (arith, c .passes));
-        once = λ c. absurd (omega (arith, c .passes));
-        choice = λ c. absurd (omega (arith, c .passes));
-        stuck = λ c. absurd (omega (arith, c .passes));
-        same = λ m q e. (refl, refl);
+        bytes = λ c. absurd (never c);
+        legal = λ c. absurd (never c);
+        once = λ c. absurd (never c);
         off = λ e. absurd (d e);
+        bounds = record { blocks = refl; units = omega arith };
       }
 
-  pub commit-off : first ≡ 2 → Commits n torn s i (record { answer = Off; ops = 0; state = s }) i
-  commit-off f = refused Off 1 f refl (λ e. let u : _≡_ {A = ℕ} 0 1 = cc in omega arith)
+  not-cut : (a : A.Answer) (k : ℕ) → answerOf a ≡ refuses k → (k ≡ 10 → ⊥) → answerOf a ≡ refuses 10 → ⊥
+  not-cut a k e d q = other k 10 d (sym e ∙ q)
 
-  pub commit-size : first ≡ 1 → Commits n torn s i (record { answer = Size; ops = 0; state = s }) i
-  commit-size f = refused Size 0 f refl (λ e. let u : _≡_ {A = ℕ} 0 1 = cc in omega arith)
+  low-first : (x y : Bool) (k : ℕ) → Plain.orElse (Plain.when 2 x) (Plain.when 1 y) ≡ suc k → suc k ≤ 2
+  low-first true y k e = omega arith
+  low-first false true k e = omega arith
+  low-first false false k e = omega arith
+
+  range-of : (k : ℕ) (a : Answer) → a ≡ refuses (suc k) → suc k ≤ 2 → P.acceptsOr (2 ∷ 1 ∷ 6 ∷ 10 ∷ []) a ≡ true
+  range-of zero a e l = rw e
+  range-of (suc zero) a e l = rw e
+  range-of (suc (suc k)) a e l = absurd (omega arith)
+
+  -- refused by 2, 1 or 6
+  refused-by : (x y : ℕ) → first ≡ x → later ≡ y → (a : A.Answer) → answerOf a ≡ answerFor (Plain.orElse x y) → 0 < Plain.orElse x y
+      → Commits n torn s i (record { answer = a; ops = 0; state = s }) i
+  refused-by (suc k) y f l a e h =
+      let low = low-first (not (s .on)) (not (Plain.isChipSize small (length i) && (Plain.isTornSize small (length torn) && Plain.hasBlocks small (s .blocks) (length i)))) k f in
+      not-begun a
+      (record { refused = λ m q. (e ∙ ap refuses (sym f ∙ q), still); not1 = λ p. absurd (omega arith); not2 = λ p. absurd (omega arith); sameSize = refl })
+      (range-of k (answerOf a) e low) (not-cut a (suc k) e (λ z. omega arith)) (λ p. absurd (omega arith)) (λ p. absurd (omega arith))
+      (λ c. omega (arith, c .passes))
+  refused-by zero (suc k) f l a e h =
+      let six : suc k ≡ 6 = when-is 6 k (ltb 0 (s .pending) && eqb (s .commit) 4294967295) l in
+      let u : answerOf a ≡ refuses 6 = e ∙ ap refuses six in
+      not-begun a
+      (record { refused = λ m q. absurd (omega arith); not1 = λ p q. other 6 1 (λ z. omega arith) (sym u ∙ q); not2 = λ p q. other 6 2 (λ z. omega arith) (sym u ∙ q); sameSize = refl })
+      (rw u) (not-cut a 6 u (λ z. omega arith)) (λ p m q. e ∙ ap refuses (sym l ∙ q)) (λ p q. absurd (omega (arith, later-idle (s .pending) (s .commit) q)))
+      (λ c. omega (arith, c .numbers))
+  refused-by zero zero f l a e h = absurd (omega arith)
+
+  pub commit-refused : (a : A.Answer) → answerOf a ≡ answerFor (commitTests small (s .on) (s .blocks) (s .pending) (s .commit) (length i) (length torn))
+      → 0 < commitTests small (s .on) (s .blocks) (s .pending) (s .commit) (length i) (length torn) → Commits n torn s i (record { answer = a; ops = 0; state = s }) i
+  commit-refused a e h = refused-by first later refl refl a e h
 
   -- ---- they pass
   module _ (passes : first ≡ 0) where
@@ -119,91 +147,24 @@ module _ (n : ℕ) (torn : List ℕ) (s : State) (i : List ℕ) where
         → FirstTests small (index small) (commits n (length i) (length torn)) s i a s' i'
     tests a s' i' h k z = record { refused = λ m e. absurd (omega arith); not1 = λ p. h; not2 = λ p. k; sameSize = z }
 
-    -- nothing is pending: nothing is done
+    -- nothing is pending
     pub commit-idle : s .pending ≡ 0 → Commits n torn s i (record { answer = Accepted; ops = 0; state = s }) i
     commit-idle h =
-        let l : later ≡ 0 = later-is ∙ later-idle (s .pending) (s .commit) h in
-        let z : commitCount small s i ≡ 0 = count-none s i h in
-        record {
-          says = record {
-            first = tests accepted s i (λ e. not-refused 1 e) (λ e. not-refused 2 e) refl;
-            quiet = λ m e t. not-refused m e;
-            then = record { refused = λ g p m e. absurd (omega arith) };
-            few = λ g r. good-ops s i g;
-            none = λ g e. z;
-            power = λ g r p q. record { enough = λ m. (refl, sym z); short = λ m. absurd (omega arith) };
-            idle = λ g r p q e. record { is = refl; image = refl; good = g };
-            done = λ g r p q e. absurd (omega arith);
-            cut = λ g r p q m. absurd (omega arith);
-          };
-          bytes = λ c. absurd (omega (arith, c .pending));
-          legal = λ c. absurd (omega (arith, c .pending));
-          once = λ c. absurd (omega (arith, c .pending));
-          choice = λ c. absurd (omega (arith, c .pending));
-          stuck = λ c. absurd (omega (arith, c .pending));
-          same = λ m q d. (refl, refl);
-          off = λ e. let u : _≡_ {A = ℕ} 0 1 = cc in absurd (omega arith);
-        }
-
-    -- no number is left
-    pub commit-number : 0 < s .pending → 4294967295 ≤ s .commit → s .commit < 4294967296
-        → Commits n torn s i (record { answer = Numbers; ops = 0; state = s }) i
-    commit-number h low high =
-        let l : later ≡ 6 = later-is ∙ later-six (s .pending) (s .commit) h (omega arith) in
-        record {
-          says = record {
-            first = tests (refuses 6) s i (λ e. other 6 1 (λ u. omega arith) e) (λ e. other 6 2 (λ u. omega arith) e) refl;
-            quiet = λ m e t. refl;
-            then = record { refused = λ g p m e. (ap refuses (sym l ∙ e), refl, refl) };
-            few = λ g r. good-ops s i g;
-            none = λ g e. count-none s i e;
-            power = λ g r p q. absurd (omega arith);
-            idle = λ g r p q. absurd (omega arith);
-            done = λ g r p q. absurd (omega arith);
-            cut = λ g r p q. absurd (omega arith);
-          };
-          bytes = λ c. absurd (omega (arith, c .number));
-          legal = λ c. absurd (omega (arith, c .number));
-          once = λ c. absurd (omega (arith, c .number));
-          choice = λ c. absurd (omega (arith, c .number));
-          stuck = λ c. absurd (omega (arith, c .number));
-          same = λ m q d. (refl, refl);
-          off = λ e. let u : _≡_ {A = ℕ} 0 1 = cc in absurd (omega arith);
-        }
+        not-begun Accepted (tests accepted s i (λ e. not-refused 1 e) (λ e. not-refused 2 e) refl) refl (λ e. not-refused 10 e)
+        (λ p m e. absurd (omega (arith, later-idle (s .pending) (s .commit) h))) (λ p q. refl) (λ c. omega (arith, c .pending))
 
     -- more units than the buffer of a good state holds
-    pub commit-full : 960 < s .count → Commits n torn s i (record { answer = Numbers; ops = 0; state = s }) i
-    commit-full many =
-        record {
-          says = record {
-            first = tests (refuses 6) s i (λ e. other 6 1 (λ u. omega arith) e) (λ e. other 6 2 (λ u. omega arith) e) refl;
-            quiet = λ m e t. refl;
-            then = record { refused = λ g. never g };
-            few = λ g. never g;
-            none = λ g. never g;
-            power = λ g. never g;
-            idle = λ g. never g;
-            done = λ g. never g;
-            cut = λ g. never g;
-          };
-          bytes = λ c. never (c .good);
-          legal = λ c. never (c .good);
-          once = λ c. never (c .good);
-          choice = λ c. never (c .good);
-          stuck = λ c. never (c .good);
-          same = λ m q d. (refl, refl);
-          off = λ e. let u : _≡_ {A = ℕ} 0 1 = cc in absurd (omega arith);
-        }
-      where
-        never : {Q : Type 0} → Good small s i → Q
-        never g = absurd (omega (arith, good-few s i g))
+    pub commit-full : 0 < s .pending → s .commit < 4294967295 → 960 < s .count → Commits n torn s i (record { answer = Last; ops = 0; state = s }) i
+    commit-full h low many =
+        not-begun Last (tests (refuses 6) s i (λ e. other 6 1 (λ u. omega arith) e) (λ e. other 6 2 (λ u. omega arith) e) refl) refl (λ e. other 6 10 (λ u. omega arith) e)
+        (λ p m e. absurd (omega (arith, later-low (s .pending) (s .commit) h low))) (λ p q. absurd (omega arith)) (λ c. omega (arith, good-few s i (c .good)))
 
     -- ---- the plan is executed
     module _ (pending : 0 < s .pending) (number : s .commit < 4294967295) (size : length torn ≡ 528) (slots : length (s .slots) ≡ 1024)
         (bytes : (j : ℕ) → getD i j 0 < 256) (i' lens' slots' : List ℕ) (e : Ended)
         (x : Executes (8 * s .blocks) (s .blocks) (s .lens) (s .slots) (s .count) (s .buffer) (s .commit) torn (Left n) i i' (s .lens) (s .slots) lens' slots' e) where
       later-none : later ≡ 0
-      later-none = later-is ∙ later-low (s .pending) (s .commit) pending number
+      later-none = later-low (s .pending) (s .commit) pending number
 
       abbrev Secure : Plan → Type 0
       Secure q =
@@ -236,6 +197,9 @@ module _ (n : ℕ) (torn : List ℕ) (s : State) (i : List ℕ) where
         no-room : {Q : Type 0} → Good small s i → Room small i → Q
         no-room g r = clash (sym (by-pages g) ∙ st) (safe-page g (roomy g r))
 
+        no-plan : {Q : Type 0} → Good small s i → not (isEmpty (thePlan s i .written)) ≡ true → Q
+        no-plan g b = clash b (ap not (sym (by-pages g) ∙ st))
+
         no-ops : (g : Good small s i) → theOps s i ≡ []
         no-ops g = ap (opsOf small (s .commit)) (is-stuck g)
 
@@ -245,27 +209,31 @@ module _ (n : ℕ) (torn : List ℕ) (s : State) (i : List ℕ) where
             ∙ sym (ap (λ os. run small torn (record { power = Left n; pages = pagesOf small i }) os .pages) (no-ops g)
             ∙ ap (λ (m : Machine). m .pages) (run-parts small torn n (pagesOf small i) []))
 
-        pub commit-stuck : Commits n torn s i (record { answer = Numbers; ops = 0; state = s }) i'
+        pub commit-stuck : Commits n torn s i (record { answer = Last; ops = 0; state = s }) i'
         commit-stuck =
             record {
               says = record {
                 first = tests (refuses 6) s i' (λ e. other 6 1 (λ u. omega arith) e) (λ e. other 6 2 (λ u. omega arith) e) (x .size);
-                quiet = λ m e t. refl;
-                then = record { refused = λ g p m q. absurd (omega (arith, later-none)) };
-                few = λ g r. good-ops s i g;
-                none = λ g q. count-none s i q;
-                power = λ g r. no-room g r;
-                idle = λ g r. no-room g r;
-                done = λ g r. no-room g r;
-                cut = λ g r. no-room g r;
+                range = refl;
+                quiet = λ m e t. (refl, record { state = refl; image = x .still st });
+                last = λ p m e. absurd (omega (arith, later-none));
+                idle = λ p q. absurd (omega arith);
+                none = λ q. count-none s i q;
+                bound = omega arith;
+                stuck = λ c b. refl;
+                able = λ c r. no-room (c .good) r;
+                few = λ c b. no-plan (c .good) b;
+                power = λ c b. no-plan (c .good) b;
+                choice = λ c b. no-plan (c .good) b;
+                room = λ c b. no-plan (c .good) b;
+                done = λ c b. no-plan (c .good) b;
+                cut = λ c b. no-plan (c .good) b;
               };
               bytes = λ c. run-none (c .good);
               legal = λ c. subst (λ (q : Plan). Legal small (pagesOf small i) (opsOf small (s .commit) q)) (sym (is-stuck (c .good))) tt;
               once = λ c. subst (λ (q : Plan). Distinct (groupsOf (q .written))) (sym (is-stuck (c .good))) tt;
-              choice = λ c r. no-room (c .good) r;
-              stuck = λ c q. (refl, refl, x .still st);
-              same = λ m q d. (refl, x .still st);
-              off = λ e. let u : _≡_ {A = ℕ} 0 1 = cc in absurd (omega arith);
+              off = λ e. other 6 10 (λ u. omega arith) e;
+              bounds = record { blocks = refl; units = omega arith };
             }
 
       -- ---- the plan has pages
@@ -281,11 +249,17 @@ module _ (n : ℕ) (torn : List ℕ) (s : State) (i : List ℕ) where
             let w : isEmpty (thePlan s i .written) ≡ true = ap (λ (p : Plan). isEmpty (p .written)) q in
             clash w (sym (by-pages g) ∙ st)
 
+        has-plan : (g : Good small s i) → not (isEmpty (thePlan s i .written)) ≡ true
+        has-plan g = ap not (sym (by-pages g) ∙ st)
+
         secure : (g : Good small s i) → Secure (thePlan s i)
         secure g = ⊎-elim (λ q. not-stuck g q) (λ sf. sf) (stuck-or-safe g)
 
         need : commitCount small s i ≡ length (theOps s i)
         need = count-some s i pending
+
+        most : Good small s i → commitCount small s i ≤ 389
+        most g = rw need (few-small (s .blocks) (length (theOps s i)) (good-chip s i g .most) (secure g .few))
 
         gone : Good small s i → isGone (e .left) ≡ ltb n (length (theOps s i))
         gone g = after-gone n torn s i i' lens' slots' (e .left) g (by-plan g)
@@ -294,8 +268,12 @@ module _ (n : ℕ) (torn : List ℕ) (s : State) (i : List ℕ) where
         told g = after-done n torn s i i' lens' slots' (e .left) g (by-plan g)
 
         chosen : (g : Good small s i)
-            → imageMeaning small i' ≡ cond (won (getD torn 0 0) n (length (theOps s i))) (P.means (presentOf small s i) (suc (s .commit))) (imageMeaning small i)
+            → imageMeaning small i' ≡ cond (takesEffect (getD torn 0 0) n (length (theOps s i))) (P.means (presentOf small s i) (suc (s .commit))) (imageMeaning small i)
         chosen g = after-meaning n torn s i i' lens' slots' (e .left) g (by-plan g) (secure g)
+
+        chosen-count : (g : Good small s i)
+            → imageMeaning small i' ≡ cond (takesEffect (getD torn 0 0) n (commitCount small s i)) (P.means (presentOf small s i) (suc (s .commit))) (imageMeaning small i)
+        chosen-count g = rw need (chosen g)
 
         room-after : (g : Good small s i) → Room small i → Room small i'
         room-after g r = after-room n torn s i i' lens' slots' (e .left) g (by-plan g) (secure g) r
@@ -307,29 +285,33 @@ module _ (n : ℕ) (torn : List ℕ) (s : State) (i : List ℕ) where
 
         -- cut
         commit-cut : isGone (e .left) ≡ true → (ops : ℕ) → ops ≡ done n (e .left) → (off : State) → off ≡ turnedOff s
-            → Commits n torn s i (record { answer = Power; ops = ops; state = off }) i'
+            → Commits n torn s i (record { answer = Cut; ops = ops; state = off }) i'
         commit-cut out ops o off f =
-            subst (λ (y : State). Commits n torn s i (record { answer = Power; ops = ops; state = y }) i') (sym f)
+            subst (λ (y : State). Commits n torn s i (record { answer = Cut; ops = ops; state = y }) i') (sym f)
             (record {
               says = record {
                 first = tests (refuses 10) (turnedOff s) i' (λ e. other 10 1 (λ u. omega arith) e) (λ e. other 10 2 (λ u. omega arith) e) (x .size);
+                range = refl;
                 quiet = λ m e t. other 10 m (λ u. t (sym u)) e;
-                then = record { refused = λ g p m q. absurd (omega (arith, later-none)) };
-                few = λ g r. good-ops s i g;
-                none = λ g q. count-none s i q;
-                power = λ g r p q.
-                    record { enough = λ m. absurd (omega (arith, short g, need)); short = λ m. (refl, omega (arith, told g, short g)) };
-                idle = λ g r p q m. absurd (omega arith);
-                done = λ g r p q m k. absurd (omega (arith, short g, need));
-                cut = λ g r p q m. (refl, room-after g r, either (won (getD torn 0 0) n (length (theOps s i))) _ _ _ (chosen g));
+                last = λ p m q. absurd (omega (arith, later-none));
+                idle = λ p q. absurd (omega arith);
+                none = λ q. count-none s i q;
+                bound = omega arith;
+                stuck = λ c b. clash (has-plan (c .good)) b;
+                able = λ c r. has-plan (c .good);
+                few = λ c b. most (c .good);
+                power = λ c b.
+                    record { enough = λ m. absurd (omega (arith, short (c .good), need)); short = λ m. (refl, omega (arith, told (c .good), short (c .good))) };
+                choice = λ c b. chosen-count (c .good);
+                room = λ c b r. room-after (c .good) r;
+                done = λ c b k. absurd (omega (arith, short (c .good), need));
+                cut = λ c b m. refl;
               };
               bytes = λ c. run-is (c .good);
               legal = λ c. secure (c .good) .legal;
               once = λ c. secure (c .good) .once;
-              choice = λ c r. chosen (c .good);
-              stuck = λ c q. not-stuck (c .good) q;
-              same = λ m q d. other 10 m (λ u. d (sym u)) q;
               off = λ e. refl;
+              bounds = record { blocks = refl; units = omega arith };
             })
           where
             short : Good small s i → n < length (theOps s i)
@@ -368,23 +350,27 @@ module _ (n : ℕ) (torn : List ℕ) (s : State) (i : List ℕ) where
               (record {
                 says = record {
                   first = tests accepted after i' (λ e. not-refused 1 e) (λ e. not-refused 2 e) (x .size);
+                  range = refl;
                   quiet = λ m e t. not-refused m e;
-                  then = record { refused = λ g p m q. absurd (omega (arith, later-none)) };
-                  few = λ g r. good-ops s i g;
-                  none = λ g q. count-none s i q;
-                  power = λ g r p q.
-                      record { enough = λ m. (refl, omega (arith, told g, enough g, need)); short = λ m. absurd (omega (arith, enough g, need)) };
-                  idle = λ g r p q m. absurd (omega arith);
-                  done = λ g r p q m k. (means-new g, state-new g, settled-good after i' (nodes g) (settled g), room-after g r);
-                  cut = λ g r p q m. absurd (omega (arith, enough g, need));
+                  last = λ p m q. absurd (omega (arith, later-none));
+                  idle = λ p q. absurd (omega arith);
+                  none = λ q. count-none s i q;
+                  bound = omega arith;
+                  stuck = λ c b. clash (has-plan (c .good)) b;
+                  able = λ c r. has-plan (c .good);
+                  few = λ c b. most (c .good);
+                  power = λ c b.
+                      record { enough = λ m. (refl, omega (arith, told (c .good), enough (c .good), need)); short = λ m. absurd (omega (arith, enough (c .good), need)) };
+                  choice = λ c b. chosen-count (c .good);
+                  room = λ c b r. room-after (c .good) r;
+                  done = λ c b k. (state-new (c .good), settled-good after i' (nodes (c .good)) (settled (c .good)));
+                  cut = λ c b m. absurd (omega (arith, enough (c .good), need));
                 };
                 bytes = λ c. run-is (c .good);
                 legal = λ c. secure (c .good) .legal;
                 once = λ c. secure (c .good) .once;
-                choice = λ c r. chosen (c .good);
-                stuck = λ c q. not-stuck (c .good) q;
-                same = λ m q d. not-refused m q;
-                off = λ e. let u : _≡_ {A = ℕ} 0 1 = cc in absurd (omega arith);
+                off = λ e. not-refused 10 e;
+                bounds = record { blocks = refl; units = omega arith };
               })
 
         -- either

@@ -1,48 +1,119 @@
--- The first tests of a commit: the state is on, both sizes are right, and the image has the state's blocks. Assumes nothing.
+-- The tests of an update, 2, 1 and 3, and of a commit, 2, 1 and 6, by the tests 2 and 1 on the image alone. Assumes nothing.
 use mathlib.Core.Path.{_≡_, refl, sym, ap, _∙_}
 use mathlib.Core.Bool.{Bool, true, false, not, _&&_}
-use Prim.Native.Nat.{ℕ, _<_}
-use lib.Dec.{ltb}
-use borrow.Author.Tests.{eq-eqb, ne-eqb, lt-ltb, ltb-true}
-use Rattle.lists.proofs.Tests.{cases}
-use Rattle.chip.specs.Geometry.{small, blocksOf}
-use Rattle.promise.specs.Plain.{commits, firstRefusal, hasBlocks, isChipSize, isTornSize, orElse, when}
-use Rattle.store.specs.Admit.{Sized}
-use Rattle.store.proofs.SizeLaws.{sized-test}
+use Prim.Native.Nat.{ℕ, zero, suc, _<_, _≤_}
+use native.Mathlib.Omega.{arith}
+use lib.Dec.{ltb, leb, eqb}
+use borrow.Author.Tests.{eq-eqb, ne-eqb, eqb-true, lt-ltb, le-ltb, le-leb, lt-leb}
+use Rattle.chip.specs.Geometry.{small}
+use Rattle.promise.specs.Plain.{refuses, accepted, admission, commits, firstRefusal, hasBlocks, isChipSize, isTornSize, lastNumber, orElse, when}
+use Rattle.store.specs.AdmitCode.{ChipOf, updateTests, commitTests, answerFor}
+use Rattle.store.proofs.AdmitLaws.{admission-chip}
 
-both : (a b c : Bool) → (a && (b && c)) ≡ ((a && b) && c)
-both true b c = refl
-both false b c = refl
+-- ---- of an update, where x is what the tests 2 and 1 give
+module _ (on : Bool) (B p len x : ℕ) (e : x ≡ admission small on B len) where
+  pub update-first : 0 < x → answerFor x ≡ answerFor (updateTests small on B p len)
+  update-first h = ap answerFor (or-first x (when 3 (leb 16 p)) h ∙ ap (λ (y : ℕ). orElse y (when 3 (leb 16 p))) e)
+    where
+      or-first : (a b : ℕ) → 0 < a → a ≡ orElse a b
+      or-first zero b h = absurd (omega arith)
+      or-first (suc a) b h = refl
 
-module _ (on : Bool) (B n len slice : ℕ) where
-  abbrev sizes : Bool
-  sizes = isChipSize small len && (isTornSize small slice && hasBlocks small B len)
+  update-then : x ≡ 0 → (b : Bool) → leb 16 p ≡ b → answerFor (when 3 b) ≡ answerFor (updateTests small on B p len)
+  update-then z b q = ap answerFor (ap (λ (y : ℕ). orElse y (when 3 b)) (sym z ∙ e) ∙ ap (λ (c : Bool). orElse (admission small on B len) (when 3 c)) (sym q))
 
-  -- off
-  pub commits-off : on ≡ false → firstRefusal small on B (commits n len slice) ≡ 2
-  commits-off o = ap (λ (x : Bool). orElse (when 2 (not x)) (when 1 (not sizes))) o
+  pub update-full : x ≡ 0 → 16 ≤ p → refuses 3 ≡ answerFor (updateTests small on B p len)
+  update-full z h = update-then z true (le-leb 16 p h)
 
-  module _ (o : on ≡ true) (b : ℕ) (z : Sized len slice b) where
-    by-sizes : (y : Bool) → sizes ≡ y → firstRefusal small on B (commits n len slice) ≡ when 1 (not y)
-    by-sizes y e = ap (λ (x : Bool). orElse (when 2 (not x)) (when 1 (not sizes))) o ∙ ap (λ (x : Bool). when 1 (not x)) e
+  pub update-passes : x ≡ 0 → p < 16 → accepted ≡ answerFor (updateTests small on B p len)
+  update-passes z h = update-then z false (lt-leb 16 p h)
 
-    parts : sizes ≡ (ltb 0 b && hasBlocks small B len)
-    parts =
-        both (isChipSize small len) (isTornSize small slice) (hasBlocks small B len)
-        ∙ ap (λ (x : Bool). x && hasBlocks small B len) (sized-test len slice b z)
+-- ---- of a commit
+-- 2 and 1 with a torn slice: those on the image alone, then the slice
+first-torn : (on c t b : Bool)
+    → orElse (orElse (when 2 (not on)) (when 1 (not (c && b)))) (when 1 (not t)) ≡ orElse (when 2 (not on)) (when 1 (not (c && (t && b))))
+first-torn false c t b = refl
+first-torn true false t b = refl
+first-torn true true true true = refl
+first-torn true true true false = refl
+first-torn true true false true = refl
+first-torn true true false false = refl
 
-    -- a size is wrong, or the image has other blocks than the state
-    pub commits-size : (0 < b → b ≡ B → ⊥) → firstRefusal small on B (commits n len slice) ≡ 1
-    unfolding hasBlocks
-    commits-size h =
-        by-sizes false
-        (parts
-        ∙ cases (ltb 0 b)
-        (λ t. let l : 0 < b = ltb-true 0 b t in
-        rw (t, ne-eqb (blocksOf small len) B (λ e. h l (z .chip l .blocks ∙ e))))
-        (λ t. rw t))
+module _ (on : Bool) (B p G len torn : ℕ) where
+  abbrev later : ℕ
+  later = when 6 (ltb 0 p && eqb G lastNumber)
 
-    -- all is right
-    pub commits-pass : 0 < b → b ≡ B → firstRefusal small on B (commits n len slice) ≡ 0
-    unfolding hasBlocks
-    commits-pass l e = by-sizes true (parts ∙ rw (lt-ltb 0 b l, eq-eqb (blocksOf small len) B (sym (z .chip l .blocks) ∙ e)))
+  abbrev asks : ℕ → ℕ
+  asks x = orElse (orElse x (when 1 (not (isTornSize small torn)))) later
+
+  tests-are : (x : ℕ) → x ≡ admission small on B len → asks x ≡ commitTests small on B p G len torn
+  tests-are x e = ap asks e ∙ ap (λ (y : ℕ). orElse y later) (first-torn on (isChipSize small len) (isTornSize small torn) (hasBlocks small B len))
+
+  module _ (x : ℕ) (e : x ≡ admission small on B len) where
+    pub commit-first : 0 < x → answerFor x ≡ answerFor (commitTests small on B p G len torn)
+    commit-first h = ap answerFor (or-or x (when 1 (not (isTornSize small torn))) later h ∙ tests-are x e)
+      where
+        or-or : (a b c : ℕ) → 0 < a → a ≡ orElse (orElse a b) c
+        or-or zero b c h = absurd (omega arith)
+        or-or (suc a) b c h = refl
+
+    module _ (z : x ≡ 0) where
+      asks-by : (t : Bool) (n : ℕ) → isTornSize small torn ≡ t → later ≡ n → orElse (when 1 (not t)) n ≡ commitTests small on B p G len torn
+      asks-by t n q l =
+          ap (λ (y : ℕ). orElse (orElse y (when 1 (not t))) n) (sym z)
+          ∙ ap (λ (c : Bool). orElse (orElse x (when 1 (not c))) n) (sym q)
+          ∙ ap (λ (m : ℕ). orElse (orElse x (when 1 (not (isTornSize small torn)))) m) (sym l)
+          ∙ tests-are x e
+
+      pub commit-torn : (torn ≡ 528 → ⊥) → refuses 1 ≡ answerFor (commitTests small on B p G len torn)
+      unfolding isTornSize
+      commit-torn h = ap answerFor (asks-by false later (ne-eqb torn 528 h) refl)
+
+      module _ (t : torn ≡ 528) where
+        by-later : (n : ℕ) → later ≡ n → n ≡ commitTests small on B p G len torn
+        unfolding isTornSize
+        by-later n l = asks-by true n (eq-eqb torn 528 t) l
+
+        pub commit-idles : p ≡ 0 → accepted ≡ answerFor (commitTests small on B p G len torn)
+        commit-idles h = ap answerFor (by-later 0 (rw (le-ltb 0 p (omega arith))))
+
+        pub commit-last : 0 < p → lastNumber ≤ G → G < 4294967296 → refuses 6 ≡ answerFor (commitTests small on B p G len torn)
+        commit-last h l u = ap answerFor (by-later 6 (rw (lt-ltb 0 p h, eq-eqb G lastNumber (omega arith))))
+
+        pub commit-passes : 0 < p → G < lastNumber → accepted ≡ answerFor (commitTests small on B p G len torn)
+        commit-passes h l = ap answerFor (by-later 0 (rw (lt-ltb 0 p h, ne-eqb G lastNumber (λ q. omega arith))))
+
+-- what a commit knows that the tests pass
+parts-passed : (on c t b : Bool) → orElse (when 2 (not on)) (when 1 (not (c && (t && b)))) ≡ 0 → (t ≡ true) × (orElse (when 2 (not on)) (when 1 (not (c && b))) ≡ 0)
+parts-passed true true true true e = (refl, refl)
+parts-passed true true true false e = absurd (omega arith)
+parts-passed true true false b e = absurd (omega arith)
+parts-passed true false t b e = absurd (omega arith)
+parts-passed false c t b e = absurd (omega arith)
+
+or-none : (a b : ℕ) → orElse a b ≡ 0 → (a ≡ 0) × (b ≡ 0)
+or-none zero b e = (refl, e)
+or-none (suc a) b e = absurd (omega arith)
+
+six-none : (p G : ℕ) → when 6 (ltb 0 p && eqb G lastNumber) ≡ 0 → 0 < p → G < 4294967296 → G < lastNumber
+six-none p G e h u = below (λ (q : G ≡ lastNumber). six-some (when 6 (ltb 0 p && eqb G lastNumber)) e (rw (lt-ltb 0 p h, eq-eqb G lastNumber q)))
+  where
+    six-some : (n : ℕ) → n ≡ 0 → n ≡ 6 → ⊥
+    six-some n a b = omega arith
+
+    below : (G ≡ lastNumber → ⊥) → G < lastNumber
+    below d = omega arith
+
+-- the numbers of a commit past its tests
+pub record Past (on : Bool) (B p G n len torn : ℕ) : Type 0 where
+  pub first : firstRefusal small on B (commits n len torn) ≡ 0
+  pub chip : ChipOf B len
+  pub slice : torn ≡ 528
+  pub number : 0 < p → G < lastNumber
+
+pub commits-past : (on : Bool) (B p G n len torn : ℕ) → G < 4294967296 → commitTests small on B p G len torn ≡ 0 → Past on B p G n len torn
+unfolding isTornSize
+commits-past on B p G n len torn u e =
+    let w = or-none (firstRefusal small on B (commits 0 len torn)) (when 6 (ltb 0 p && eqb G lastNumber)) e in
+    let q = parts-passed on (isChipSize small len) (isTornSize small torn) (hasBlocks small B len) (w .0) in
+    record { first = w .0; chip = admission-chip on B len (q .1); slice = eqb-true torn 528 (q .0); number = λ h. six-none p G (w .1) h u }

@@ -1,7 +1,7 @@
 -- The state and the image after a format, cut or finished, and where it is refused. Assumes nothing.
 use mathlib.Core.Path.{_≡_, refl, sym, ap, subst, _∙_}
 use mathlib.Core.Bool.{true, false}
-use mathlib.Core.List.{List, [], _∷_, _++_}
+use mathlib.Core.List.{List, [], _∷_}
 use Prim.Native.Nat.{ℕ, zero, suc, _+_, _-_, _*_, _≤_, _<_, min}
 use native.Mathlib.Omega.{arith}
 use lib.Dec.{ltb}
@@ -11,28 +11,22 @@ use Rattle.lists.specs.Lists.{tab}
 use Rattle.lists.proofs.Flats.{getD-tab}
 use Rattle.chip.specs.declared.power.Power.{Power}
 use Rattle.chip.specs.declared.power.Power.the-variants.{Left}
-use Rattle.chip.specs.Geometry.{Geometry, small, blocksOf}
+use Rattle.chip.specs.Geometry.{small, blocksOf}
 use Rattle.chip.specs.Power.{done, isGone}
-use Rattle.chip.specs.Page.{blank}
-use Rattle.chip.specs.Chip.{pagesOf, Machine, Ran}
+use Rattle.chip.specs.Chip.{Legal, pagesOf, Machine, Ran}
 use Rattle.chip.proofs.ImageLaws.{length-pages}
-use Rattle.chip.proofs.Marks.{blank-quiet, third-live, third-data}
-use Rattle.pages.specs.Units.{encode}
 use Rattle.pages.specs.Steps.{liveFrom}
-use Rattle.pages.proofs.UnitLaws.{length-units}
-use Rattle.pages.proofs.HeaderLaws.{laid-size}
 use Rattle.views.specs.Nodes.{View, untouched, view}
 use Rattle.views.specs.Table as Views
 use Rattle.views.specs.Table.{Node}
 use Rattle.views.specs.Stored.{Stores}
 use Rattle.views.proofs.Meanings.{inOrder, Kept}
-use Rattle.log.specs.Format.{rootReset, formatData, formatOps, formattedBy, formatted, formatTable}
-use Rattle.log.specs.Format as Log
-use Rattle.log.specs.Plan.{nodeAt, hasRoom, spareBlocks}
-use Rattle.log.proofs.FormatLaws.{format-count, format-pages, format-gone, format-done, format-small}
+use Rattle.log.specs.Format.{formatData, formatOps, formattedBy, formatted, formatTable, formatNode}
+use Rattle.log.specs.Policy.{nodeAt, hasRoom, spareBlocks}
+use Rattle.log.proofs.FormatLaws.{format-legal, format-count, format-pages, format-gone, format-done, format-small, format-order}
 use Rattle.log.proofs.PlanBlocks.{has-room}
 use Rattle.log.proofs.PlanRoom.{room-first}
-use Rattle.promise.specs.Plain.{Answer, refuses, accepted, formats, firstRefusal, leaf, fresh}
+use Rattle.promise.specs.Plain.{Answer, refuses, accepted, formats, firstRefusal, leaf, resting, fresh}
 use Rattle.promise.specs.Calls as P
 use Rattle.promise.specs.Calls.{FirstTests}
 use Rattle.promise.specs.Image.{viewsOf, imageMeaning}
@@ -41,9 +35,9 @@ use Rattle.store.specs.declared.answer.Answer.the-variants.{Accepted, Si
 use Rattle.store.specs.declared.answer.Answer.the-variants as A
 use Rattle.store.specs.declared.state.State.{State}
 use Rattle.store.specs.declared.state.Wrote.{Wrote}
-use Rattle.store.specs.Admit.{Sized}
-use Rattle.store.specs.Ending.{endedWith}
-use Rattle.store.specs.Fresh.{freshState, NextOf}
+use Rattle.store.specs.AdmitCode.{Sized}
+use Rattle.store.specs.EndingCode.{endedWith}
+use Rattle.store.specs.FreshCode.{freshState, NextOf}
 use Rattle.store.specs.State.{turnedOff, RoomIn, Room}
 use Rattle.store.specs.Contracts.{index, Formats}
 use Rattle.store.proofs.EndingLaws.{either-end}
@@ -52,7 +46,7 @@ use Rattle.store.proofs.Begun.{Begun, begun-meaning, begun-good, begun-
 
 -- ---- the node table of a finished format
 -- no other node has a view
-leaf-rest : (k m : ℕ) → viewsOf (tab (suc k) m Log.leaf) ≡ replicate m untouched
+leaf-rest : (k m : ℕ) → viewsOf (tab (suc k) m formatNode) ≡ replicate m untouched
 leaf-rest k zero = refl
 leaf-rest k (suc m) = ap (λ (l : List View). untouched ∷ l) (leaf-rest (suc k) m)
 
@@ -70,7 +64,7 @@ zeros zero n = refl
 zeros (suc k) zero = refl
 zeros (suc k) (suc n) = zeros k n
 
-leaf-stores : (k m n : ℕ) → Stores (1 ∷ replicate k 0) (replicate (suc m) 0) n (Log.leaf n .pages)
+leaf-stores : (k m n : ℕ) → Stores (1 ∷ replicate k 0) (replicate (suc m) 0) n (formatNode n .pages)
 leaf-stores k m zero = record { size = refl; pages = λ l. refl }
 leaf-stores k m (suc n) = record { size = zeros k n; pages = λ l. rw (zeros k n) }
 
@@ -78,7 +72,7 @@ pub format-stores : (limit n : ℕ) → n < limit → Stores (1 ∷ replicate 25
 format-stores limit n l =
     let z : 0 + n ≡ n = omega arith in
     subst (λ (x : Node). Stores (1 ∷ replicate 255 0) (replicate 1024 0) n (x .pages))
-    (sym (getD-tab Log.leaf 0 limit n Views.fresh l ∙ ap Log.leaf z)) (leaf-stores 255 1023 n)
+    (sym (getD-tab formatNode 0 limit n Views.fresh l ∙ ap formatNode z)) (leaf-stores 255 1023 n)
 
 fresh-next : (limit k : ℕ) → 0 < limit → NextOf limit (1 ∷ replicate k 0) 1
 fresh-next limit k h = record { most = h; last = λ m e. last m e; rest = λ n a l. rest n a }
@@ -92,20 +86,9 @@ fresh-next limit k h = record { most = h; last = λ m e. last m e; rest = λ n a
     rest (suc n) a = zeros k n
 
 -- ---- the one live page of a finished format
-blanks-live : (g : Geometry) (i n : ℕ) → liveFrom g i (replicate n (blank g)) ≡ []
-blanks-live g i zero = refl
-blanks-live g i (suc n) = rw (blank-quiet g) (blanks-live g (suc i) n)
-
-first-order : (g : Geometry) → 3 ≤ g .spare → 8 + 12 * g .units ≤ g .area → 1 ≤ g .units → (n : ℕ) → 0 < n
-    → inOrder g (formatted g n) ≡ record { place = 0; bytes = formatData g } ∷ []
-first-order g room fits some zero h = absurd (omega arith)
-first-order g room fits some (suc n) h =
-    let size : length (formatData g) ≡ g .area = laid-size g 1 0 1 1 (encode rootReset ++ []) fits some (length-units (rootReset ∷ [])) in
-    rw (third-live g 0 (formatData g) size 0 room, blanks-live g 1 n)
-    (ap (λ (d : List ℕ). record { place = 0; bytes = d } ∷ []) (third-data g 0 (formatData g) size 0))
-
 pub small-order : (n : ℕ) → 0 < n → inOrder small (formatted small n) ≡ record { place = 0; bytes = formatData small } ∷ []
-small-order n h = first-order small (omega arith) (omega arith) (omega arith) n h
+small-order zero h = absurd (omega arith)
+small-order (suc n) h = format-order small (omega arith) (omega arith) (omega arith) n
 
 -- ---- refused: nothing is done
 one-not : {Q : Type 0} (m : ℕ) → m ≡ 1 → m ≡ 0 → Q
@@ -118,11 +101,12 @@ format-size n torn s i b z h =
     record {
       says = record {
         first = record {
-          refused = λ k e. (ap refuses (sym f ∙ e), refl, refl);
+          refused = λ k e. (ap refuses (sym f ∙ e), record { state = refl; image = refl });
           not1 = λ p. one-not _ f p;
           not2 = λ p. one-not _ f p;
           sameSize = refl;
         };
+        range = refl;
         quiet = λ k e d. refl;
         few = λ p. one-not _ f p;
         power = λ p. one-not _ f p;
@@ -130,7 +114,8 @@ format-size n torn s i b z h =
         cut = λ p. one-not _ f p;
       };
       bytes = λ p. one-not _ f p;
-      off = λ e. let u : _≡_ {A = ℕ} 0 1 = cc in absurd (omega arith);
+      legal = λ p. one-not _ f p;
+      off = λ e. let u : _≡_ {A = ℕ} 1 10 = cc in absurd (omega arith);
     }
 
 -- ---- the sizes are right: its operations were done as far as the power went
@@ -161,6 +146,14 @@ module _ (n : ℕ) (torn : List ℕ) (s : State) (i i' : List ℕ) (b : ℕ) (z 
   few-ops : length (formatOps small (blocksOf small (length i))) ≤ 2000
   few-ops = omega (arith, need-is, z .chip pos .most)
 
+  long : length (pagesOf small i) ≡ b * 32
+  long = length-pages small i ∙ omega (arith, z .chip pos .size)
+
+  format-allowed : Legal small (pagesOf small i) (formatOps small (blocksOf small (length i)))
+  format-allowed =
+      subst (λ (B : ℕ). Legal small (pagesOf small i) (formatOps small B)) (sym blocks-are)
+      (format-legal small (omega arith) (omega arith) b (pagesOf small i) long (omega (arith, long)))
+
   -- neither 1 nor 2
   tests : (a : Answer) (s' : State) → (a ≡ refuses 1 → ⊥) → (a ≡ refuses 2 → ⊥) → FirstTests small (index small) (formats n (length i) (length torn)) s i a s' i'
   tests a s' h k =
@@ -168,13 +161,14 @@ module _ (n : ℕ) (torn : List ℕ) (s : State) (i i' : List ℕ) (b : ℕ) (z 
 
   -- cut
   format-cut : isGone left ≡ true → (ops : ℕ) → ops ≡ done n left → (off : State) → off ≡ turnedOff s
-      → Formats n torn s i (record { answer = A.Power; ops = ops; state = off }) i'
+      → Formats n torn s i (record { answer = A.Cut; ops = ops; state = off }) i'
   format-cut g ops o off f =
       let l : n < b + 3 = ltb-true n (b + 3) (sym gone-is ∙ g) in
-      subst (λ (x : State). Formats n torn s i (record { answer = A.Power; ops = ops; state = x }) i') (sym f)
+      subst (λ (x : State). Formats n torn s i (record { answer = A.Cut; ops = ops; state = x }) i') (sym f)
       (record {
         says = record {
           first = tests (refuses 10) (turnedOff s) (λ e. let u : _≡_ {A = ℕ} 10 1 = cc in omega arith) (λ e. let u : _≡_ {A = ℕ} 10 2 = cc in omega arith);
+          range = refl;
           quiet = λ k e d. absurd (d (let u : k ≡ 10 = cc in u));
           few = λ p. few-ops;
           power = λ p. record { enough = λ m. absurd (omega (arith, need-is)); short = λ m. (refl, omega (arith, done-is)) };
@@ -182,6 +176,7 @@ module _ (n : ℕ) (torn : List ℕ) (s : State) (i i' : List ℕ) (b : ℕ) (z 
           cut = λ p m. refl;
         };
         bytes = λ p. format-bytes;
+        legal = λ p. format-allowed;
         off = λ e. refl;
       })
 
@@ -189,9 +184,6 @@ module _ (n : ℕ) (torn : List ℕ) (s : State) (i i' : List ℕ) (b : ℕ) (z 
   module _ (g : isGone left ≡ false) (bytes : (j : ℕ) → getD i' j 0 < 256) (buffer : List ℕ) where
     enough : b + 3 ≤ n
     enough = ltb-false n (b + 3) (sym gone-is ∙ g)
-
-    long : length (pagesOf small i) ≡ b * 32
-    long = length-pages small i ∙ omega (arith, z .chip pos .size)
 
     kept : Kept small (8 * b) (pagesOf small i') (formatTable (8 * b)) 1
     kept = rw pages-are (format-small torn b n (pagesOf small i) pos long enough)
@@ -232,7 +224,7 @@ module _ (n : ℕ) (torn : List ℕ) (s : State) (i i' : List ℕ) (b : ℕ) (z 
         (room-at (blocksOf small (length i')) ((let e : suc (b - 1) ≡ b = omega arith in e) ∙ sym blocks-after))
 
     state-is : P.stateOf (index small) (freshState b buffer) i' ≡ fresh (blocksOf small (length i))
-    unfolding fresh
+    unfolding resting
     state-is = begun-state (freshState b buffer) i' (formatTable (8 * b)) begun ∙ rw (blocks-are, format-views b pos)
 
     meaning-is : imageMeaning small i' ≡ P.means (leaf (blocksOf small (length i))) 1
@@ -245,6 +237,7 @@ module _ (n : ℕ) (torn : List ℕ) (s : State) (i i' : List ℕ) (b : ℕ) (z 
         (record {
           says = record {
             first = tests accepted (freshState b buffer) (λ e. let u : _≡_ {A = ℕ} 0 1 = cc in omega arith) (λ e. let u : _≡_ {A = ℕ} 0 1 = cc in omega arith);
+            range = refl;
             quiet = λ k e d. let u : _≡_ {A = ℕ} 0 1 = cc in absurd (omega arith);
             few = λ p. few-ops;
             power = λ p. record { enough = λ m. (refl, omega (arith, done-is, enough, need-is)); short = λ m. absurd (omega (arith, need-is, enough)) };
@@ -252,6 +245,7 @@ module _ (n : ℕ) (torn : List ℕ) (s : State) (i i' : List ℕ) (b : ℕ) (z 
             cut = λ p m. absurd (omega (arith, need-is, enough));
           };
           bytes = λ p. format-bytes;
+          legal = λ p. format-allowed;
           off = λ e. let u : _≡_ {A = ℕ} 0 1 = cc in absurd (omega arith);
         })
 

@@ -1,77 +1,114 @@
 -- The promise about the calls of this crate. A step of a list is what `step` ensures of one call, so each law here is about the code:
--- any list of calls that follows a finished format, cut anywhere, with any torn bytes, answers as the plain store does. Assumes nothing.
+-- any list of calls from a start, cut anywhere, with any torn bytes, mounts given any state, answers as the plain store does. Assumes nothing.
 use mathlib.Core.Path.{_≡_, refl}
-use mathlib.Core.Logic.{_⊎_}
-use mathlib.Core.Bool.{Bool}
-use mathlib.Core.List.{List, [], _∷_, _++_, map}
-use Prim.Native.Nat.{ℕ, _<_}
+use mathlib.Core.Bool.{false}
+use mathlib.Core.List.{List}
+use Prim.Native.Nat.{ℕ}
 use lib.ListN.{length}
-use Rattle.chip.specs.Geometry.{small}
-use Rattle.tree.specs.Step6.{top}
-use Rattle.promise.specs.Plain.{Answer, refuses, lookedUp, plainRun, cuts, enoughWrites, enoughMarks}
-use Rattle.promise.specs.History.{Log, noLog, lastLog, valueOf, NoFormat}
-use Rattle.promise.specs.Steps.{Act, lookUp, commit, mount, Step, Allowed, Uncut, one, Takes, Runs, RunsAny, Formatted, starts, Agrees, AgreesAny, promised, choices, lastImage, seen, feeds, expected}
-use Rattle.promise.proofs.Promise.{promise}
-use Rattle.promise.proofs.Choices.{one-claim, choices-then}
-use Rattle.promise.proofs.Formats.{promise-any}
-use Rattle.promise.proofs.Limits.{Enough, enough, commit-refused, mount-refused}
-use Rattle.promise.proofs.Durable.{FinishedCommit, FinishedMount}
-use Rattle.promise.proofs.Trees.{AllKeysFit}
-use Rattle.promise.proofs.Values.{AllLeave, durable-key}
+use Rattle.lists.proofs.Tests.{clash}
+use Rattle.chip.specs.Geometry.{small, blocksOf}
+use Rattle.tree.specs.Tree.{Table}
+use Rattle.promise.specs.Plain.{accepted, leaf}
+use Rattle.promise.specs.Calls as C
+use Rattle.promise.specs.Calls.{means}
+use Rattle.promise.specs.Image.{imageMeaning}
+use Rattle.promise.specs.Steps.{Step, boots, one, Takes, Mounted, Started, Formatted}
+use Rattle.promise.specs.History.{TreeOf, LawfulAct}
+use Rattle.promise.specs.Promise as P
+use Rattle.promise.proofs.Promise.{format-starts, mount-mounts}
+use Rattle.promise.proofs.Trees.{insert-lawful, delete-lawful}
+use Rattle.promise.proofs.Claims as L
+use Rattle.promise.proofs.Durable as D
 use Rattle.store.specs.declared.state.State.{State}
+use Rattle.store.specs.declared.step.Call.{Call}
+use Rattle.store.specs.declared.step.Call.the-variants.{Format, Insert, Delete, LookUp, Commit, Mount}
+use Rattle.store.specs.declared.step.Stepped.{Stepped}
+use Rattle.store.specs.Answers.{answerOf}
+use Rattle.store.specs.State.{Room}
 use Rattle.store.specs.Contracts.{index}
+use Rattle.store.specs.Step.{actOf, KeyBits, StepsBy}
+use Rattle.store.proofs.StepLaws.{step-allowed}
+use Rattle.store.proofs.StartTree.{mounted-tree}
 
--- a step of the code, lent the one image whole, is a step of a list
-pub step-takes : (a : Act) (s : State) (i : List ℕ) (r : Answer) (ops : ℕ) (s' : State) (i' : List ℕ) → Allowed small (index small) a s i r ops s' i' → Uncut a r
-    → Takes small (index small) s i (record { act = a; lent = i; left = i'; answer = r; ops = ops; state = s'; image = i' })
-step-takes a s i r ops s' i' h u = record { allowed = h; lends = one refl refl; uncut = u }
+-- a step of the code that was lent the one image whole
+abbrev pub stepped : Call → (torn : List ℕ) → State → (image : List ℕ) → Stepped → (left : List ℕ) → Step (index small)
+stepped call torn s i r i' =
+    record { act = actOf call torn; given = s; lent = i; left = i'; answer = answerOf (r .answer); ops = r .ops; state = r .state; image = i' }
 
-module _ (s : State) (i : List ℕ) (xs : List (Step (index small))) (f : Formatted small (index small) s i) where
-  -- every answer is the plain store's, and after each call the image means its K and G
-  pub index-promise : Runs small (index small) s i xs → Agrees small (index small) (starts small (index small) i) i xs
-  index-promise r = promise small (index small) s i xs f r
+-- it is a step of a list: a mount or a format from any state, another call from the state at hand
+pub step-takes : (H : State → Type 0) (call : Call) (torn : List ℕ) (s : State) (i : List ℕ) (r : Stepped) (i' : List ℕ) → StepsBy call torn s i r i'
+    → (boots (actOf call torn) ≡ false → H s) → Takes small (index small) H i (stepped call torn s i r i')
+step-takes H call torn s i r i' h u = record { allowed = step-allowed call torn s i r i' h; lends = one refl refl; handed = u }
 
-  -- in one claim: one choice for each cut commit, with which all answers and meanings are the plain store's
-  pub index-claim : Runs small (index small) s i xs
-      → (cs : List Bool) × (length cs ≡ cuts (feeds (index small) xs))
-      × (map (seen (index small)) xs ≡ map expected (plainRun small (starts small (index small) i) cs (feeds (index small) xs)))
-  index-claim r = one-claim small (index small) s i xs f r
+-- a box that was without power: a mount and a format go on with a list whatever state they are given
+pub mount-takes : (H : State → Type 0) (n : ℕ) (torn : List ℕ) (s : State) (i : List ℕ) (r : Stepped) (i' : List ℕ) → StepsBy (Mount n) torn s i r i'
+    → Takes small (index small) H i (stepped (Mount n) torn s i r i')
+mount-takes H n torn s i r i' h = step-takes H (Mount n) torn s i r i' h (λ e. clash refl e)
 
-  -- with formats that are cut: nothing is promised from there to the next finished one
-  pub index-any : RunsAny small (index small) s i xs → AgreesAny small (index small) (promised (starts small (index small) i)) i xs
-  index-any r = promise-any small (index small) s i xs f r
+pub format-takes : (H : State → Type 0) (n : ℕ) (torn : List ℕ) (s : State) (i : List ℕ) (r : Stepped) (i' : List ℕ) → StepsBy (Format n) torn s i r i'
+    → Takes small (index small) H i (stepped (Format n) torn s i r i')
+format-takes H n torn s i r i' h = step-takes H (Format n) torn s i r i' h (λ e. clash refl e)
 
--- the choice of a cut commit depends on nothing that comes later
-pub index-choices : (xs ys : List (Step (index small))) (i : List ℕ)
-    → choices (index small) i (xs ++ ys) ≡ choices (index small) i xs ++ choices (index small) (lastImage (index small) i xs) ys
-index-choices xs ys i = choices-then small (index small) xs ys i
+-- ---- where a list starts
+-- a finished format is a start, and so is a finished mount of an image that has room; there K is a tree of the chip
+pub index-starts : (s : State) (i : List ℕ) → Formatted small (index small) s i → Started small (index small) (leaf (blocksOf small (length i))) 1 s i
+index-starts = format-starts small (index small)
 
--- at any place x of a list
-module _ (s : State) (i : List ℕ) (xs ys : List (Step (index small))) (x : Step (index small)) (f : Formatted small (index small) s i)
-    (r : Runs small (index small) s i (xs ++ (x ∷ ys))) where
-  -- a commit or format with an allowance of 2,000 or more, or a mount with 255 or more, isn't cut
-  pub index-enough : Enough (x .act) → x .answer ≡ refuses 10 → ⊥
-  index-enough h e = enough small (index small) s i xs ys x f r h e
+pub index-mounts : (n : ℕ) (torn : List ℕ) (s : State) (i : List ℕ) (ops : ℕ) (s' : State) (i' : List ℕ) (K : Table) (G : ℕ)
+    → imageMeaning small i ≡ means K G → C.Mount small (index small) n torn s i accepted ops s' i' → Mounted small (index small) K G s' i' × (Room small i → Started small (index small) K G s' i')
+index-mounts = mount-mounts small (index small)
 
-  -- a commit is refused with 2, 1, 6 or 10 only, and 10 means too small an allowance: never for want of room
-  pub index-commit : (n m : ℕ) (torn : List ℕ) → x .act ≡ commit n torn → x .answer ≡ refuses m
-      → (m ≡ 2) ⊎ ((m ≡ 1) ⊎ ((m ≡ 6) ⊎ ((m ≡ 10) × (n < enoughWrites))))
-  index-commit n m torn e a = commit-refused small (index small) s i xs ys x f r n m torn e a
+pub index-tree : (K : Table) (G : ℕ) (s : State) (i : List ℕ) → Mounted small (index small) K G s i → TreeOf (blocksOf small (length i)) K
+index-tree = mounted-tree
 
-  -- no mount of a list gives 7, 8 or 9
-  pub index-mount : (n m : ℕ) (torn : List ℕ) → x .act ≡ mount n torn → x .answer ≡ refuses m → (m ≡ 1) ⊎ ((m ≡ 10) × (n < enoughMarks))
-  index-mount n m torn e a = mount-refused small (index small) s i xs ys x f r n m torn e a
+-- the calls of the code, their keys of 32 bits, are lawful
+pub index-lawful : (c : Call) (torn : List ℕ) → KeyBits c → LawfulAct (actOf c torn)
+index-lawful (Format n) torn h = tt
+index-lawful (Insert k v) torn h = insert-lawful k v h
+index-lawful (Delete k) torn h = delete-lawful k h
+index-lawful (LookUp k) torn h = tt
+index-lawful (Commit n) torn h = tt
+index-lawful (Mount n) torn h = tt
 
--- what a finished commit x kept is found after every later finished mount z, until the next finished format: the look up w of a key that no
--- call in between inserts or deletes tells the value that the updates up to x gave it
-module _ (s : State) (i : List ℕ) (xs ys vs : List (Step (index small))) (x z : Step (index small)) (f : Formatted small (index small) s i)
-    (r : Runs small (index small) s i ((xs ++ (x ∷ (ys ++ (z ∷ [])))) ++ vs)) (n : NoFormat (index small) ys) (m : FinishedMount small (index small) z) where
-  -- the history up to x
-  abbrev pub keptBefore : Log
-  keptBefore = lastLog small (index small) (starts small (index small) i) i xs noLog
+-- ---- what holds of every list
+pub index-promise : P.Promise small (index small)
+index-promise = L.promise small (index small)
 
-  pub index-durable : (k : ℕ) (w : Step (index small)) (ws : List (Step (index small))) → vs ≡ w ∷ ws → FinishedCommit small (index small) x
-      → AllLeave (index small) k ys → AllKeysFit small (index small) (xs ++ (x ∷ (ys ++ (z ∷ [])))) → k < top → w .act ≡ lookUp k
-      → (w .answer ≡ refuses 1 → ⊥) → (w .answer ≡ refuses 2 → ⊥)
-      → w .answer ≡ lookedUp (valueOf k (keptBefore .pending ++ keptBefore .kept))
-  index-durable k w ws e c q h b a n1 n2 = durable-key small (index small) s i xs ys vs x z f r n m k w ws e c q h b a n1 n2
+pub index-claim : P.OneClaim small (index small)
+index-claim = L.one-claim small (index small)
+
+pub index-choices : P.ChosenThen small (index small)
+index-choices = L.chosen-then small (index small)
+
+pub index-any : P.PromiseAny small (index small)
+index-any = L.promise-any small (index small)
+
+pub index-foreign : P.PromiseForeign small (index small)
+index-foreign = L.promise-foreign small (index small)
+
+pub index-good : P.GoodAt small (index small)
+index-good = L.good-at small (index small)
+
+pub index-commit : P.CommitRefused small (index small)
+index-commit = L.commit-refused small (index small)
+
+pub index-mount : P.MountRefused small (index small)
+index-mount = L.mount-refused small (index small)
+
+pub index-format : P.FormatRefused small (index small)
+index-format = L.format-refused small (index small)
+
+pub index-power : P.CommitPowered small (index small)
+index-power = L.commit-powered small (index small)
+
+pub index-look-up : P.LookUpTells small (index small)
+index-look-up = D.look-up-tells small (index small)
+
+pub index-durable : P.Durable small (index small)
+index-durable = D.durable small (index small)
+
+pub index-choice : P.ChoiceHolds small (index small)
+index-choice = D.choice-holds small (index small)
+
+pub index-mount-drops : P.MountDrops small (index small)
+index-mount-drops = D.mount-drops small (index small)

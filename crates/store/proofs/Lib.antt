@@ -9,7 +9,9 @@ pub mod NextLaws
 pub mod MarkCount
 pub mod Mounting
 pub mod ReportLaws
-pub mod CallLaws
+pub mod StartTree
+pub mod LookLaws
+pub mod UpdateTests
 pub mod UpdateLaws
 pub mod CommitTests
 pub mod CommitPlan
@@ -17,6 +19,8 @@ pub mod CommitGood
 pub mod CommitDone
 pub mod CommitState
 pub mod Starred
-pub mod IndexPromise
 pub mod StepLaws
+pub mod IndexPromise
 pub mod PartLaws
+pub mod LentLists
+pub mod RunsToLaws

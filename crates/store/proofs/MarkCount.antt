@@ -1,14 +1,14 @@
 -- How many marks a mount sets: an image with a meaning is a chip, and has fewer than 255 void pages. Assumes nothing.
-use mathlib.Core.Path.{_≡_, refl, sym, ap, _∙_}
-use mathlib.Core.Bool.{true, not, _&&_}
+use mathlib.Core.Path.{_≡_, refl, ap, _∙_}
+use mathlib.Core.Bool.{true, not}
 use mathlib.Core.List.{List, [], _∷_}
-use Prim.Native.Nat.{ℕ, _*_, _/_, _≤_, _<_}
+use Prim.Native.Nat.{ℕ, _*_, _≤_, _<_}
 use native.Mathlib.Omega.{arith}
-use lib.Dec.{eqb, ltb, leb}
+use lib.Dec.{ltb}
 use lib.ListN.{length, getD}
-use borrow.Author.Tests.{eqb-true, leb-true, ltb-true, ltb-false}
-use Rattle.lists.proofs.Tests.{cases, clash, and-left, and-right}
-use Rattle.chip.specs.Geometry.{small, blocksOf, isChip}
+use borrow.Author.Tests.{ltb-true, ltb-false}
+use Rattle.lists.proofs.Tests.{cases, clash}
+use Rattle.chip.specs.Geometry.{small, blocksOf}
 use Rattle.chip.specs.Chip.{pagesOf}
 use Rattle.tree.specs.Tree.{Table}
 use Rattle.tree.specs.Step6.{step6}
@@ -16,9 +16,7 @@ use Rattle.log.specs.Mount.{mountOps}
 use Rattle.log.proofs.MountLaws.{mount-few}
 use Rattle.promise.specs.Calls.{means}
 use Rattle.promise.specs.Image.{imageMeaning}
-use Rattle.promise.specs.Plain.{isChipSize, isTornSize, when}
 use Rattle.promise.proofs.Images.{image-tree}
-use Rattle.store.specs.Admit.{ChipOf, Sized}
 use Rattle.store.proofs.SizeLaws.{chip-of}
 
 -- an image that is no chip has no meaning: it has no node

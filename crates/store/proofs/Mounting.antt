@@ -10,6 +10,7 @@ use borrow.Author.Tests.{ltb-true, ltb-false}
 use Rattle.lists.specs.Lists.{All, none, more, At, filter}
 use Rattle.lists.proofs.Tests.{cases}
 use Rattle.lists.proofs.Alls.{All-filter}
+use Rattle.lists.proofs.Places.{at-seam}
 use Rattle.chip.specs.declared.power.Power as W
 use Rattle.chip.specs.declared.power.Power.the-variants.{Left}
 use Rattle.chip.specs.Geometry.{Geometry, small, blocksOf}
@@ -23,25 +24,27 @@ use Rattle.views.specs.Table as Views
 use Rattle.views.specs.Table.{Node}
 use Rattle.views.proofs.ViewLaws.{Apart, apart-filter, apart-live}
 use Rattle.tree.specs.Tree.{Table}
-use Rattle.log.specs.Mount.{mountOps, mounted, retireOps}
-use Rattle.log.specs.Plan.{hasRoom, spareBlocks}
-use Rattle.log.proofs.MountLaws.{mount-keeps, mount-clean, mount-gone, mount-done, image-sized}
+use Rattle.log.specs.Mount.{mountOps, mountedBy}
+use Rattle.log.specs.Policy.{hasRoom, spareBlocks}
+use Rattle.log.proofs.MountLaws.{mount-legal, mount-keeps, mount-clean, mount-gone, mount-done, image-sized}
 use Rattle.log.proofs.PlanBlocks.{has-room, room-has}
 use Rattle.log.proofs.PlanRoom.{LiveAt, obsoletes, room-marks}
-use Rattle.promise.specs.Plain.{Plain, mounts, firstRefusal, refuses}
+use Rattle.log.specs.MountCode.{retireOps}
+use Rattle.promise.specs.Plain.{Plain, mounts, firstRefusal, refuses, resting}
+use Rattle.promise.specs.Plain as Plain
 use Rattle.promise.specs.Calls as P
-use Rattle.promise.specs.Calls.{invalid, mountedAt}
+use Rattle.promise.specs.Calls.{invalid, isOneOf, acceptsOr}
 use Rattle.promise.specs.Image.{viewsOf, bySix, imageMeaning}
 use Rattle.store.specs.declared.answer.Answer.{Answer}
-use Rattle.store.specs.declared.answer.Answer.the-variants.{Size, Power}
+use Rattle.store.specs.declared.answer.Answer.the-variants.{Size, Cut}
 use Rattle.store.specs.declared.state.State.{State}
 use Rattle.store.specs.declared.state.Wrote.{Wrote}
 use Rattle.store.specs.Answers.{answerOf}
-use Rattle.store.specs.Admit.{ChipOf, Sized}
+use Rattle.store.specs.AdmitCode.{ChipOf, Sized}
 use Rattle.store.specs.State.{RoomIn, Room}
-use Rattle.store.specs.Fresh.{NextOf, mountedState}
-use Rattle.store.specs.Check.{marksOf, Read}
-use Rattle.store.specs.Ending.{refusedWith, acceptedWith, endedWith}
+use Rattle.store.specs.FreshCode.{NextOf, mountedState}
+use Rattle.store.specs.CheckCode.{marksOf, Read}
+use Rattle.store.specs.EndingCode.{refusedWith, acceptedWith, endedWith}
 use Rattle.store.specs.Contracts.{index, Mounts}
 use Rattle.store.proofs.EndingLaws.{either-end}
 use Rattle.store.proofs.SizeLaws.{admitted, not-admitted}
@@ -49,10 +52,6 @@ use Rattle.store.proofs.MarkCount.{marks-few}
 use Rattle.store.proofs.Begun.{Begun, begun-good, begun-state}
 
 -- ---- every live page is live where it stands
-at-seam : (pre : List Page) (x : Page) (xs : List Page) → At (length pre) x (pre ++ x ∷ xs)
-at-seam [] x xs = refl
-at-seam (p ∷ pre) x xs = at-seam pre x xs
-
 live-from : (g : Geometry) (pre ps : List Page) (i : ℕ) → i ≡ length pre → All (LiveAt g (pre ++ ps)) (liveFrom g i ps)
 live-from g pre [] i e = none
 live-from g pre (x ∷ xs) i e =
@@ -70,11 +69,11 @@ module _ (i : List ℕ) (nodes : List Node) (G : ℕ)
 
   room-open : Room small i → Spare
   unfolding Room
-  room-open h = subst (λ (x : Views.Meaning). RoomIn small i x) m h
+  room-open h = subst (λ (x : Views.NodesRead). RoomIn small i x) m h
 
   room-shut : Spare → Room small i
   unfolding Room
-  room-shut h = subst (λ (x : Views.Meaning). RoomIn small i x) (sym m) h
+  room-shut h = subst (λ (x : Views.NodesRead). RoomIn small i x) (sym m) h
 
 -- ---- a mount refused by its sizes
 module _ (allowance : ℕ) (torn : List ℕ) (s : State) (i : List ℕ) (bytes : (j : ℕ) → getD i j 0 < 256) where
@@ -88,11 +87,12 @@ module _ (allowance : ℕ) (torn : List ℕ) (s : State) (i : List ℕ) (bytes :
       record {
         says = record {
           first = record {
-            refused = λ n e. let q : suc n ≡ 1 = omega arith in (ap refuses (sym q), refl, refl);
+            refused = λ n e. let q : suc n ≡ 1 = omega arith in (ap refuses (sym q), record { state = refl; image = refl });
             not1 = λ e q. never e;
             not2 = λ e q. never e;
             sameSize = refl;
           };
+          range = refl;
           quiet = λ n e d. refl;
           few = marks-few i bytes;
           refused = λ e n m. absurd (never e);
@@ -102,6 +102,7 @@ module _ (allowance : ℕ) (torn : List ℕ) (s : State) (i : List ℕ) (bytes :
           cut = λ e K G m l. absurd (never e);
         };
         bytes = λ e K G m. absurd (never e);
+        legal = mount-legal small (pagesOf small i);
         off = λ e n q. absurd (never e);
       }
 
@@ -111,8 +112,8 @@ module _ (allowance : ℕ) (torn : List ℕ) (s : State) (i : List ℕ) (bytes :
     passes = admitted b (length i) (length torn) chip long
 
     -- refused for what the image means
-    pub invalid-mounts : (a : Answer) (n : ℕ) → answerOf a ≡ refuses n → 2 < n → imageMeaning small i ≡ invalid n → Mounts allowance torn s i (refusedWith a 0 s) i
-    invalid-mounts a n is low m =
+    pub invalid-mounts : (a : Answer) (n : ℕ) → answerOf a ≡ refuses n → 2 < n → isOneOf n (1 ∷ 7 ∷ 8 ∷ 9 ∷ 10 ∷ []) ≡ true → imageMeaning small i ≡ invalid n → Mounts allowance torn s i (refusedWith a 0 s) i
+    invalid-mounts a n is low kind m =
         let zero : first ≡ 0 = passes in
         let no : (K : Table) (G : ℕ) → imageMeaning small i ≡ P.means K G → ⊥ = λ K G e. let u : _≡_ {A = ℕ} 0 1 = cc in omega arith in
         record {
@@ -123,6 +124,7 @@ module _ (allowance : ℕ) (torn : List ℕ) (s : State) (i : List ℕ) (bytes :
               not2 = λ e q. let u : n ≡ 2 = cc in omega arith;
               sameSize = refl;
             };
+            range = subst (λ (x : Plain.Answer). acceptsOr (1 ∷ 7 ∷ 8 ∷ 9 ∷ 10 ∷ []) x ≡ true) (sym is) kind;
             quiet = λ k e d. refl;
             few = marks-few i bytes;
             refused = λ e k q. (cc, refl, refl, refl);
@@ -132,6 +134,7 @@ module _ (allowance : ℕ) (torn : List ℕ) (s : State) (i : List ℕ) (bytes :
             cut = λ e K G q l. absurd (no K G q);
           };
           bytes = λ e K G q. absurd (no K G q);
+          legal = mount-legal small (pagesOf small i);
           off = λ e k q. refl;
         }
 
@@ -144,10 +147,10 @@ module _ (allowance : ℕ) (torn : List ℕ) (s : State) (i : List ℕ) (bytes :
       abbrev limit : ℕ
       limit = 8 * blocksOf small (length i)
 
-      is-mounted : machine small left i' ≡ mounted small torn allowance ps
+      is-mounted : machine small left i' ≡ mountedBy small torn allowance ps
       is-mounted = ran .is ∙ ap (run small torn (machine small (Left allowance) i)) (sym (rd .marks))
 
-      pages-are : pagesOf small i' ≡ mounted small torn allowance ps .pages
+      pages-are : pagesOf small i' ≡ mountedBy small torn allowance ps .pages
       pages-are = ap (λ (m : Machine). m .pages) is-mounted
 
       gone-is : isGone left ≡ ltb allowance (length (mountOps small ps))
@@ -204,7 +207,7 @@ module _ (allowance : ℕ) (torn : List ℕ) (s : State) (i : List ℕ) (bytes :
       never-invalid n e = let m = means-is in let u : _≡_ {A = ℕ} 0 1 = cc in omega arith
 
       -- ---- cut
-      cut-mounts : (n : ℕ) → n ≡ done allowance left → isGone left ≡ true → Mounts allowance torn s i (refusedWith Power n s) i'
+      cut-mounts : (n : ℕ) → n ≡ done allowance left → isGone left ≡ true → Mounts allowance torn s i (refusedWith Cut n s) i'
       cut-mounts n e g =
           let zero : first ≡ 0 = passes in
           let short : allowance < length (mountOps small ps) = ltb-true allowance (length (mountOps small ps)) (sym gone-is ∙ g) in
@@ -217,6 +220,7 @@ module _ (allowance : ℕ) (torn : List ℕ) (s : State) (i : List ℕ) (bytes :
                 not2 = λ q r. let u : _≡_ {A = ℕ} 10 2 = cc in omega arith;
                 sameSize = ran .size;
               };
+              range = refl;
               quiet = λ k q d. let u : 10 ≡ k = cc in absurd (d (sym u));
               few = marks-few i bytes;
               refused = λ q k m. absurd (never-invalid k m);
@@ -226,6 +230,7 @@ module _ (allowance : ℕ) (torn : List ℕ) (s : State) (i : List ℕ) (bytes :
               cut = λ q K H m l. refl;
             };
             bytes = λ q K H m. pages-are;
+            legal = mount-legal small (pagesOf small i);
             off = λ q k r. refl;
           }
 
@@ -258,8 +263,8 @@ module _ (allowance : ℕ) (torn : List ℕ) (s : State) (i : List ℕ) (bytes :
             (record { kept = K'; present = K'; pending = 0; number = H'; on = true; blocks = a' })
         plain-same K K' H H' a a' p q r = rw (p, q, r)
 
-        is-done : (K : Table) (H : ℕ) → imageMeaning small i ≡ P.means K H → P.stateOf (index small) st i' ≡ mountedAt small K H (length i)
-        unfolding mountedAt
+        is-done : (K : Table) (H : ℕ) → imageMeaning small i ≡ P.means K H → P.stateOf (index small) st i' ≡ resting K H (blocksOf small (length i))
+        unfolding resting
         is-done K H m =
             let e = means-is in
             let p : viewsOf (rd .nodes) ≡ K = cc in
@@ -279,6 +284,7 @@ module _ (allowance : ℕ) (torn : List ℕ) (s : State) (i : List ℕ) (bytes :
                   not2 = λ q r. let u : _≡_ {A = ℕ} 0 1 = cc in omega arith;
                   sameSize = ran .size;
                 };
+                range = refl;
                 quiet = λ k q d. let u : _≡_ {A = ℕ} 0 1 = cc in absurd (omega arith);
                 few = marks-few i bytes;
                 refused = λ q k m. absurd (never-invalid k m);
@@ -288,6 +294,7 @@ module _ (allowance : ℕ) (torn : List ℕ) (s : State) (i : List ℕ) (bytes :
                 cut = λ q K H m l. absurd (omega arith);
               };
               bytes = λ q K H m. pages-are;
+              legal = mount-legal small (pagesOf small i);
               off = λ q k r. let u : _≡_ {A = ℕ} 0 1 = cc in absurd (omega arith);
             }
 

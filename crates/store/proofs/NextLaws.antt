@@ -7,7 +7,7 @@ use lib.Dec.{ltb}
 use lib.ListN.{getD}
 use borrow.Author.Tests.{ltb-true, ltb-false}
 use Rattle.lists.proofs.Tests.{cases}
-use Rattle.store.specs.Fresh.{NextOf}
+use Rattle.store.specs.FreshCode.{NextOf}
 
 -- the lists from n on are empty
 abbrev pub EmptyFrom : ℕ → List ℕ → ℕ → Type 0

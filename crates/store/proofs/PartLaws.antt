@@ -1,7 +1,5 @@
 -- A state by value as the state that its parts make. Assumes nothing.
 use mathlib.Core.Path.{_≡_, sym, ap, subst}
-use mathlib.Core.List.{List}
-use Prim.Native.Nat.{ℕ}
 use Rattle.store.specs.declared.state.Numbers.{Numbers}
 use Rattle.store.specs.declared.state.State.{State}
 use Rattle.store.specs.Parts.{joined, numbersOf}

@@ -12,7 +12,7 @@ use Rattle.lists.proofs.Parts.{length-part, length-cut, cut-append}
 use Rattle.chip.specs.Geometry.{small}
 use Rattle.chip.specs.Page.{isFree}
 use Rattle.chip.specs.Chip.{pagesOf}
-use Rattle.promise.specs.Plain.{looksUp, firstRefusal, orElse, when}
+use Rattle.promise.specs.Plain.{admission, orElse, when}
 use Rattle.store.specs.declared.answer.Report.{Report}
 use Rattle.store.specs.declared.answer.Report.the-variants.{Free, Absent}
 use Rattle.store.specs.declared.state.State.{State}
@@ -51,7 +51,7 @@ first-or (suc n) m h = refl
 
 module _ (b : ℕ) (s : State) (i : List ℕ) where
   -- refused with 2 or 1
-  pub report-first : (r : Report) → 0 < reportRefusal r → reportRefusal r ≡ firstRefusal small (s .on) (s .blocks) (looksUp 0 (length i)) → Reports b s i r
+  pub report-first : (r : Report) → 0 < reportRefusal r → reportRefusal r ≡ admission small (s .on) (s .blocks) (length i) → Reports b s i r
   report-first r h e =
       record {
         refusal = first-or (reportRefusal r) (when 4 (leb (s .blocks) b)) h ∙ ap (λ (m : ℕ). orElse m (when 4 (leb (s .blocks) b))) e;
@@ -59,7 +59,7 @@ module _ (b : ℕ) (s : State) (i : List ℕ) where
         first = λ z. absurd (omega arith);
       }
 
-  module _ (e : 0 ≡ firstRefusal small (s .on) (s .blocks) (looksUp 0 (length i))) where
+  module _ (e : 0 ≡ admission small (s .on) (s .blocks) (length i)) where
     number-is : (n : ℕ) → n ≡ when 4 (leb (s .blocks) b) → n ≡ reportNumber small s (length i) b
     number-is n q = q ∙ ap (λ (m : ℕ). orElse m (when 4 (leb (s .blocks) b))) e
 

@@ -9,7 +9,7 @@ use Rattle.lists.proofs.Tests.{cases}
 use Rattle.chip.specs.Geometry.{small, blocksOf}
 use Rattle.chip.proofs.Sizes.{chip-size}
 use Rattle.promise.specs.Plain.{when, isChipSize, isTornSize}
-use Rattle.store.specs.Admit.{ChipOf, Sized}
+use Rattle.store.specs.AdmitCode.{ChipOf, Sized}
 
 -- an image that has blocks is a chip
 pub chip-of : (b len : ℕ) → b ≡ blocksOf small len → (b ≡ 0 → ⊥) → ChipOf b len

@@ -1,10 +1,11 @@
--- One call of any kind: each call's contract is the step that the promise is about. Assumes nothing.
-use mathlib.Core.Path.{_≡_, refl, sym, ap, subst}
+-- One call of any kind: what each call gives back is a step, and a step is one that the promise allows. Assumes nothing.
+use mathlib.Core.Path.{_≡_, refl, sym, subst}
 use mathlib.Core.List.{List}
 use Prim.Native.Nat.{ℕ}
 use Rattle.chip.specs.Geometry.{small}
-use Rattle.promise.specs.Calls as P
+use Rattle.promise.specs.Calls as C
 use Rattle.promise.specs.Plain as Plain
+use Rattle.promise.specs.Steps as P
 use Rattle.promise.specs.Steps.{Allowed}
 use Rattle.store.specs.declared.answer.Look as L
 use Rattle.store.specs.declared.answer.Look.the-variants.{Found, Absent, Off, Size}
@@ -16,11 +17,7 @@ use Rattle.store.specs.declared.step.Call.the-variants.{Format, Insert, 
 use Rattle.store.specs.declared.step.Stepped.{Stepped}
 use Rattle.store.specs.Answers.{answerOf, lookOf}
 use Rattle.store.specs.Contracts.{index, Formats, Mounts, Commits, Looks, Inserts, Deletes}
-use Rattle.store.specs.Step.{actOf, ofWrote, ofUpdated, answerIn, ofLook}
-
--- what `step` ensures
-abbrev pub Steps : Call → List ℕ → State → List ℕ → Stepped → List ℕ → Type 0
-Steps call torn s i r i' = Allowed small (index small) (actOf call torn) s i (answerOf (r .answer)) (r .ops) (r .state) i'
+use Rattle.store.specs.Step.{actOf, ofWrote, ofUpdated, answerIn, ofLook, StepsBy}
 
 -- the answer of a look up is one of the promise's
 pub look-answer : (l : L.Look) → answerOf (answerIn l) ≡ lookOf l
@@ -29,27 +26,46 @@ look-answer (Absent n) = refl
 look-answer Off = refl
 look-answer Size = refl
 
+-- the whole contract of a call is what the promise allows
+look-allowed : (k : ℕ) (s : State) (i : List ℕ) (l : L.Look) → Looks k s i l → Allowed small (index small) (P.lookUp k) s i (answerOf (answerIn l)) 0 s i
+look-allowed k s i l h = subst (λ (a : Plain.Answer). C.LookUp small (index small) k s i a s i) (sym (look-answer l)) (h .says)
+
+same-image : (P : List ℕ → Type 0) (i i' : List ℕ) → i' ≡ i → P i → P i'
+same-image P i i' e h = subst P (sym e) h
+
+abbrev AllowedBy : Call → List ℕ → State → List ℕ → Stepped → List ℕ → Type 0
+AllowedBy call torn s i r i' = Allowed small (index small) (actOf call torn) s i (answerOf (r .answer)) (r .ops) (r .state) i'
+
+pub step-allowed : (call : Call) (torn : List ℕ) (s : State) (i : List ℕ) (r : Stepped) (i' : List ℕ) → StepsBy call torn s i r i' → AllowedBy call torn s i r i'
+step-allowed (Format n) torn s i r i' h = h .says
+step-allowed (Insert k v) torn s i r i' h = same-image (λ (x : List ℕ). AllowedBy (Insert k v) torn s i r x) i i' (h .image) (h .says .says)
+step-allowed (Delete k) torn s i r i' h = same-image (λ (x : List ℕ). AllowedBy (Delete k) torn s i r x) i i' (h .image) (h .says .says)
+step-allowed (LookUp k) torn s i r i' h =
+    same-image (λ (x : List ℕ). AllowedBy (LookUp k) torn s i r x) i i' (h .image)
+    (subst (λ (y : Stepped). AllowedBy (LookUp k) torn s i y i) (sym (h .is)) (look-allowed k s i (h .look) (h .says)))
+step-allowed (Commit n) torn s i r i' h = h .says
+step-allowed (Mount n) torn s i r i' h = h .says
+
 module _ (call : Call) (torn : List ℕ) (s : State) (i : List ℕ) (r : Stepped) where
   -- of a call that is this one, with what is given back in this form
-  by : (k : Call) → call ≡ k → (x : Stepped) → r ≡ x → (i' : List ℕ) → Steps k torn s i x i' → Steps call torn s i r i'
+  by : (k : Call) → call ≡ k → (x : Stepped) → r ≡ x → (i' : List ℕ) → StepsBy k torn s i x i' → StepsBy call torn s i r i'
   by k e x q i' h =
-      subst (λ (c : Call). Steps c torn s i r i') (sym e) (subst (λ (y : Stepped). Steps k torn s i y i') (sym q) h)
+      subst (λ (c : Call). StepsBy c torn s i r i') (sym e) (subst (λ (y : Stepped). StepsBy k torn s i y i') (sym q) h)
 
-  pub step-format : (n : ℕ) → call ≡ Format n → (w : Wrote) (i' : List ℕ) → r ≡ ofWrote w → Formats n torn s i w i' → Steps call torn s i r i'
-  step-format n e w i' q h = by (Format n) e (ofWrote w) q i' (h .says)
+  pub step-format : (n : ℕ) → call ≡ Format n → (w : Wrote) (i' : List ℕ) → r ≡ ofWrote w → Formats n torn s i w i' → StepsBy call torn s i r i'
+  step-format n e w i' q h = by (Format n) e (ofWrote w) q i' h
 
-  pub step-commit : (n : ℕ) → call ≡ Commit n → (w : Wrote) (i' : List ℕ) → r ≡ ofWrote w → Commits n torn s i w i' → Steps call torn s i r i'
-  step-commit n e w i' q h = by (Commit n) e (ofWrote w) q i' (h .says)
+  pub step-commit : (n : ℕ) → call ≡ Commit n → (w : Wrote) (i' : List ℕ) → r ≡ ofWrote w → Commits n torn s i w i' → StepsBy call torn s i r i'
+  step-commit n e w i' q h = by (Commit n) e (ofWrote w) q i' h
 
-  pub step-mount : (n : ℕ) → call ≡ Mount n → (w : Wrote) (i' : List ℕ) → r ≡ ofWrote w → Mounts n torn s i w i' → Steps call torn s i r i'
-  step-mount n e w i' q h = by (Mount n) e (ofWrote w) q i' (h .says)
+  pub step-mount : (n : ℕ) → call ≡ Mount n → (w : Wrote) (i' : List ℕ) → r ≡ ofWrote w → Mounts n torn s i w i' → StepsBy call torn s i r i'
+  step-mount n e w i' q h = by (Mount n) e (ofWrote w) q i' h
 
-  pub step-insert : (k v : ℕ) → call ≡ Insert k v → (u : Updated) → r ≡ ofUpdated u → Inserts k v s i u → Steps call torn s i r i
-  step-insert k v e u q h = by (Insert k v) e (ofUpdated u) q i (h .says)
+  pub step-insert : (k v : ℕ) → call ≡ Insert k v → (u : Updated) → r ≡ ofUpdated u → Inserts k v s i u → StepsBy call torn s i r i
+  step-insert k v e u q h = by (Insert k v) e (ofUpdated u) q i (record { says = h; ops = refl; image = refl })
 
-  pub step-delete : (k : ℕ) → call ≡ Delete k → (u : Updated) → r ≡ ofUpdated u → Deletes k s i u → Steps call torn s i r i
-  step-delete k e u q h = by (Delete k) e (ofUpdated u) q i (h .says)
+  pub step-delete : (k : ℕ) → call ≡ Delete k → (u : Updated) → r ≡ ofUpdated u → Deletes k s i u → StepsBy call torn s i r i
+  step-delete k e u q h = by (Delete k) e (ofUpdated u) q i (record { says = h; ops = refl; image = refl })
 
-  pub step-look : (k : ℕ) → call ≡ LookUp k → (l : L.Look) → r ≡ ofLook l s → Looks k s i l → Steps call torn s i r i
-  step-look k e l q h =
-      by (LookUp k) e (ofLook l s) q i (subst (λ (a : Plain.Answer). P.LookUp small (index small) k s i a s i) (sym (look-answer l)) (h .says))
+  pub step-look : (k : ℕ) → call ≡ LookUp k → (l : L.Look) → r ≡ ofLook l s → Looks k s i l → StepsBy call torn s i r i
+  step-look k e l q h = by (LookUp k) e (ofLook l s) q i (record { look = l; says = h; is = refl; image = refl })

@@ -1,6 +1,6 @@
 -- A good state after an insert or a delete. Assumes nothing.
 use mathlib.Core.Path.{_≡_, refl, sym, ap, ap₂, subst, _∙_}
-use mathlib.Core.Bool.{true, false}
+use mathlib.Core.Bool.{Bool, true, false}
 use mathlib.Core.List.{List, [], _∷_, _++_, map}
 use Prim.Native.Nat.{ℕ, zero, suc, _+_, _*_, _<_, _≤_}
 use native.Mathlib.Numerals.{add-one}
@@ -23,7 +23,7 @@ use Rattle.tree.specs.declared.find.Looked.{Looked}
 use Rattle.tree.specs.declared.find.Hit.the-variants.{At, Nothing}
 use Rattle.tree.specs.FindCode.{hitOf, Answers}
 use Rattle.tree.specs.Tree as T
-use Rattle.tree.specs.Tree.{Table, put, entriesAt, rootLevel, child, leafAt, Up, stop, gains, tableOf, halve, raise, hold, gain, pass, insertAt, inserted, Step, refusal, done, insert, delete, find}
+use Rattle.tree.specs.Tree.{Table, put, entriesAt, rootLevel, child, leafAt, Up, stop, gains, tableOf, halve, raise, fitOrSplit, gain, pass, insertAt, inserted, TreeStep, refusal, done, insert, delete, find}
 use Rattle.tree.specs.Step6.{top, Tree}
 use Rattle.tree.specs.Units.{anewAt, halveUnits, raiseUnits, holdUnits, gainUnits, insertUnitsAt, insertUnits, deleteUnits}
 use Rattle.tree.specs.Shown.{shown}
@@ -32,18 +32,19 @@ use Rattle.tree.proofs.Laws.{inserted-keeps, delete-keeps, insert-done}
 use Rattle.tree.proofs.Paths.{delete-leaf}
 use Rattle.tree.proofs.Units.{delete-units}
 use Rattle.tree.proofs.Validity.{Smalls, insert-valid, delete-valid}
-use Rattle.promise.specs.Plain.{refuses, isRefused, isAbsent, tableAfter, updated}
-use Rattle.promise.specs.Calls.{treeIn, stateOf, Stays}
+use Rattle.promise.specs.Plain as P
+use Rattle.promise.specs.Plain.{refuses, accepted, when, isRefused, isAbsent, tableAfter, insertion, deletion, updated}
+use Rattle.promise.specs.Calls.{treeIn, stateOf}
 use Rattle.promise.specs.Image.{imageMeaning}
 use lib.ListN.{length-map}
 use Rattle.store.specs.declared.answer.Answer.{Answer}
-use Rattle.store.specs.declared.answer.Answer.the-variants.{Accepted, Full, Absent, Nodes}
+use Rattle.store.specs.declared.answer.Answer.the-variants.{Accepted, Absent, Nodes}
 use Rattle.store.specs.declared.state.State.{State}
 use Rattle.store.specs.declared.state.Updated.{Updated}
 use Rattle.store.specs.Answers.{answerOf}
 use Rattle.store.specs.State.{limitOf, nodesOf, goods, unitsOf, presentOf, Good}
-use Rattle.store.specs.Contracts.{index}
-use Rattle.store.specs.Update.{withUnits, Refuses, stepOf, InsertsIn, DeletesIn}
+use Rattle.store.specs.Contracts.{index, KeepsBounds}
+use Rattle.store.specs.UpdateCode.{Stays, withUnits, InsertsIn, DeletesIn}
 
 -- ---- no view of the table is broken
 abbrev Whole : Table → Type 0
@@ -64,8 +65,8 @@ whole-raise : (l m : ℕ) (es : List Entry) (t : Table) → Whole t → Whole (r
 unfolding raise
 whole-raise l m es t h = whole-put 0 (suc l) _ (halve l m (suc m) es t) (whole-halve l m (suc m) es t h)
 
-whole-hold : (l n : ℕ) (es : List Entry) (t : Table) → Whole t → Whole (tableOf (hold l n es t))
-unfolding hold
+whole-hold : (l n : ℕ) (es : List Entry) (t : Table) → Whole t → Whole (tableOf (fitOrSplit l n es t))
+unfolding fitOrSplit
 whole-hold l n es t h =
     cases (leb (length es) 16)
     (λ p. rw p (whole-put n l es t h))
@@ -188,8 +189,8 @@ module _ (s : State) (i : List ℕ) (G : Good small s i) (low : s .pending < 16)
         })
         (p .table) (add-one (s .pending))
 
-    pub stays : Stays (index small) (withUnits s new used x) i i (updated t (stateOf (index small) s i))
-    stays = record { is = means-after; image = refl; good = good-after }
+    pub stays : Stays (withUnits s new used x) i (updated t (stateOf (index small) s i))
+    stays = record { is = means-after; good = good-after }
 
 -- ---- an insert and a delete of the tree, pushed
 module _ (k v : ℕ) (s : State) (i new : List ℕ) (G : Good small s i) (low : s .pending < 16) (hk : k < top) (hv : v < top) (hl : limitOf s ≤ 256) where
@@ -240,43 +241,38 @@ module _ (k : ℕ) (s : State) (i new : List ℕ) (used : ℕ) (G : Good small s
 abbrev pub answered : Answer → State → Updated
 answered a s = record { answer = a; state = s }
 
-refuses-with : (a : Answer) (n : ℕ) (s : State) → answerOf a ≡ refuses n → (n ≡ 1 → ⊥) → (n ≡ 2 → ⊥) → Refuses s (answered a s)
-refuses-with a n s e h1 h2 =
-    record {
-      same = λ _ _. refl;
-      not1 = λ d. h1 (let z : refuses n ≡ refuses 1 = sym e ∙ d in cc);
-      not2 = λ d. h2 (let z : refuses n ≡ refuses 2 = sym e ∙ d in cc);
-    }
+-- the answer to a test that gives the number suc n
+test-number : (n m : ℕ) (b : Bool) (a : P.Answer) → (b ≡ true → a ≡ refuses n) → when n b ≡ suc m → a ≡ refuses (suc m)
+test-number n m true a h e = h refl ∙ ap refuses e
+test-number n m false a h e = absurd (omega arith)
 
-accepts : (s s' : State) → Refuses s (answered Accepted s')
-accepts s s' =
-    record {
-      same = λ n d. (let z : _≡_ {A = ℕ} 0 1 = cc in absurd (omega arith));
-      not1 = λ d. (let z : _≡_ {A = ℕ} 0 1 = cc in absurd (omega arith));
-      not2 = λ d. (let z : _≡_ {A = ℕ} 0 1 = cc in absurd (omega arith));
-    }
+test-none : (n : ℕ) (b : Bool) → when (suc n) b ≡ 0 → b ≡ false
+test-none n true e = absurd (omega arith)
+test-none n false e = refl
+
+not-refused : {Q : Type 0} (n : ℕ) → answerOf Accepted ≡ refuses n → Q
+not-refused n d = let z : _≡_ {A = ℕ} 0 1 = cc in absurd (omega arith)
+
+-- the tree step of an insert into P
+abbrev stepOf : ℕ → ℕ → State → List ℕ → TreeStep
+stepOf k v s i = insert (8 * s .blocks) k v (presentOf small s i)
 
 module _ (s : State) (i : List ℕ) (low : s .pending < 16) where
+  stay : KeepsBounds s s
+  stay = record { blocks = refl; units = omega arith }
+
   -- more units than a good state has
   module _ (many : 900 < s .count) where
     never-many : Good small s i → ⊥
     never-many G = omega (arith, G .few)
 
-    pub insert-many : (k v : ℕ) → InsertsIn k v s i (answered Full s)
-    insert-many k v =
-        record {
-          plain = refuses-with Full 3 s refl (λ z. omega arith) (λ z. omega arith);
-          five = λ G. absurd (never-many G);
-          done = λ G. absurd (never-many G);
-        }
+    pub insert-many : (k v : ℕ) → InsertsIn k v s i (answered Nodes s)
+    unfolding insertion
+    insert-many k v = record { range = refl; still = λ _ _. refl; bounds = stay; refused = λ G. absurd (never-many G); done = λ G. absurd (never-many G) }
 
-    pub delete-many : (k : ℕ) → DeletesIn k s i (answered Full s)
-    delete-many k =
-        record {
-          plain = refuses-with Full 3 s refl (λ z. omega arith) (λ z. omega arith);
-          four = λ G. absurd (never-many G);
-          done = λ G. absurd (never-many G);
-        }
+    pub delete-many : (k : ℕ) → DeletesIn k s i (answered Absent s)
+    unfolding deletion
+    delete-many k = record { range = refl; still = λ _ _. refl; bounds = stay; refused = λ G. absurd (never-many G); done = λ G. absurd (never-many G) }
 
   module _ (k v : ℕ) (hk : k < top) (hv : v < top) (hl : limitOf s ≤ 256) (new : List ℕ) (r : Inserted)
       (a : I.Inserts i (s .lens) (s .slots) (8 * s .blocks) (s .next) k v (s .count) (s .buffer) new r) where
@@ -289,23 +285,29 @@ module _ (s : State) (i : List ℕ) (low : s .pending < 16) where
     step-done e G = a .done e (unitsOf s) (ready s i G low)
 
     pub insert-five : r .refused ≡ true → InsertsIn k v s i (answered Nodes s)
+    unfolding insertion
     insert-five e =
         record {
-          plain = refuses-with Nodes 5 s refl (λ z. omega arith) (λ z. omega arith);
-          five = λ _ _. refl;
-          done = λ G h. clash (ap isRefused (step-refused e G)) h;
+          range = refl;
+          still = λ _ _. refl;
+          bounds = stay;
+          refused = λ G m h. test-number 5 m (isRefused (stepOf k v s i)) (refuses 5) (λ _. refl) h;
+          done = λ G h. clash (ap isRefused (step-refused e G)) (test-none 4 (isRefused (stepOf k v s i)) h);
         }
 
     pub insert-accepted : r .refused ≡ false → InsertsIn k v s i (answered Accepted (withUnits s new (r .count) (r .next)))
+    unfolding insertion
     insert-accepted e =
         record {
-          plain = accepts s (withUnits s new (r .count) (r .next));
-          five = λ G h. clash h (ap isRefused (step-done e G .is));
+          bounds = record { blocks = refl; units = omega (arith, a .keeps .room) };
+          range = refl;
+          still = λ n d. not-refused n d;
+          refused = λ G m h. test-number 5 m (isRefused (stepOf k v s i)) accepted (λ t. clash t (ap isRefused (step-done e G .is))) h;
           done = λ G h.
               let t = inserted k v (presentOf small s i) in
               let d = step-done e G in
               let q = stays s i G low new (r .count) (r .next) (insertUnits k v (presentOf small s i)) t (inserted-pushed k v s i new G low hk hv hl r d) in
-              (refl, subst (λ (u : Step). Stays (index small) (withUnits s new (r .count) (r .next)) i i (updated (tableAfter (presentOf small s i) u) (stateOf (index small) s i))) (sym (d .is)) q);
+              (refl, subst (λ (u : TreeStep). Stays (withUnits s new (r .count) (r .next)) i (updated (tableAfter (presentOf small s i) u) (stateOf (index small) s i))) (sym (d .is)) q);
         }
 
   -- ---- and of a delete
@@ -315,11 +317,14 @@ module _ (s : State) (i : List ℕ) (low : s .pending < 16) where
     hit-is = a .found
 
     pub delete-absent : w .hit ≡ Nothing → DeletesIn k s i (answered Absent s)
+    unfolding deletion
     delete-absent e =
         record {
-          plain = refuses-with Absent 4 s refl (λ z. omega arith) (λ z. omega arith);
-          four = λ _ _. refl;
-          done = λ G h. clash (ap isAbsent (sym hit-is ∙ ap hitOf e)) h;
+          range = refl;
+          still = λ _ _. refl;
+          bounds = stay;
+          refused = λ G m h. test-number 4 m (isAbsent (find k (presentOf small s i))) (refuses 4) (λ _. refl) h;
+          done = λ G h. clash (ap isAbsent (sym hit-is ∙ ap hitOf e)) (test-none 3 (isAbsent (find k (presentOf small s i))) h);
         }
 
     module _ (hk : k < top) (new : List ℕ) (used : ℕ)
@@ -329,10 +334,13 @@ module _ (s : State) (i : List ℕ) (low : s .pending < 16) where
       leaf-gone G = d .is (s .next) (unitsOf s) (ready s i G low) (a .leaf)
 
       pub delete-accepted : (v : ℕ) → w .hit ≡ At v → DeletesIn k s i (answered Accepted (withUnits s new used (s .next)))
+      unfolding deletion
       delete-accepted v e =
           record {
-            plain = accepts s (withUnits s new used (s .next));
-            four = λ G h. clash h (ap isAbsent (sym hit-is ∙ ap hitOf e));
+            range = refl;
+            still = λ n d. not-refused n d;
+            refused = λ G m h. test-number 4 m (isAbsent (find k (presentOf small s i))) accepted (λ t. clash t (ap isAbsent (sym hit-is ∙ ap hitOf e))) h;
+            bounds = record { blocks = refl; units = omega (arith, d .keeps .room) };
             done = λ G h. (
               refl,
               stays s i G low new used (s .next) (deleteUnits k (presentOf small s i)) (delete k (presentOf small s i)) (deleted-pushed k s i new used G low hk (leaf-gone G)),

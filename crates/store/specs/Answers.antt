@@ -2,7 +2,7 @@
 use Prim.Native.Nat.{ℕ}
 use Rattle.promise.specs.Plain as P
 use Rattle.store.specs.declared.answer.Answer.{Answer}
-use Rattle.store.specs.declared.answer.Answer.the-variants.{Accepted, Found, Size, Off, Full, Absent, Nodes, Numbers, Blank, Layout, Shape, Power}
+use Rattle.store.specs.declared.answer.Answer.the-variants.{Accepted, Found, Size, Off, Full, Absent, Nodes, Last, Blank, Layout, Shape, Cut}
 use Rattle.store.specs.declared.answer.Look as L
 use Rattle.store.specs.declared.answer.Look.the-variants as Look
 use Rattle.store.specs.declared.answer.Report as R
@@ -18,17 +18,17 @@ answerOf Off = P.refuses 2
 answerOf Full = P.refuses 3
 answerOf Absent = P.refuses 4
 answerOf Nodes = P.refuses 5
-answerOf Numbers = P.refuses 6
+answerOf Last = P.refuses 6
 answerOf Blank = P.refuses 7
 answerOf Layout = P.refuses 8
 answerOf Shape = P.refuses 9
-answerOf Power = P.refuses 10
+answerOf Cut = P.refuses 10
 
 -- the number of a refusal, 0 for none
 abbrev pub refusalIn : P.Answer → ℕ
 refusalIn (P.refuses n) = n
 refusalIn P.accepted = 0
-refusalIn (P.finds v) = 0
+refusalIn (P.tells vs) = 0
 
 abbrev pub refusalNumber : Answer → ℕ
 refusalNumber a = refusalIn (answerOf a)

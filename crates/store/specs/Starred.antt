@@ -1,5 +1,4 @@
 -- The lines of the requirement that are marked with a star, as one table: what the definitions give, and what the line says.
-use mathlib.Core.Path.{_≡_}
 use mathlib.Core.List.{List, [], _∷_, _++_, map}
 use Prim.Native.Nat.{ℕ, zero, suc}
 use lib.ListN.{take, replicate}

@@ -21,7 +21,7 @@ use Rattle.tree.specs.Tree as T
 use Rattle.tree.specs.Tree.{Table, entriesAt, rootLevel}
 use Rattle.tree.specs.Step6.{top, step6, Tree}
 use Rattle.tree.specs.Shown.{shown}
-use Rattle.log.specs.Plan.{hasRoom, spareBlocks, planOf, opsOf}
+use Rattle.log.specs.Policy.{hasRoom, spareBlocks, planOf, opsOf}
 use Rattle.promise.specs.Image.{viewsOf}
 use Rattle.store.specs.declared.state.State.{State}
 
@@ -109,7 +109,7 @@ pub record Good (g : Geometry) (s : State) (image : List ℕ) : Type 0 where
   pub numbers : s .next ≤ limitOf s
 
 -- an image has room for a commit: enough of its blocks are unused
-abbrev pub RoomIn : Geometry → List ℕ → Views.Meaning → Type 0
+abbrev pub RoomIn : Geometry → List ℕ → Views.NodesRead → Type 0
 RoomIn g image (Views.refusal n) = ⊥
 RoomIn g image (Views.means nodes G) =
     hasRoom g (blocksOf g (length image)) (spareBlocks g (blocksOf g (length image))) nodes G (liveFrom g 0 (pagesOf g image)) ≡ true

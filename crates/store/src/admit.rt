@@ -1,12 +1,18 @@
 // The tests that come first in every call: 2 off, and 1 size.
 ghost use mathlib.Core.Path.{_≡_};
-ghost use mathlib.Core.Bool.{cond, _&&_};
-ghost use Prim.Native.Nat.{_≤_};
-ghost use Rattle.chip.specs.Geometry.{small, blocksOf};
-ghost use Rattle.promise.specs.Plain.{isChipSize, isTornSize};
-ghost use Rattle.store.specs.Admit.{Admitted, Sized};
+ghost use Rattle.chip.specs.Geometry.{small};
+ghost use Rattle.store.specs.AdmitCode.{Admitted, Sized, updateTests, commitTests, answerFor};
+ghost use Rattle.store.specs.Answers.{answerOf};
+use crate::answer::Answer;
+use crate::state::Numbers;
 use chip::geometry;
 use chip::geometry::PAGE;
+
+// The most updates that may be pending.
+const PENDING: u32 = 16;
+
+// The greatest commit number.
+const LAST: u32 = 4294967295;
 
 // Whether a call that can give 2 goes on, and if not which of 2 and 1 it gives.
 pub enum Admission {
@@ -15,7 +21,7 @@ pub enum Admission {
     Size,
 }
 
-// The tests of insert, delete, look up and block report, on the state's `on` and `blocks` and the image's length.
+// The tests 2 and 1 of a call that is lent an image alone, on the state's `on` and `blocks` and the image's length.
 pub fn admit(on: bool, blocks: usize, len: usize) -> Admission
     ensures { λ r. ⌜ Admitted on blocks len r ⌝ }
 {
@@ -30,6 +36,46 @@ pub fn admit(on: bool, blocks: usize, len: usize) -> Admission
         Admission::Passes
     } else {
         Admission::Size
+    }
+}
+
+// The tests 2, 1 and 3 of an insert or a delete: accepted where all pass.
+pub fn update_tests(numbers: Numbers, len: usize) -> Answer
+    ensures { λ r. ⌜ answerOf r ≡ answerFor (updateTests small (numbers .on) (numbers .blocks) (numbers .pending) len) ⌝ }
+{
+    match admit(numbers.on, numbers.blocks, len) {
+        Admission::Off => Answer::Off,
+        Admission::Size => Answer::Size,
+        Admission::Passes => {
+            if numbers.pending >= PENDING {
+                Answer::Full
+            } else {
+                Answer::Accepted
+            }
+        }
+    }
+}
+
+// The tests 2, 1 and 6 of a commit: accepted where all pass.
+pub fn commit_tests(numbers: Numbers, len: usize, torn: usize) -> Answer
+    ensures { λ r. ⌜ answerOf r ≡ answerFor (commitTests small (numbers .on) (numbers .blocks) (numbers .pending) (numbers .commit) len torn) ⌝ }
+{
+    match admit(numbers.on, numbers.blocks, len) {
+        Admission::Off => Answer::Off,
+        Admission::Size => Answer::Size,
+        Admission::Passes => {
+            if torn != PAGE {
+                return Answer::Size;
+            }
+            if numbers.pending == 0 {
+                return Answer::Accepted;
+            }
+            if numbers.commit >= LAST {
+                Answer::Last
+            } else {
+                Answer::Accepted
+            }
+        }
     }
 }
 

@@ -11,11 +11,11 @@ pub enum Answer {
     Full,
     Absent,
     Nodes,
-    Numbers,
+    Last,
     Blank,
     Layout,
     Shape,
-    Power,
+    Cut,
 }
 
 // What a look up answers: the value found and the pages read, the pages read where the key is absent, or the refusals 2 and 1.
@@ -46,10 +46,10 @@ pub fn number(answer: Answer) -> u32
         Answer::Full => 3,
         Answer::Absent => 4,
         Answer::Nodes => 5,
-        Answer::Numbers => 6,
+        Answer::Last => 6,
         Answer::Blank => 7,
         Answer::Layout => 8,
         Answer::Shape => 9,
-        Answer::Power => 10,
+        Answer::Cut => 10,
     }
 }

@@ -4,10 +4,11 @@ ghost use Prim.Native.Nat.{_<_};
 ghost use lib.ListN.{length};
 ghost use Rattle.chip.specs.Geometry.{small};
 ghost use Rattle.promise.specs.Plain.{firstRefusal, commits};
-ghost use Rattle.store.specs.Admit.{ChipOf};
+ghost use Rattle.store.specs.AdmitCode.{ChipOf};
 ghost use Rattle.store.specs.Contracts.{Commits};
 ghost use Rattle.store.specs.Parts.{joined, wroteWith};
 use crate::admit;
+use crate::answer;
 use crate::answer::Answer;
 use crate::ending;
 use crate::state;
@@ -18,8 +19,8 @@ use crate::state::WroteParts;
 use chip::power::Power;
 use commits::execute;
 
-// The greatest commit number.
-const LAST: u32 = 4294967295;
+// The most units that the buffer holds.
+const UNITS: usize = 960;
 
 // A commit on a state that the tests pass: its plan executed, with power for `allowance` operations. The node table is changed where
 // the commit is finished. `all` shows the proof that the slots are 1024.
@@ -60,7 +61,7 @@ fn commit_pending(
         &mut s,
     );
     if e.stuck {
-        return ending::quiet(numbers, Answer::Numbers);
+        return ending::quiet(numbers, Answer::Last);
     }
     let left = e.left;
     let mut n = numbers;
@@ -83,24 +84,15 @@ pub fn commit_lent(
     ensures { λ r. ⌜ Commits allowance (now (torn .entry)) (joined numbers (now (buffer .entry)) (now (lens .entry)) (now (slots .entry)))
         (now (image .entry)) (wroteWith r (now (buffer .entry)) (now (lens .exit)) (now (slots .exit))) (now (image .exit)) ⌝ }
 {
-    if !numbers.on {
-        return ending::quiet(numbers, Answer::Off);
-    }
-    let blocks = admit::sized(image.len(), torn.len());
-    if blocks == 0 {
-        return ending::quiet(numbers, Answer::Size);
-    }
-    if blocks != numbers.blocks {
-        return ending::quiet(numbers, Answer::Size);
+    let answer = admit::commit_tests(numbers, image.len(), torn.len());
+    if answer::number(answer) > 0 {
+        return ending::quiet(numbers, answer);
     }
     if numbers.pending == 0 {
         return ending::quiet(numbers, Answer::Accepted);
     }
-    if numbers.commit >= LAST {
-        return ending::quiet(numbers, Answer::Numbers);
-    }
-    if numbers.count > 960 {
-        return ending::quiet(numbers, Answer::Numbers);
+    if numbers.count > UNITS {
+        return ending::quiet(numbers, Answer::Last);
     }
     commit_pending(numbers, lens, slots, buffer, image, torn, allowance)
 }

@@ -2,7 +2,7 @@
 ghost use mathlib.Core.Path.{_≡_};
 ghost use mathlib.Core.List.{List};
 ghost use Prim.Native.Nat.{ℕ};
-ghost use Rattle.store.specs.Ending.{endedWith};
+ghost use Rattle.store.specs.EndingCode.{endedWith};
 ghost use Rattle.store.specs.Parts.{joined, numbersOff, wroteWith};
 use crate::answer::Answer;
 use crate::state;
@@ -52,7 +52,7 @@ pub fn ended(
 {
     let ops = power::done_of(allowance, left);
     if power::gone(left) {
-        return refused(numbers, Answer::Power, ops);
+        return refused(numbers, Answer::Cut, ops);
     }
     *lens = *new_lens;
     *slots = *new_slots;

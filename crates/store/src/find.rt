@@ -1,5 +1,4 @@
 // Look up: the value of a key in P, and the pages read for it.
-ghost use mathlib.Core.Path.{_≡_};
 ghost use Rattle.store.specs.Contracts.{Looks};
 ghost use Rattle.store.specs.Parts.{joined};
 use crate::admit;

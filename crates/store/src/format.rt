@@ -1,8 +1,6 @@
 // Format: all blocks erased, lowest first, and commit 1 written into the first page of block 0.
-ghost use mathlib.Core.Path.{_≡_};
 ghost use mathlib.Core.List.{List};
-ghost use Prim.Native.Nat.{ℕ, _≤_};
-ghost use lib.ListN.{length};
+ghost use Prim.Native.Nat.{ℕ};
 ghost use Rattle.store.specs.Contracts.{Formats};
 ghost use Rattle.store.specs.Parts.{joined, wroteWith};
 use crate::admit;

@@ -1,5 +1,4 @@
 // Block report: how many pages of a block are free, and the first free one.
-ghost use mathlib.Core.Path.{_≡_};
 ghost use mathlib.Core.List.{List};
 ghost use Prim.Native.Nat.{ℕ};
 ghost use Rattle.store.specs.Contracts.{Reports};

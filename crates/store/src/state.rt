@@ -1,6 +1,5 @@
 // The state that each call gets by value and gives back.
 ghost use mathlib.Core.Path.{_≡_};
-ghost use lib.ListN.{length};
 ghost use Rattle.store.specs.State.{initial};
 ghost use Rattle.store.specs.Parts.{numbersOf, numbersOff, joined, updatedWith, wroteWith};
 use crate::answer::Answer;

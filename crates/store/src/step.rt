@@ -1,10 +1,6 @@
 // One call of any kind: what a list of calls is made of.
 ghost use mathlib.Core.Path.{_≡_};
-ghost use Rattle.chip.specs.Geometry.{small};
-ghost use Rattle.promise.specs.Steps.{Allowed};
-ghost use Rattle.store.specs.Answers.{answerOf};
-ghost use Rattle.store.specs.Contracts.{index};
-ghost use Rattle.store.specs.Step.{actOf, ofWrote, ofUpdated, ofLook};
+ghost use Rattle.store.specs.Step.{ofWrote, ofUpdated, ofLook, StepsBy};
 use crate::answer::Answer;
 use crate::answer::Look;
 use crate::commit;
@@ -73,9 +69,9 @@ fn looked(look: Look, state: State) -> Stepped
     }
 }
 
-// A call on a lent image, by its own contract.
+// A call on a lent image: what it ensures is its whole contract.
 pub fn step(state: State, image: &mut [u8], torn: &[u8], call: Call) -> Stepped
-    ensures { λ r. ⌜ Allowed small (index small) (actOf call (now (torn .entry))) state (now (image .entry)) (answerOf (r .answer)) (r .ops) (r .state) (now (image .exit)) ⌝ }
+    ensures { λ r. ⌜ StepsBy call (now (torn .entry)) state (now (image .entry)) r (now (image .exit)) ⌝ }
 {
     match call {
         Call::Format(allowance) => wrote(format::format(state, image, torn, allowance)),

@@ -1,13 +1,12 @@
 // Insert and delete: the tree step, as units in the reservation buffer.
-ghost use mathlib.Core.Path.{_≡_};
 ghost use Prim.Native.Nat.{_<_};
 ghost use lib.ListN.{length};
-ghost use Rattle.store.specs.Admit.{ChipOf};
+ghost use Rattle.store.specs.AdmitCode.{ChipOf};
 ghost use Rattle.store.specs.Contracts.{Inserts, Deletes};
 ghost use Rattle.store.specs.Parts.{joined, updatedWith};
-ghost use Rattle.store.specs.Update.{InsertsIn, DeletesIn};
+ghost use Rattle.store.specs.UpdateCode.{InsertsIn, DeletesIn};
 use crate::admit;
-use crate::admit::Admission;
+use crate::answer;
 use crate::answer::Answer;
 use crate::state;
 use crate::state::Numbers;
@@ -19,10 +18,7 @@ use tree::find;
 use tree::find::Hit;
 use tree::insert;
 
-// The most updates that may be pending.
-const PENDING: u32 = 16;
-
-// The most units that the buffer holds before an update, 60 for each of 15.
+// The most units that the buffer of a state that calls gave holds before an update: 60 for each of 15.
 const UNITS: usize = 900;
 
 // (key, value) inserted into P: 5 where the tree step needs a number or a level too many.
@@ -42,7 +38,7 @@ fn insert_admitted<'a>(
     let count = numbers.count;
     if count > UNITS {
         return UpdatedParts {
-            answer: Answer::Full,
+            answer: Answer::Nodes,
             numbers,
         };
     }
@@ -81,7 +77,7 @@ fn delete_admitted<'a>(
     let count = numbers.count;
     if count > UNITS {
         return UpdatedParts {
-            answer: Answer::Full,
+            answer: Answer::Absent,
             numbers,
         };
     }
@@ -119,27 +115,11 @@ pub fn insert_lent<'a>(
     ensures { λ r. ⌜ Inserts key value (joined numbers (now (buffer .entry)) (now (lens .entry)) (now (slots .entry)))
         (now (image .entry)) (updatedWith r (now (buffer .exit)) (now (lens .entry)) (now (slots .entry))) ⌝ }
 {
-    let blocks = numbers.blocks;
-    match admit::admit(numbers.on, blocks, image.len()) {
-        Admission::Off => UpdatedParts {
-            answer: Answer::Off,
-            numbers,
-        },
-        Admission::Size => UpdatedParts {
-            answer: Answer::Size,
-            numbers,
-        },
-        Admission::Passes => {
-            let pending = numbers.pending;
-            if pending >= PENDING {
-                return UpdatedParts {
-                    answer: Answer::Full,
-                    numbers,
-                };
-            }
-            insert_admitted(numbers, lens, slots, buffer, image, key, value)
-        }
+    let answer = admit::update_tests(numbers, image.len());
+    if answer::number(answer) > 0 {
+        return UpdatedParts { answer, numbers };
     }
+    insert_admitted(numbers, lens, slots, buffer, image, key, value)
 }
 
 // Delete on lent arrays: 2, 1, 3, 4. A refusal leaves every byte of the buffer.
@@ -154,27 +134,11 @@ pub fn delete_lent<'a>(
     ensures { λ r. ⌜ Deletes key (joined numbers (now (buffer .entry)) (now (lens .entry)) (now (slots .entry)))
         (now (image .entry)) (updatedWith r (now (buffer .exit)) (now (lens .entry)) (now (slots .entry))) ⌝ }
 {
-    let blocks = numbers.blocks;
-    match admit::admit(numbers.on, blocks, image.len()) {
-        Admission::Off => UpdatedParts {
-            answer: Answer::Off,
-            numbers,
-        },
-        Admission::Size => UpdatedParts {
-            answer: Answer::Size,
-            numbers,
-        },
-        Admission::Passes => {
-            let pending = numbers.pending;
-            if pending >= PENDING {
-                return UpdatedParts {
-                    answer: Answer::Full,
-                    numbers,
-                };
-            }
-            delete_admitted(numbers, lens, slots, buffer, image, key)
-        }
+    let answer = admit::update_tests(numbers, image.len());
+    if answer::number(answer) > 0 {
+        return UpdatedParts { answer, numbers };
     }
+    delete_admitted(numbers, lens, slots, buffer, image, key)
 }
 
 // Insert on a state by value.

@@ -17,7 +17,7 @@ use Rattle.chip.specs.Chip.{pagesOf}
 use Rattle.views.specs.declared.node.Node.{Node}
 use Rattle.views.specs.declared.fold.Stage.{Stage}
 use Rattle.views.specs.declared.fold.Stage.the-variants.{Untouched, Broken, Full}
-use Rattle.views.specs.Nodes.{Entry, entry, View, untouched, broken, view}
+use Rattle.views.specs.Nodes.{Entry, entry, View, untouched, broken}
 use Rattle.views.specs.NodeCode as C
 use Rattle.views.specs.FoldCode.{viewAt}
 use Rattle.views.specs.Stored.{storedList, listView, bufferView}
@@ -25,40 +25,40 @@ use Rattle.views.proofs.NodeLaws.{length-entries}
 use Rattle.tree.specs.Tree.{entriesOf, there, Table, at, entriesAt, rootLevel, firstKey}
 use Rattle.tree.specs.Step6.{top, isLevel, keysIn, areSubtrees, isSubtree, reached, times, onceFrom, step6}
 use Rattle.tree.specs.Shown.{shown}
-use Rattle.tree.specs.FindCode.{from}
-use Rattle.tree.specs.CheckCode.{listed, startsAt, obeysAt, ownAt, under, Twice, Walks, Marks, countsFrom}
+use Rattle.tree.specs.FindCode.{entriesFrom}
+use Rattle.tree.specs.CheckCode.{pagesTable, startsAt, obeysAt, ownAt, under, Twice, Walks, MarksNumber, countsFrom}
 use Rattle.tree.proofs.Shape.{times-append, hit-same}
-use Rattle.tree.proofs.Step6.{at-length, once-at}
+use Rattle.tree.proofs.Step6.{at-length, BranchRules, branch-rules, once-at}
 use Rattle.tree.proofs.Paths.{level-there}
 use Rattle.tree.proofs.FindLaws.{shown-same}
 
 -- ---- the keys of one node
 module _ (n i : ℕ) (ks vs : List ℕ) (h : i < n) (lk : n ≤ length ks) (lv : n ≤ length vs) where
-  pub from-next : from n i ks vs ≡ entry (getD ks i 0) (getD vs i 0) ∷ from n (i + 1) ks vs
+  pub from-next : entriesFrom n i ks vs ≡ entry (getD ks i 0) (getD vs i 0) ∷ entriesFrom n (i + 1) ks vs
   from-next = rw (slice-cons i n ks 0 h lk, slice-cons i n vs 0 h lv, add-one)
 
   module _ (lo hi : ℕ) where
-    pub keys-low : getD ks i 0 < lo → keysIn lo hi (from n i ks vs) ≡ false
+    pub keys-low : getD ks i 0 < lo → keysIn lo hi (entriesFrom n i ks vs) ≡ false
     keys-low q = rw (from-next, lt-leb lo (getD ks i 0) q)
 
-    pub keys-high : lo ≤ getD ks i 0 → hi ≤ getD ks i 0 → keysIn lo hi (from n i ks vs) ≡ false
+    pub keys-high : lo ≤ getD ks i 0 → hi ≤ getD ks i 0 → keysIn lo hi (entriesFrom n i ks vs) ≡ false
     keys-high p q = rw (from-next, le-leb lo (getD ks i 0) p, le-ltb (getD ks i 0) hi q)
 
-    pub keys-pass : lo ≤ getD ks i 0 → getD ks i 0 < hi → keysIn lo hi (from n (i + 1) ks vs) ≡ keysIn lo hi (from n i ks vs)
+    pub keys-pass : lo ≤ getD ks i 0 → getD ks i 0 < hi → keysIn lo hi (entriesFrom n (i + 1) ks vs) ≡ keysIn lo hi (entriesFrom n i ks vs)
     keys-pass p q = sym (rw (from-next, le-leb lo (getD ks i 0) p, lt-ltb (getD ks i 0) hi q))
 
-pub from-end : (n i : ℕ) (ks vs : List ℕ) → n ≤ i → from n i ks vs ≡ []
+pub from-end : (n i : ℕ) (ks vs : List ℕ) → n ≤ i → entriesFrom n i ks vs ≡ []
 from-end n i ks vs h = rw (drop-of-length-le (take n ks) {i = i} (omega (arith, length-take n ks)))
 
 -- ---- the start of one node
-pub starts-none : (lo m : ℕ) (ks vs : List ℕ) → m ≡ 0 → startsAt lo (from m 0 ks vs) ≡ false
+pub starts-none : (lo m : ℕ) (ks vs : List ℕ) → m ≡ 0 → startsAt lo (entriesFrom m 0 ks vs) ≡ false
 starts-none lo m ks vs e = rw e
 
 pub starts-some : (lo : ℕ) (n : Node) → length (n .keys) ≡ 17 → length (n .values) ≡ 17 → n .len ≤ 16 → (n .len ≡ 0 → ⊥)
     → eqb (getD (n .keys) 0 0) lo ≡ startsAt lo (C.entriesOf n)
 starts-some lo n lk lv h z =
     let l = length-entries n lk lv (omega arith) in
-    let e : C.entriesOf n ≡ entry (getD (n .keys) 0 0) (getD (n .values) 0 0) ∷ from (n .len) 1 (n .keys) (n .values) =
+    let e : C.entriesOf n ≡ entry (getD (n .keys) 0 0) (getD (n .values) 0 0) ∷ entriesFrom (n .len) 1 (n .keys) (n .values) =
     from-next (n .len) 0 (n .keys) (n .values) (omega arith) (omega arith) (omega arith) in
     let f : firstKey 0 (C.entriesOf n) ≡ getD (n .keys) 0 0 = ap (firstKey 0) e in
     sym (rw (le-leb 1 (length (C.entriesOf n)) (omega arith), le-leb (length (C.entriesOf n)) 16 (omega arith), f))
@@ -74,14 +74,14 @@ level-entries l Broken n h = clash h refl
 level-entries l Full n h = refl
 
 -- ---- the end of a child's keys
-pub end-next : (n i hi : ℕ) (ks vs : List ℕ) → i < n → n ≤ length ks → n ≤ length vs → getD ks i 0 ≡ firstKey hi (from n i ks vs)
+pub end-next : (n i hi : ℕ) (ks vs : List ℕ) → i < n → n ≤ length ks → n ≤ length vs → getD ks i 0 ≡ firstKey hi (entriesFrom n i ks vs)
 end-next n i hi ks vs h lk lv = sym (ap (firstKey hi) (from-next n i ks vs h lk lv))
 
-pub end-last : (n i hi : ℕ) (ks vs : List ℕ) → n ≤ i → hi ≡ firstKey hi (from n i ks vs)
+pub end-last : (n i hi : ℕ) (ks vs : List ℕ) → n ≤ i → hi ≡ firstKey hi (entriesFrom n i ks vs)
 end-last n i hi ks vs h = sym (ap (firstKey hi) (from-end n i ks vs h))
 
 -- ---- a number counted
-pub mark-new : (size n : ℕ) (s : List ℕ) → n < length s → getD s n 0 ≡ 0 → Marks size n s (set s n 1) true
+pub mark-new : (size n : ℕ) (s : List ℕ) → n < length s → getD s n 0 ≡ 0 → MarksNumber size n s (set s n 1) true
 mark-new size n s h z =
     record {
       new = λ _ j. ⊎-elim
@@ -94,7 +94,7 @@ mark-new size n s h z =
 -- ---- the table of the pages, node by node
 module _ (image lens slots : List ℕ) (limit : ℕ) where
   abbrev t : Table
-  t = listed image lens slots limit
+  t = pagesTable image lens slots limit
 
   -- the view of node n from its pages
   abbrev v : ℕ → View
@@ -103,11 +103,6 @@ module _ (image lens slots : List ℕ) (limit : ℕ) where
   pub listed-same : {X : Type 0} (f : View → X) → f untouched ≡ f broken → (n : ℕ) → f (at t n) ≡ f (v n)
   unfolding bufferView
   listed-same f e n = shown-same small limit (pagesOf small image) lens slots 0 [] f e n
-
-  -- with an empty buffer, whatever its bytes
-  pub listed-any : (bytes : List ℕ) → shown small limit (pagesOf small image) lens slots 0 bytes ≡ t
-  unfolding shown bufferView
-  listed-any bytes = refl
 
   pub length-listed : length t ≡ limit
   unfolding shown
@@ -119,40 +114,16 @@ module _ (image lens slots : List ℕ) (limit : ℕ) where
 
 -- ---- the rules of a node and of its children
 -- what a tree of level l asks of its top
+branch-own : (l : ℕ) (t : Table) (n lo hi : ℕ) → BranchRules l t n lo hi → ownAt (suc l) (at t n) lo hi ≡ true
+branch-own l t n lo hi b = rw (b .level, b .some, b .few, b .start, b .keys)
+
 pub sub-own : (l : ℕ) (t : Table) (n lo hi : ℕ) → isSubtree l t n lo hi ≡ true → ownAt l (at t n) lo hi ≡ true
 sub-own zero t n lo hi h = h
-sub-own (suc l) t n lo hi h =
-    let es = entriesAt t n in
-    let a₆ = areSubtrees (isSubtree l t) hi es in
-    let a₅ = keysIn lo hi es in
-    let a₄ = eqb (firstKey 0 es) lo in
-    let a₃ = leb (length es) 16 in
-    let a₂ = leb 1 (length es) in
-    let a₁ = isLevel (suc l) (at t n) in
-    let h₂ = and-right a₁ (a₂ && (a₃ && (a₄ && (a₅ && a₆)))) h in
-    let h₃ = and-right a₂ (a₃ && (a₄ && (a₅ && a₆))) h₂ in
-    let h₄ = and-right a₃ (a₄ && (a₅ && a₆)) h₃ in
-    let h₅ = and-right a₄ (a₅ && a₆) h₄ in
-    rw (
-      and-left a₁ (a₂ && (a₃ && (a₄ && (a₅ && a₆)))) h,
-      and-left a₂ (a₃ && (a₄ && (a₅ && a₆))) h₂,
-      and-left a₃ (a₄ && (a₅ && a₆)) h₃,
-      and-left a₄ (a₅ && a₆) h₄,
-      and-left a₅ a₆ h₅,
-    )
+sub-own (suc l) t n lo hi h = branch-own l t n lo hi (branch-rules l t n lo hi h)
 
 -- and of its children
 pub sub-kids : (l : ℕ) (t : Table) (n lo hi : ℕ) → isSubtree (suc l) t n lo hi ≡ true → areSubtrees (isSubtree l t) hi (entriesAt t n) ≡ true
-sub-kids l t n lo hi h =
-    let es = entriesAt t n in
-    let a₆ = areSubtrees (isSubtree l t) hi es in
-    let a₅ = keysIn lo hi es in
-    let a₄ = eqb (firstKey 0 es) lo in
-    let a₃ = leb (length es) 16 in
-    let a₂ = leb 1 (length es) in
-    let a₁ = isLevel (suc l) (at t n) in
-    and-right a₅ a₆ (and-right a₄ (a₅ && a₆) (and-right a₃ (a₄ && (a₅ && a₆)) (and-right a₂ (a₃ && (a₄ && (a₅ && a₆)))
-    (and-right a₁ (a₂ && (a₃ && (a₄ && (a₅ && a₆)))) h))))
+sub-kids l t n lo hi h = branch-rules l t n lo hi h .kids
 
 -- both make a tree
 pub own-sub : (l : ℕ) (t : Table) (n lo hi : ℕ) → ownAt (suc l) (at t n) lo hi ≡ true → areSubtrees (isSubtree l t) hi (entriesAt t n) ≡ true
@@ -177,20 +148,11 @@ own-sub l t n lo hi h k =
     )
 
 -- ---- walks
--- a test taken the other way round
-pub not-true : (b : Bool) → not b ≡ true → b ≡ false
-not-true true e = clash e refl
-not-true false e = refl
-
-pub not-false : (b : Bool) → not b ≡ false → b ≡ true
-not-false true e = refl
-not-false false e = clash refl e
-
 -- by the outcome
 pub walk-as : {t : Table} {ok : Bool} {ns s u : List ℕ} {r q : Bool} → r ≡ q → Walks t ok ns s u r → Walks t ok ns s u q
 walk-as e w = rw e at w
 
-pub mark-as : {size n : ℕ} {s u : List ℕ} {r q : Bool} → r ≡ q → Marks size n s u r → Marks size n s u q
+pub mark-as : {size n : ℕ} {s u : List ℕ} {r q : Bool} → r ≡ q → MarksNumber size n s u r → MarksNumber size n s u q
 mark-as e m = rw e at m
 
 module _ {t : Table} {p : Bool} {ns s u : List ℕ} where
@@ -234,7 +196,7 @@ reached-own (suc l) t n = omega (arith, hit-same n n refl)
 module _ (image lens slots : List ℕ) (limit l n lo hi : ℕ) (w : View)
     (ew : w ≡ listView small limit (pagesOf small image) n (storedList lens slots n)) where
   abbrev tb : Table
-  tb = listed image lens slots limit
+  tb = pagesTable image lens slots limit
 
   own-same : ownAt l (at tb n) lo hi ≡ ownAt l w lo hi
   own-same = listed-same image lens slots limit (λ (x : View). ownAt l x lo hi) refl n ∙ ap (λ (x : View). ownAt l x lo hi) (sym ew)
@@ -256,7 +218,7 @@ module _ (image lens slots : List ℕ) (limit l n lo hi : ℕ) (w : View)
     far-off h = clash (ap (λ (x : View). ownAt l x lo hi) (sym (ew ∙ listed-far image lens slots limit n h)) ∙ fit) refl
 
     -- it was counted before
-    pub visit-old : (s u : List ℕ) → Marks (length lens) n s u false → Walks tb (isSubtree l tb n lo hi) (reached l tb n) s u false
+    pub visit-old : (s u : List ℕ) → MarksNumber (length lens) n s u false → Walks tb (isSubtree l tb n lo hi) (reached l tb n) s u false
     visit-old s u m =
         record {
           passes = λ e. clash e refl;
@@ -268,13 +230,13 @@ module _ (image lens slots : List ℕ) (limit l n lo hi : ℕ) (w : View)
         }
 
     -- it is a leaf
-    pub visit-leaf : (s u : List ℕ) → l ≡ 0 → Marks (length lens) n s u true → Walks tb (isSubtree l tb n lo hi) (reached l tb n) s u true
+    pub visit-leaf : (s u : List ℕ) → l ≡ 0 → MarksNumber (length lens) n s u true → Walks tb (isSubtree l tb n lo hi) (reached l tb n) s u true
     visit-leaf s u z m =
         let a : ownAt 0 (at tb n) lo hi ≡ true = rw z at (own-same ∙ fit) in
         rw z (record { passes = λ e. a; counts = λ e j. m .new refl j; stops = λ e k. clash refl e })
 
     -- its children are walked over
-    pub visit-branch : (m : ℕ) (es : List Entry) (s u x : List ℕ) (r : Bool) → l ≡ suc m → entriesOf w ≡ es → Marks (length lens) n s u true
+    pub visit-branch : (m : ℕ) (es : List Entry) (s u x : List ℕ) (r : Bool) → l ≡ suc m → entriesOf w ≡ es → MarksNumber (length lens) n s u true
         → Walks tb (areSubtrees (isSubtree m tb) hi es) (under m tb es) u x r → Walks tb (isSubtree l tb n lo hi) (reached l tb n) s x r
     visit-branch m es s u x r z e mk wk =
         let f : entriesAt tb n ≡ es = listed-same image lens slots limit entriesOf refl n ∙ ap entriesOf (sym ew) ∙ e in
@@ -293,21 +255,21 @@ module _ (image lens slots : List ℕ) (limit l n lo hi : ℕ) (w : View)
 -- ---- the entries of a node from i on
 module _ (t : Table) (l hi n i : ℕ) (ks vs : List ℕ) (s u : List ℕ) where
   -- none is left
-  pub kids-none : n ≤ i → Walks t (areSubtrees (isSubtree l t) hi (from n i ks vs)) (under l t (from n i ks vs)) s s true
+  pub kids-none : n ≤ i → Walks t (areSubtrees (isSubtree l t) hi (entriesFrom n i ks vs)) (under l t (entriesFrom n i ks vs)) s s true
   kids-none h = rw (from-end n i ks vs h) (walk-none t s)
 
-  module _ (h : i < n) (lk : n ≤ length ks) (lv : n ≤ length vs) (end : ℕ) (ee : end ≡ firstKey hi (from n (i + 1) ks vs)) where
+  module _ (h : i < n) (lk : n ≤ length ks) (lv : n ≤ length vs) (end : ℕ) (ee : end ≡ firstKey hi (entriesFrom n (i + 1) ks vs)) where
     -- the next leads to no tree
     pub kids-stop : Walks t (isSubtree l t (getD vs i 0) (getD ks i 0) end) (reached l t (getD vs i 0)) s u false
-        → Walks t (areSubtrees (isSubtree l t) hi (from n i ks vs)) (under l t (from n i ks vs)) s u false
+        → Walks t (areSubtrees (isSubtree l t) hi (entriesFrom n i ks vs)) (under l t (entriesFrom n i ks vs)) s u false
     kids-stop w =
         rw (from-next n i ks vs h lk lv, ← ee)
-        (walk-stop (areSubtrees (isSubtree l t) hi (from n (i + 1) ks vs)) (under l t (from n (i + 1) ks vs)) w)
+        (walk-stop (areSubtrees (isSubtree l t) hi (entriesFrom n (i + 1) ks vs)) (under l t (entriesFrom n (i + 1) ks vs)) w)
 
     -- it does
     pub kids-next : (x : List ℕ) (r : Bool) → Walks t (isSubtree l t (getD vs i 0) (getD ks i 0) end) (reached l t (getD vs i 0)) s u true
-        → Walks t (areSubtrees (isSubtree l t) hi (from n (i + 1) ks vs)) (under l t (from n (i + 1) ks vs)) u x r
-        → Walks t (areSubtrees (isSubtree l t) hi (from n i ks vs)) (under l t (from n i ks vs)) s x r
+        → Walks t (areSubtrees (isSubtree l t) hi (entriesFrom n (i + 1) ks vs)) (under l t (entriesFrom n (i + 1) ks vs)) u x r
+        → Walks t (areSubtrees (isSubtree l t) hi (entriesFrom n i ks vs)) (under l t (entriesFrom n i ks vs)) s x r
     kids-next x r w z = rw (from-next n i ks vs h lk lv, ← ee) (walk-next w z)
 
 -- ---- the counts at the end

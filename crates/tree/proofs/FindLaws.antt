@@ -1,36 +1,31 @@
 -- The table that a state shows, node by node, and the turns of the loops that find a key. Assumes nothing.
 use mathlib.Core.Path.{_≡_, refl, sym, ap, ap₂, _∙_}
 use mathlib.Core.Logic.{⊎-elim}
-use mathlib.Core.Bool.{cond}
-use mathlib.Core.List.{List, [], _∷_, foldl}
-use Prim.Native.Nat.{ℕ, zero, suc, _+_, _*_, _<_, _≤_, min}
+use mathlib.Core.List.{List}
+use Prim.Native.Nat.{ℕ, zero, suc, _+_, _<_, _≤_}
 use native.Mathlib.Numerals.{add-one}
 use native.Mathlib.Omega.{arith}
-use lib.Dec.{ltb, leb, eqb}
-use lib.ListN.{length, take, drop, getD, length-take, List·getD-eq-default}
+use lib.Dec.{leb, eqb}
+use lib.ListN.{length, getD}
 use lib.Seq.{slice-cons, slice-empty}
-use borrow.Author.Tests.{eq-eqb, ne-eqb, le-leb, lt-leb, leb-true, ltb-true}
-use Rattle.lists.specs.Lists.{all, tab, part}
+use borrow.Author.Tests.{eq-eqb, ne-eqb, le-leb, lt-leb}
+use Rattle.lists.specs.Lists.{tab}
 use Rattle.lists.proofs.Tests.{cases, below-or-not}
 use Rattle.lists.proofs.Flats.{length-tab}
-use Rattle.lists.proofs.Parts.{length-part}
 use Rattle.chip.specs.Geometry.{Geometry}
 use Rattle.chip.specs.Page.{Page}
 use Rattle.pages.specs.declared.unit.Update.the-variants.{Insert, Delete}
-use Rattle.pages.specs.Units.{half, word, decodeKind, decode, decodes}
-use Rattle.pages.specs.Data.{headOf}
 use Rattle.views.specs.Nodes.{Entry, View, untouched, broken, view, insertEntry, within, apply}
 use Rattle.views.specs.declared.node.Node.{Node}
 use Rattle.views.specs.NodeCode as C
-use Rattle.views.specs.Table.{isGood}
-use Rattle.views.specs.FoldCode.{turnView, viewAfter}
-use Rattle.views.specs.Stored.{storedList, viewOver, pageView, listView, bufferView, nodeView}
+use Rattle.views.specs.Stored.{storedList, nodeView}
+use Rattle.views.proofs.NodeViews.{view-keeps}
 use Rattle.tree.proofs.Step6.{at-length}
 use Rattle.tree.specs.Tree.{levelOf, entriesOf, there, Table, at, entriesAt, rootLevel, Found, lookup, below, child, pathAt, path, leafAt, findAt, find}
 use Rattle.tree.specs.Shown.{shown, pagesRead}
 use Rattle.tree.specs.declared.find.Hit.{Hit}
 use Rattle.tree.specs.declared.find.Looked.{Looked}
-use Rattle.tree.specs.FindCode.{from, hitOf, Holds, Finds, Answers}
+use Rattle.tree.specs.FindCode.{entriesFrom, hitOf, ShowsView, Finds, Answers}
 
 -- ---- a table made node by node
 pub at-tab : (f : ℕ → View) (k m n : ℕ) → n < m → at (tab k m f) n ≡ f (k + n)
@@ -38,63 +33,13 @@ at-tab f k zero n h = absurd (omega arith)
 at-tab f k (suc m) zero h = ap f (let e : k ≡ k + 0 = omega arith in e)
 at-tab f k (suc m) (suc n) h = at-tab f (suc k) m n (omega arith) ∙ ap f (let e : suc k + n ≡ k + suc n = omega arith in e)
 
--- ---- what every unit of the layout keeps holds of a node's view
-module _ (limit n : ℕ) (P : View → Type 0) (pu : P untouched) (pb : P broken)
-    (step : (w : View) (b : List ℕ) → P w → P (turnView n w (decode limit b))) where
-  keep-after : (count : ℕ) (b : List ℕ) (w : View) → P w → P (viewAfter n w (decodes limit count b))
-  keep-after zero b w h = h
-  keep-after (suc m) b w h = keep-after m (drop 12 b) (turnView n w (decode limit b)) (step w b h)
-
-  keep-over : (count : ℕ) (b : List ℕ) (w : View) → P w → P (viewOver n w (decodes limit count b))
-  keep-over count b w h =
-      cases (all isGood (decodes limit count b)) (λ e. rw e (keep-after count b w h)) (λ e. rw e pb)
-
-  keep-page : (g : Geometry) (x : Page) (w : View) → P w → P (pageView g limit n w x)
-  unfolding pageView
-  keep-page g x w h =
-      cases (leb (headOf (take (g .area) x) .units) (g .units))
-      (λ e. rw e (keep-over (headOf (take (g .area) x) .units) (drop 8 (take (g .area) x)) w h)) (λ e. rw e pb)
-
-  keep-pages : (g : Geometry) (pages : List Page) (ps : List ℕ) (w : View) → P w
-      → P (foldl (λ (v : View) (p : ℕ). pageView g limit n v (getD pages p [])) w ps)
-  keep-pages g pages [] w h = h
-  keep-pages g pages (p ∷ ps) w h = keep-pages g pages ps (pageView g limit n w (getD pages p [])) (keep-page g (getD pages p []) w h)
-
-  keep-buffer : (count : ℕ) (bytes : List ℕ) (w : View) → P w → P (bufferView limit n count bytes w)
-  unfolding bufferView
-  keep-buffer count bytes w h = cases (leb count 960) (λ e. rw e (keep-over count bytes w h)) (λ e. rw e pb)
-
-  pub keep : (g : Geometry) (pages : List Page) (lens slots : List ℕ) (count : ℕ) (bytes : List ℕ) → P (nodeView g limit pages lens slots count bytes n)
-  keep g pages lens slots count bytes =
-      keep-buffer count bytes (listView g limit pages n (storedList lens slots n)) (keep-pages g pages (storedList lens slots n) untouched pu)
-
--- ---- a unit of the layout is for a node below limit
-module _ (n m : ℕ) (w : View) (d : m ≡ n → ⊥) where
-  turn-kind : (kind k v : ℕ) → turnView n w (decodeKind m kind k v) ≡ w
-  turn-kind kind k v =
-      cases (eqb kind 1) (λ a. rw (a, ne-eqb m n d))
-      (λ a. cases (eqb kind 2)
-      (λ b. cases (eqb v 0) (λ e. rw (a, b, e, ne-eqb m n d)) (λ e. rw (a, b, e)))
-      (λ b. cases (eqb kind 3)
-      (λ p. cases (eqb k 0)
-      (λ e. cases (leb v 3) (λ q. rw (a, b, p, e, q, ne-eqb m n d)) (λ q. rw (a, b, p, e, q)))
-      (λ e. rw (a, b, p, e)))
-      (λ p. rw (a, b, p))))
-
-turn-past : (limit n : ℕ) → limit ≤ n → (w : View) (b : List ℕ) → turnView n w (decode limit b) ≡ w
-unfolding decode
-turn-past limit n h w b =
-    cases (eqb (getD b 1 0) 0)
-    (λ e. cases (ltb (half b 2) limit)
-    (λ q. let z = ltb-true (half b 2) limit q in rw (e, q) (turn-kind n (half b 2) w (λ s. omega arith) (getD b 0 0) (word b 4) (word b 8)))
-    (λ q. rw (e, q)))
-    (λ e. rw e)
-
+-- ---- what every update keeps of a view
 -- past limit there is no node, whatever the pages and the buffer hold
 pub past-limit : (g : Geometry) (limit : ℕ) (pages : List Page) (lens slots : List ℕ) (count : ℕ) (bytes : List ℕ) (n : ℕ) → limit ≤ n
     → there (nodeView g limit pages lens slots count bytes n) ≡ 0
 past-limit g limit pages lens slots count bytes n h =
-    keep limit n (λ w. there w ≡ 0) refl refl (λ w b e. rw (turn-past limit n h w b) e) g pages lens slots count bytes
+    view-keeps limit n (λ w. there w ≡ 0) refl refl (λ w k v q e. absurd (omega arith)) (λ w k q e. absurd (omega arith))
+    (λ l q e. absurd (omega arith)) g pages lens slots count bytes
 
 -- ---- a level is at most 3
 within-low : (l : ℕ) (es : List Entry) → l ≤ 3 → levelOf (within l es) ≤ 3
@@ -110,30 +55,6 @@ delete-low k untouched h = omega arith
 delete-low k broken h = omega arith
 delete-low k (view l es) h = h
 
-own-low : (n m : ℕ) (w x : View) → levelOf w ≤ 3 → levelOf x ≤ 3 → levelOf (cond (eqb m n) x w) ≤ 3
-own-low n m w x h k = cases (eqb m n) (λ e. rw e k) (λ e. rw e h)
-
-module _ (n m : ℕ) (w : View) (h : levelOf w ≤ 3) where
-  kind-low : (kind k v : ℕ) → levelOf (turnView n w (decodeKind m kind k v)) ≤ 3
-  kind-low kind k v =
-      cases (eqb kind 1) (λ a. rw a (own-low n m w (apply w (Insert k v)) h (insert-low k v w h)))
-      (λ a. cases (eqb kind 2)
-      (λ b. cases (eqb v 0) (λ e. rw (a, b, e) (own-low n m w (apply w (Delete k)) h (delete-low k w h))) (λ e. rw (a, b, e) h))
-      (λ b. cases (eqb kind 3)
-      (λ p. cases (eqb k 0)
-      (λ e. cases (leb v 3) (λ q. rw (a, b, p, e, q) (own-low n m w (view v []) h (leb-true v 3 q))) (λ q. rw (a, b, p, e, q) h))
-      (λ e. rw (a, b, p, e) h))
-      (λ p. rw (a, b, p) h)))
-
-turn-low : (limit n : ℕ) (w : View) (b : List ℕ) → levelOf w ≤ 3 → levelOf (turnView n w (decode limit b)) ≤ 3
-unfolding decode
-turn-low limit n w b h =
-    cases (eqb (getD b 1 0) 0)
-    (λ e. cases (ltb (half b 2) limit)
-    (λ q. rw (e, q) (kind-low n (half b 2) w h (getD b 0 0) (word b 4) (word b 8)))
-    (λ q. rw (e, q) h))
-    (λ e. rw e h)
-
 -- ---- the table that a state shows
 blank-none : {X : Type 0} (f : View → X) → f untouched ≡ f broken → (w : View) → there w ≡ 0 → f untouched ≡ f w
 blank-none f e untouched h = refl
@@ -142,7 +63,9 @@ blank-none f e (view l es) h = absurd (omega arith)
 
 module _ (g : Geometry) (limit : ℕ) (pages : List Page) (lens slots : List ℕ) (count : ℕ) (bytes : List ℕ) where
   pub level-low : (n : ℕ) → levelOf (nodeView g limit pages lens slots count bytes n) ≤ 3
-  level-low n = keep limit n (λ w. levelOf w ≤ 3) (omega arith) (omega arith) (λ w b h. turn-low limit n w b h) g pages lens slots count bytes
+  level-low n =
+      view-keeps limit n (λ w. levelOf w ≤ 3) (omega arith) (omega arith) (λ w k v q h. insert-low k v w h) (λ w k q h. delete-low k w h)
+      (λ l q h. h) g pages lens slots count bytes
 
   -- what does not tell a broken view from an untouched one is the same of the table and of the views, for every number
   pub shown-same : {X : Type 0} (f : View → X) → f untouched ≡ f broken → (n : ℕ)
@@ -168,36 +91,28 @@ module _ (g : Geometry) (limit : ℕ) (pages : List Page) (lens slots : List ℕ
 
 -- ---- the loops over a node's entries
 module _ (k f n i : ℕ) (ks vs : List ℕ) (h : i < n) (lk : n ≤ length ks) (lv : n ≤ length vs) where
-  pub below-pass : getD ks i 0 ≤ k → below k (getD vs i 0) (from n (i + 1) ks vs) ≡ below k f (from n i ks vs)
+  pub below-pass : getD ks i 0 ≤ k → below k (getD vs i 0) (entriesFrom n (i + 1) ks vs) ≡ below k f (entriesFrom n i ks vs)
   below-pass q = rw (slice-cons i n ks 0 h lk, slice-cons i n vs 0 h lv, le-leb (getD ks i 0) k q, add-one)
 
-  pub below-stop : k < getD ks i 0 → below k f (from n i ks vs) ≡ f
+  pub below-stop : k < getD ks i 0 → below k f (entriesFrom n i ks vs) ≡ f
   below-stop q = rw (slice-cons i n ks 0 h lk, slice-cons i n vs 0 h lv, lt-leb (getD ks i 0) k q)
 
-pub below-end : (k f n : ℕ) (ks vs : List ℕ) → below k f (from n n ks vs) ≡ f
+pub below-end : (k f n : ℕ) (ks vs : List ℕ) → below k f (entriesFrom n n ks vs) ≡ f
 below-end k f n ks vs = rw (slice-empty n ks)
 
 module _ (k n i : ℕ) (ks vs : List ℕ) (h : i < n) (lk : n ≤ length ks) (lv : n ≤ length vs) where
-  pub lookup-pass : (getD ks i 0 ≡ k → ⊥) → lookup k (from n (i + 1) ks vs) ≡ lookup k (from n i ks vs)
+  pub lookup-pass : (getD ks i 0 ≡ k → ⊥) → lookup k (entriesFrom n (i + 1) ks vs) ≡ lookup k (entriesFrom n i ks vs)
   lookup-pass q = rw (slice-cons i n ks 0 h lk, slice-cons i n vs 0 h lv, ne-eqb (getD ks i 0) k q, add-one)
 
-  pub lookup-hit : getD ks i 0 ≡ k → lookup k (from n i ks vs) ≡ Found.found (getD vs i 0)
+  pub lookup-hit : getD ks i 0 ≡ k → lookup k (entriesFrom n i ks vs) ≡ Found.found (getD vs i 0)
   lookup-hit q = rw (slice-cons i n ks 0 h lk, slice-cons i n vs 0 h lv, eq-eqb (getD ks i 0) k q)
 
-pub lookup-end : (k n : ℕ) (ks vs : List ℕ) → lookup k (from n n ks vs) ≡ Found.absent
+pub lookup-end : (k n : ℕ) (ks vs : List ℕ) → lookup k (entriesFrom n n ks vs) ≡ Found.absent
 lookup-end k n ks vs = rw (slice-empty n ks)
-
--- ---- how many pages a list has
-pub pages-on : (lens slots : List ℕ) (n : ℕ) → n < 256 → length slots ≡ 1024 → length (storedList lens slots n) ≡ min (getD lens n 0) 4
-pages-on lens slots n h s =
-    length-take (getD lens n 0) (part (4 * n) 4 slots) ∙ ap (min (getD lens n 0)) (length-part slots (4 * n) 4 (omega arith))
-
-pub pages-off : (lens slots : List ℕ) (n : ℕ) → length lens ≤ n → length (storedList lens slots n) ≡ 0
-pages-off lens slots n h = rw (List·getD-eq-default lens 0 {n = n} h)
 
 -- ---- a node that is read shows what the table holds
 pub holds-shown : (g : Geometry) (limit : ℕ) (pages : List Page) (lens slots : List ℕ) (count : ℕ) (bytes : List ℕ) (n : ℕ) (w : View) (r : Node)
-    → w ≡ nodeView g limit pages lens slots count bytes n → Holds w r → Holds (at (shown g limit pages lens slots count bytes) n) r
+    → w ≡ nodeView g limit pages lens slots count bytes n → ShowsView w r → ShowsView (at (shown g limit pages lens slots count bytes) n) r
 holds-shown g limit pages lens slots count bytes n w r e h =
     record {
       level = h .level ∙ ap levelOf e ∙ sym (level-shown g limit pages lens slots count bytes n);
@@ -206,7 +121,7 @@ holds-shown g limit pages lens slots count bytes n w r e h =
     }
 
 -- ---- the way down, at node n of the table, which x shows
-module _ (lens slots : List ℕ) (n k : ℕ) (t : Table) (x : Node) (p : ℕ) (hx : Holds (at t n) x)
+module _ (lens slots : List ℕ) (n k : ℕ) (t : Table) (x : Node) (p : ℕ) (hx : ShowsView (at t n) x)
     (ep : p ≡ length (storedList lens slots n)) (lp : p ≤ 4) where
   -- at the leaf
   pub at-leaf : (l : ℕ) (h : Hit) → l ≡ 0 → hitOf h ≡ lookup k (C.entriesOf x) → Finds lens slots l n k t (record { hit = h; leaf = n; pages = p })

@@ -18,15 +18,16 @@ use Rattle.pages.specs.declared.unit.Unit as U
 use Rattle.pages.specs.declared.unit.Update.the-variants.{Delete}
 use Rattle.pages.specs.Units.{decodes}
 use Rattle.views.specs.Nodes.{Entry, View, view, Above, Rising, insertEntry}
-use Rattle.views.specs.Pass.{pushed}
+use Rattle.views.specs.PassCode.{pushed}
 use Rattle.views.specs.Groups.{unitFor}
 use Rattle.views.proofs.Entries.{insert-most}
-use Rattle.tree.specs.Tree.{levelOf, entriesOf as entriesIn, there, Table, at, put, entriesAt, next, rootLevel, below, child, firstKey, Up, stop, gains, tableOf, halve, raise, hold, gain, pass, insertAt, inserted, refusal, done, allowed, insert, leafAt}
-use Rattle.tree.specs.Step6.{top, isLevel, Leads, Fits, Tree}
+use Rattle.views.proofs.BufferLaws.{pushed-append}
+use Rattle.tree.specs.Tree.{levelOf, entriesOf as entriesIn, there, Table, at, put, entriesAt, next, rootLevel, below, child, firstKey, Up, stop, gains, tableOf, halve, raise, fitOrSplit, gain, pass, insertAt, inserted, refusal, done, allowed, insert, leafAt}
+use Rattle.tree.specs.Step6.{top, isLevel, Leads, NodeFits, Tree}
 use Rattle.tree.specs.Units.{afterUnits, halveUnits, raiseUnits, holdUnits, gainUnits, passUnits, insertUnitsAt, insertUnits, deleteUnits}
 use Rattle.tree.specs.declared.insert.Rise.{Rise}
 use Rattle.tree.specs.declared.insert.Inserted.{Inserted}
-use Rattle.tree.specs.InsertCode.{Move, able, holdMove, Went, Moved, Holds, Keeps, needsOf, Refused, Lands, Passes, tableIn, Ready, givesOf, keyOf, numberOf, Over, Sound, Outcome, Fresh, Way, Rises, answers, Inserts, Written, Deletes}
+use Rattle.tree.specs.InsertCode.{Move, able, holdMove, Went, Moved, MakesMove, FrontKept, needsOf, Refused, Lands, PassesUp, tableIn, Ready, givesOf, upKey, upNumber, OverLimit, Sound, Outcome, Fresh, Way, Rises, answers, Inserts, UnitsPushed, Deletes}
 use Rattle.tree.proofs.Entries.{Between, insert-step}
 use Rattle.tree.proofs.Tables.{at-same, at-other, there-below}
 use Rattle.tree.proofs.Numbers.{next-same, next-halve, next-raise, raised}
@@ -35,13 +36,13 @@ use Rattle.tree.proofs.Step6.{is-node}
 use Rattle.tree.proofs.Paths.{leads}
 use Rattle.tree.proofs.Fresh.{fresh}
 use Rattle.tree.proofs.Units.{unitRoom, Made, gain-made, RootGain, root-gain, after-append, insert-units, delete-units}
-use Rattle.tree.proofs.ShownLaws.{shown-pushed, pushed-good, pushed-append}
+use Rattle.tree.proofs.ShownLaws.{shown-pushed, pushed-good}
 use Rattle.tree.proofs.InsertLaws.{keeps-pushed}
 use Rattle.tree.proofs.Validity.{Small, Smalls, UpSmall, Obeys, RootLow, gain-obeys, gain-low, pass-more, delete-valid}
 
 -- ---- what is not on the way stays
 gain-other : (l n k v : ℕ) (u : Table) (j : ℕ) → (n ≡ j → ⊥) → (n ≡ 0 → ⊥) → j < next u → at (tableOf (gain l n k v u)) j ≡ at u j
-unfolding gain hold halve
+unfolding gain fitOrSplit halve
 gain-other l n k v u j d z h =
     let es = insertEntry k v (entriesAt u n) in
     cases (leb (length es) 16)
@@ -87,7 +88,7 @@ rising-small : (es : List Entry) → Rising es → Small es → Between 0 top es
 rising-small [] a s = omega arith
 rising-small (e ∷ es) a (more q s) = (omega arith, above-between (e .key) es (q .0) a s)
 
-gaining-at : (u : Table) (l n k v : ℕ) → at u n ≡ view l (entriesAt u n) → Fits (entriesAt u n) → Small (entriesAt u n) → k < top → Gaining u l n k v 0 top
+gaining-at : (u : Table) (l n k v : ℕ) → at u n ≡ view l (entriesAt u n) → NodeFits (entriesAt u n) → Small (entriesAt u n) → k < top → Gaining u l n k v 0 top
 gaining-at u l n k v e f s h = record {
   entries = entriesAt u n;
   is = e;
@@ -96,7 +97,7 @@ gaining-at u l n k v e f s h = record {
 }
 
 -- ---- a node that gains an entry, within the limits
-up-small : (r : Up) → UpSmall r → (keyOf r < top) × (numberOf r < top)
+up-small : (r : Up) → UpSmall r → (upKey r < top) × (upNumber r < top)
 up-small (stop t) h = (omega arith, omega arith)
 up-small (gains k m t) h = h
 
@@ -181,7 +182,7 @@ needs-low need l m n len e h b =
 -- ---- the move of the code is that gain
 -- it is made, within the limits
 record Within (limit need : ℕ) (m : Move) (ys : List U.Unit) (up : Up) : Type 0 where
-  pub is : m ≡ able ys (givesOf up) (keyOf up) (numberOf up) (next (tableOf up))
+  pub is : m ≡ able ys (givesOf up) (upKey up) (upNumber up) (next (tableOf up))
   pub numbers : next (tableOf up) ≤ limit
   pub low : rootLevel (tableOf up) ≤ 3
   pub room : givesOf up ≡ true → next (tableOf up) + need ≤ limit
@@ -195,7 +196,7 @@ module _ (limit need x l n k v count : ℕ) (u : Table) (on : there (at u n) ≡
   Case = Within limit need (holdMove limit x l n k v es count) (gainUnits l n k v u) (gain l n k v u)
 
   within-fit : x ≤ limit → length es ≤ 16 → Case
-  unfolding gain hold gainUnits holdUnits
+  unfolding gain fitOrSplit gainUnits holdUnits
   within-fit hx q =
       let b : n < next u = there-below u n on in
       let nx : next (put n (view l es) u) ≡ x = next-same l n es u b ∙ sym ex in
@@ -213,7 +214,7 @@ module _ (limit need x l n k v count : ℕ) (u : Table) (on : there (at u n) ≡
       })
 
   within-raise : x + 2 ≤ limit → 16 < length es → n ≡ 0 → l < 3 → Case
-  unfolding gain hold gainUnits holdUnits
+  unfolding gain fitOrSplit gainUnits holdUnits
   within-raise hx q z g =
       let nx : next (raise l (next u) es u) ≡ x + 2 = next-raise l es u ∙ omega arith in
       let lw : rootLevel (raise l (next u) es u) ≡ suc l = raised l (next u) es u in
@@ -226,7 +227,7 @@ module _ (limit need x l n k v count : ℕ) (u : Table) (on : there (at u n) ≡
       })
 
   within-halve : x + (need + 1) ≤ limit → 16 < length es → (n ≡ 0 → ⊥) → Case
-  unfolding gain hold gainUnits holdUnits halve
+  unfolding gain fitOrSplit gainUnits holdUnits halve
   within-halve hx q d =
       let b : n < next u = there-below u n on in
       let nx : next (halve l n (next u) es u) ≡ x + 1 = next-halve l n es u b ∙ omega arith in
@@ -259,21 +260,21 @@ module _ (limit need l n k v : ℕ) (u : Table) (on : there (at u n) ≡ 1) wher
   abbrev ds : List Entry
   ds = insertEntry k v (entriesAt u n)
 
-  over-fit : limit < next u → length ds ≤ 16 → Over limit need n (gain l n k v u)
-  unfolding gain hold
+  over-fit : limit < next u → length ds ≤ 16 → OverLimit limit need n (gain l n k v u)
+  unfolding gain fitOrSplit
   over-fit h q = rw (le-leb (length ds) 16 q) (inl (omega (arith, next-same l n ds u (there-below u n on))))
 
-  over-raise : 16 < length ds → n ≡ 0 → ((limit < next u + 2) ⊎ (3 ≤ l)) → Over limit need n (gain l n k v u)
-  unfolding gain hold
+  over-raise : 16 < length ds → n ≡ 0 → ((limit < next u + 2) ⊎ (3 ≤ l)) → OverLimit limit need n (gain l n k v u)
+  unfolding gain fitOrSplit
   over-raise q z o =
       rw (lt-leb (length ds) 16 q, eq-eqb n 0 z)
       (⊎-elim (λ h. inl (omega (arith, next-raise l ds u))) (λ h. inr (inl (z, omega (arith, raised l (next u) ds u)))) o)
 
-  over-halve : limit < next u + (need + 1) → 16 < length ds → (n ≡ 0 → ⊥) → Over limit need n (gain l n k v u)
-  unfolding gain hold
+  over-halve : limit < next u + (need + 1) → 16 < length ds → (n ≡ 0 → ⊥) → OverLimit limit need n (gain l n k v u)
+  unfolding gain fitOrSplit
   over-halve h q d = rw (lt-leb (length ds) 16 q, ne-eqb n 0 d) (inr (inr (refl, omega (arith, next-halve l n ds u (there-below u n on)))))
 
-  over : limit < next u + needsOf need l n (length ds) → Over limit need n (gain l n k v u)
+  over : limit < next u + needsOf need l n (length ds) → OverLimit limit need n (gain l n k v u)
   over h =
       let len = length ds in
       needs-by need l n len
@@ -287,12 +288,12 @@ within-outcome : (limit need n : ℕ) (u : Table) (m : Move) (ys : List U.Unit) 
     → (next (tableOf up) ≤ limit → rootLevel (tableOf up) ≤ 3 → Sound limit u ys up × ((n ≡ 0 → ⊥) → length ys ≤ 19))
     → Moved m count old new r → Outcome limit need n 0 u ys up count old new r
 within-outcome limit need n u m ys up count old new r W s h =
-    let w : Went ys (givesOf up) (keyOf up) (numberOf up) (next (tableOf up)) count old new r = subst (λ (q : Move). Moved q count old new r) (W .is) h in
+    let w : Went ys (givesOf up) (upKey up) (upNumber up) (next (tableOf up)) count old new r = subst (λ (q : Move). Moved q count old new r) (W .is) h in
     let p = s (W .numbers) (W .low) in
     record { refused = λ f. clash f (w .refused); sound = λ _. p .0; went = λ _. w; room = λ _. W .room; few = λ _ d. omega (arith, p .1 d) }
 
 -- node n of level l of table u gains (k, v)
-gain-outcome : (limit need x l n k v count : ℕ) (u : Table) → at u n ≡ view l (entriesAt u n) → Fits (entriesAt u n) → Smalls u → there (at u 0) ≡ 1
+gain-outcome : (limit need x l n k v count : ℕ) (u : Table) → at u n ≡ view l (entriesAt u n) → NodeFits (entriesAt u n) → Smalls u → there (at u 0) ≡ 1
     → x ≡ next u → limit ≤ 256 → l ≤ 3 → rootLevel u ≤ 3 → ((n ≡ 0 → ⊥) → l < 3) → count ≤ 900 + 19 * l → k < top → v < top
     → x + needsOf need l n (length (insertEntry k v (entriesAt u n))) ≤ limit
     → (old new : List ℕ) (r : Rise) → Moved (holdMove limit x l n k v (insertEntry k v (entriesAt u n)) count) count old new r
@@ -307,7 +308,7 @@ gain-outcome limit need x l n k v count u e f ts root ex hl l3 low inner hc hk h
 -- the child was over the limits, with what its parent needs
 over-pass : (limit need m n c len : ℕ) (up : Up) → (c ≡ 0 → ⊥) → there (at (tableOf up) n) ≡ 1
     → ((j i : ℕ) (u : Table) → up ≡ gains j i u → length (insertEntry j i (entriesAt u n)) ≡ len)
-    → Over limit (needsOf need m n len) c up → Over limit need n (pass m n up)
+    → OverLimit limit (needsOf need m n len) c up → OverLimit limit need n (pass m n up)
 over-pass limit need m n c len (stop u) d on f o = ⊎-elim (λ q. inl q) (λ q. ⊎-elim (λ p. absurd (d (p .0))) (λ p. clash (p .0) refl) q) o
 over-pass limit need m n c len (gains j i u) d on f o =
     ⊎-elim
@@ -318,7 +319,7 @@ over-pass limit need m n c len (gains j i u) d on f o =
 
 -- the child gave up nothing, or was refused
 stop-outcome : (limit need told n c l : ℕ) (t : Table) (xs : List U.Unit) (up : Up) (count : ℕ) (old new : List ℕ) (r : Rise) → (c ≡ 0 → ⊥) → r .gains ≡ false
-    → (Over limit told c up → Over limit need n (pass (suc l) n up))
+    → (OverLimit limit told c up → OverLimit limit need n (pass (suc l) n up))
     → Outcome limit told c l t xs up count old new r → Outcome limit need n (suc l) t (xs ++ passUnits (suc l) n up) (pass (suc l) n up) count old new r
 stop-outcome limit need told n c l t xs (stop u) count old new r d g o O =
     rw append-nil
@@ -370,7 +371,7 @@ then-outcome limit need n l k m t u xs ys up count i old mid new r A e q h j lx 
   few = λ f d. rw length-append (omega (arith, O .few f d));
 }
 
-keeps-then : (count i j : ℕ) (old mid new : List ℕ) → Keeps count old i mid → Keeps i mid j new → Keeps count old j new
+keeps-then : (count i j : ℕ) (old mid new : List ℕ) → FrontKept count old i mid → FrontKept i mid j new → FrontKept count old j new
 keeps-then count i j old mid new a b = record {
   same = b .same ∙ a .same;
   front =
@@ -399,7 +400,7 @@ module _ (image lens slots : List ℕ) (limit : ℕ) (hl : limit ≤ 256) where
       len = length (insertEntry k v (entriesAt t n))
 
       -- the leaf holds it
-      leaf-held : x + needsOf need 0 n len ≤ limit → Holds (holdMove limit x 0 n k v (insertEntry k v (entriesAt t n)) count) count old new r
+      leaf-held : x + needsOf need 0 n len ≤ limit → MakesMove (holdMove limit x 0 n k v (insertEntry k v (entriesAt t n)) count) count old new r
           → Rises image lens slots limit x 0 n need k v count old new r
       unfolding insertAt insertUnitsAt
       leaf-held h H = record {
@@ -482,7 +483,7 @@ module _ (image lens slots : List ℕ) (limit : ℕ) (hl : limit ≤ 256) where
         }
 
         module _ (new : List ℕ) (r₂ : Rise) (g : r .gains ≡ true)
-            (H : Holds (holdMove limit (r .next) (suc m) n (r .key) (r .number) (insertEntry (r .key) (r .number) es) (r .count)) (r .count) mid new r₂) where
+            (H : MakesMove (holdMove limit (r .next) (suc m) n (r .key) (r .number) (insertEntry (r .key) (r .number) es) (r .count)) (r .count) mid new r₂) where
           -- the node gains what its child gave up
           up-outcome : (us : List U.Unit) → Ready limit x count old us t → Way (suc m) n k v t → (up : Up) → insertAt m c k v t ≡ up
               → Outcome limit told c m t (insertUnitsAt m c k v t) up count old mid r
@@ -511,7 +512,7 @@ module _ (image lens slots : List ℕ) (limit : ℕ) (hl : limit ≤ 256) where
               move-same limit (suc m) n (r .next) (next u) (r .key) k′ (r .number) m′ (r .count) es (entriesAt u n) mid new r₂ (X .next) (X .key) (X .number) eu (H .is) in
               then-outcome limit need n m k′ m′ t u xs (gainUnits (suc m) n k′ m′ u) (gain (suc m) n k′ m′ u) count (r .count) old mid new r₂ S (X .bytes) (X .used) (X .long)
               (A .keeps .room) (O .few f d)
-              (gain-outcome limit need (next u) (suc m) n k′ m′ (r .count) u vu (subst (λ (s : View). Fits (entriesIn s)) (sym en) (R .tree .views n)) (S .small)
+              (gain-outcome limit need (next u) (suc m) n k′ m′ (r .count) u vu (subst (λ (s : View). NodeFits (entriesIn s)) (sym en) (R .tree .views n)) (S .small)
               (ap there e0 ∙ root-there (R .tree)) refl hl (omega (arith, W .low, R .levels)) (S .low) inner
               (omega (arith, X .used, R .room, O .few f d)) (S .key) (S .number) fits mid new r₂ M)
 
@@ -526,7 +527,7 @@ module _ (image lens slots : List ℕ) (limit : ℕ) (hl : limit ≤ 256) where
                 (up-outcome us R W (insertAt m c k v t) refl (A .is us R (way-child m n c ec W)));
           }
 
-        rises-up : (new : List ℕ) (a : Rise) → Passes limit (suc m) n es r mid new a → Rises image lens slots limit x (suc m) n need k v count old new a
+        rises-up : (new : List ℕ) (a : Rise) → PassesUp limit (suc m) n es r mid new a → Rises image lens slots limit x (suc m) n need k v count old new a
         rises-up new a P =
             cases (r .gains)
             (λ g. rises-gain new a g (P .gained g))
@@ -535,13 +536,13 @@ module _ (image lens slots : List ℕ) (limit : ℕ) (hl : limit ≤ 256) where
             (subst (λ (b : Rise). Rises image lens slots limit x (suc m) n need k v count old mid b) (sym (s .1)) (rises-stop g)))
 
     pub rises-pass : (need l m n c told : ℕ) (es : List Entry) (mid new : List ℕ) (r a : Rise) → l ≡ suc m → es ≡ entriesAt t n → c ≡ below k 0 es
-        → told ≡ needsOf need l n (suc (length es)) → Rises image lens slots limit x m c told k v count old mid r → Passes limit l n es r mid new a
+        → told ≡ needsOf need l n (suc (length es)) → Rises image lens slots limit x m c told k v count old mid r → PassesUp limit l n es r mid new a
         → Rises image lens slots limit x l n need k v count old new a
     rises-pass need l m n c told es mid new r a z e q w A P =
         subst (λ (i : ℕ). Rises image lens slots limit x i n need k v count old new a) (sym z)
         (rises-up need m n c es e (q ∙ ap (below k 0) e) mid r
         (subst (λ (i : ℕ). Rises image lens slots limit x m c i k v count old mid r) (w ∙ ap (λ (i : ℕ). needsOf need i n (suc (length es))) z) A)
-        new a (subst (λ (i : ℕ). Passes limit i n es r mid new a) z P))
+        new a (subst (λ (i : ℕ). PassesUp limit i n es r mid new a) z P))
 
     -- ---- an insert from node 0
     root-way : Tree t → Way (rootLevel t) 0 k v t
@@ -551,7 +552,7 @@ module _ (image lens slots : List ℕ) (limit : ℕ) (hl : limit ≤ 256) where
     left = tableOf (insertAt (rootLevel t) 0 k v t)
 
     -- over the limits it is refused
-    over-refused : Over limit 0 0 (insertAt (rootLevel t) 0 k v t) → insert limit k v t ≡ refusal 5
+    over-refused : OverLimit limit 0 0 (insertAt (rootLevel t) 0 k v t) → insert limit k v t ≡ refusal 5
     unfolding insert allowed inserted
     over-refused o =
         ⊎-elim
@@ -626,7 +627,7 @@ module _ (image lens slots : List ℕ) (limit : ℕ) (hl : limit ≤ 256) where
     }
 
     -- one unit
-    pub delete-made : (new : List ℕ) → Written (unitFor leaf (Delete k) ∷ []) count old new (count + 1) → count < 960 → Deletes image lens slots limit leaf k count old new (count + 1)
+    pub delete-made : (new : List ℕ) → UnitsPushed (unitFor leaf (Delete k) ∷ []) count old new (count + 1) → count < 960 → Deletes image lens slots limit leaf k count old new (count + 1)
     unfolding deleteUnits
     delete-made new w h = record {
       keeps = keeps-pushed (unitFor leaf (Delete k) ∷ []) count (count + 1) old new (w .bytes) refl (omega arith) (w .long);

@@ -8,7 +8,7 @@ use lib.ListN.{length, take, drop, take-append-drop, length-take, length-drop, l
 use borrow.Author.Tests.{ne-eqb, le-leb, lt-leb}
 use Rattle.lists.proofs.Flats.{flat-append, map-append}
 use Rattle.views.specs.Nodes.{Entry, entry, view, insertEntry, deleteEntry}
-use Rattle.tree.specs.Tree.{there, Table, at, put, entriesAt, next, child, firstKey, Up, stop, gains, tableOf, halve, hold, gain, pass, insertAt, deleteAt}
+use Rattle.tree.specs.Tree.{there, Table, at, put, entriesAt, next, child, firstKey, Up, stop, gains, tableOf, halve, fitOrSplit, gain, pass, insertAt, deleteAt}
 use Rattle.tree.specs.Step6.{times}
 use Rattle.lists.proofs.Tests.{below-or-not}
 use Rattle.lists.proofs.Flats.{map-take, map-drop}
@@ -241,8 +241,8 @@ module _ (t : Table) (l lo hi : ℕ) (s : Shape l) (o : Over t l lo hi s) where
       }
 
   -- the rule at any node but node 0
-  pub held : (number l s ≡ 0 → ⊥) → length (tops l s) ≤ 17 → Grown same t (hold l (number l s) (tops l s) t) l lo hi s
-  unfolding hold
+  pub held : (number l s ≡ 0 → ⊥) → length (tops l s) ≤ 17 → Grown same t (fitOrSplit l (number l s) (tops l s) t) l lo hi s
+  unfolding fitOrSplit
   held n le =
       ⊎-elim
       (λ (q : 16 < length (tops l s)). rw (lt-leb (length (tops l s)) 16 q, ne-eqb (number l s) 0 n) (splits q le))
@@ -378,7 +378,7 @@ module _ (k : ℕ) (f : List Entry → List Entry) (st : LeafStep k f) (t : Tabl
     unfolding gain
     when-held z =
         let x : Shape (suc l) = record { number = n; kids = before ++ (g .mids ++ after) } in
-        rw gained-tops (after-that (hold (suc l) n (tops (suc l) x) (tableOf r)) (held (tableOf r) (suc l) lo hi x joined-over z gained-size))
+        rw gained-tops (after-that (fitOrSplit (suc l) n (tops (suc l) x) (tableOf r)) (held (tableOf r) (suc l) lo hi x joined-over z gained-size))
 
 pub record Gaining (t : Table) (l n k m lo hi : ℕ) : Type 0 where
   pub entries : List Entry
@@ -463,7 +463,7 @@ insert-leaf k v t lo hi s h z low high =
     let es = insertEntry k v (s .entries) in
     let e : entriesAt t (s .number) ≡ s .entries = rw (h .0 .is) in
     rw e
-    (leaf-grown (insertEntry k v) t (hold 0 (s .number) es t) lo hi s
+    (leaf-grown (insertEntry k v) t (fitOrSplit 0 (s .number) es t) lo hi s
     (held t 0 lo hi (record { number = s .number; entries = es })
     (leaf-over t lo hi s es h (insert-step k v .keeps lo hi (s .entries) low high (h .0 .keys)) (omega arith))
     z (omega (arith, insert-most k v (s .entries), h .0 .size))))

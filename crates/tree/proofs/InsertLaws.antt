@@ -1,7 +1,7 @@
 -- The halves of a node, what is pushed for a node that gains an entry, and the entry at its leaf. Assumes nothing.
 use mathlib.Core.Path.{_≡_, refl, sym, ap, ap₂, _∙_, subst}
 use mathlib.Core.Bool.{Bool, true, false, cond, _&&_}
-use mathlib.Core.List.{List, [], _∷_, _++_, map, append-nil}
+use mathlib.Core.List.{List, [], _∷_, _++_, map}
 use Prim.Native.Nat.{ℕ, zero, suc, _+_, _*_, _<_, _≤_}
 use native.Mathlib.Omega.{arith}
 use native.Mathlib.Numerals.{add-one}
@@ -10,20 +10,18 @@ use lib.ListN.{length, take, drop, getD, length-append, length-map, length-drop,
 use lib.Seq.{length-take-le, drop-cons, take-all}
 use borrow.Author.Tests.{ltb-true, leb-true, leb-false}
 use Rattle.views.specs.declared.node.Node as N
-use Rattle.lists.specs.Lists.{patch}
 use Rattle.lists.proofs.Tests.{clash, and-left, and-right}
 use Rattle.pages.specs.declared.unit.Unit as U
-use Rattle.pages.specs.Units.{encode}
 use Rattle.views.specs.Nodes.{Entry, anew, insertEntry}
 use Rattle.views.specs.Groups.{unitFor}
-use Rattle.views.specs.Pass.{pushed, nodeUnits}
+use Rattle.views.specs.PassCode.{pushed, nodeUnits}
 use Rattle.views.specs.NodeCode.{pairs, entriesOf, Shows}
 use Rattle.views.proofs.NodeLaws.{length-entries}
+use Rattle.views.proofs.BufferLaws.{length-pushed, pushed-append, take-pushed}
 use Rattle.tree.specs.Tree.{firstKey}
 use Rattle.tree.specs.Units.{anewAt, halveUnits, raiseUnits}
 use Rattle.tree.specs.declared.insert.Rise.{Rise}
-use Rattle.tree.specs.InsertCode.{two, Written, Keeps, Move, unable, able, holdMove, Stayed, Holds, needsOf, Refused, Lands, Passes}
-use Rattle.tree.proofs.ShownLaws.{length-pushed, pushed-append, take-pushed}
+use Rattle.tree.specs.InsertCode.{two, UnitsPushed, FrontKept, Move, unable, able, holdMove, Stayed, MakesMove, needsOf, Refused, Lands, PassesUp}
 
 -- ---- the halves of a node of 17 entries
 take-pairs : (n : ℕ) (ks vs : List ℕ) → take n (pairs ks vs) ≡ pairs (take n ks) (take n vs)
@@ -90,8 +88,8 @@ module _ (n : N.Node) (h : n .len ≡ 17) (lk : length (n .keys) ≡ 17) (lv : l
       ∙ ap (firstKey 0) (drop-pairs 9 (n .keys) (n .values) ∙ ap₂ pairs (eight (n .keys) lk) (eight (n .values) lv)))
 
 -- ---- units written one after the other
-pub written-two : (us vs : List U.Unit) (count i j : ℕ) (old mid new : List ℕ) → Written us count old mid i → Written vs i mid new j → i ≤ 960
-    → Written (us ++ vs) count old new j
+pub written-two : (us vs : List U.Unit) (count i j : ℕ) (old mid new : List ℕ) → UnitsPushed us count old mid i → UnitsPushed vs i mid new j → i ≤ 960
+    → UnitsPushed (us ++ vs) count old new j
 written-two us vs count i j old mid new a b h = record {
   bytes =
       b .bytes ∙ ap₂ (λ (x : List ℕ) (m : ℕ). pushed x m vs) (a .bytes) (a .size)
@@ -102,7 +100,7 @@ written-two us vs count i j old mid new a b h = record {
 
 -- a node written anew
 pub written-node : (n l : ℕ) (es : List Entry) (x : N.Node) (count i : ℕ) (old new : List ℕ) → Shows x l es → new ≡ pushed old count (nodeUnits n x)
-    → i ≡ count + 1 + x .len → length old ≡ 11520 → Written (anewAt l n es) count old new i
+    → i ≡ count + 1 + x .len → length old ≡ 11520 → UnitsPushed (anewAt l n es) count old new i
 unfolding anewAt
 written-node n l es x count i old new s e q h = record {
   bytes = e ∙ ap₂ (λ (j : ℕ) (ds : List Entry). pushed old count (map (unitFor n) (anew j ds))) (s .same) (s .is);
@@ -111,22 +109,22 @@ written-node n l es x count i old new s e q h = record {
 }
 
 module _ (l low high : ℕ) (es : List Entry) (count i j : ℕ) (old mid new : List ℕ) where
-  pub written-halves : Written (anewAt l low (take 9 es)) count old mid i → Written (anewAt l high (drop 9 es)) i mid new j → i ≤ 960
-      → Written (halveUnits l low high es) count old new j
+  pub written-halves : UnitsPushed (anewAt l low (take 9 es)) count old mid i → UnitsPushed (anewAt l high (drop 9 es)) i mid new j → i ≤ 960
+      → UnitsPushed (halveUnits l low high es) count old new j
   unfolding halveUnits
   written-halves a b h = written-two (anewAt l low (take 9 es)) (anewAt l high (drop 9 es)) count i j old mid new a b h
 
-  pub written-raise : Written (halveUnits l low (low + 1) es) count old mid i → Written (anewAt (l + 1) 0 (two low (firstKey 0 (drop 9 es)) (low + 1))) i mid new j
-      → i ≤ 960 → Written (raiseUnits l low es) count old new j
+  pub written-raise : UnitsPushed (halveUnits l low (low + 1) es) count old mid i → UnitsPushed (anewAt (l + 1) 0 (two low (firstKey 0 (drop 9 es)) (low + 1))) i mid new j
+      → i ≤ 960 → UnitsPushed (raiseUnits l low es) count old new j
   unfolding raiseUnits
   written-raise a b h =
-      subst (λ (m : ℕ). Written (halveUnits l low m es ++ anewAt (suc l) 0 (two low (firstKey 0 (drop 9 es)) m)) count old new j) (add-one low)
-      (subst (λ (d : ℕ). Written (halveUnits l low (low + 1) es ++ anewAt d 0 (two low (firstKey 0 (drop 9 es)) (low + 1))) count old new j) (add-one l)
+      subst (λ (m : ℕ). UnitsPushed (halveUnits l low m es ++ anewAt (suc l) 0 (two low (firstKey 0 (drop 9 es)) m)) count old new j) (add-one low)
+      (subst (λ (d : ℕ). UnitsPushed (halveUnits l low (low + 1) es ++ anewAt d 0 (two low (firstKey 0 (drop 9 es)) (low + 1))) count old new j) (add-one l)
       (written-two (halveUnits l low (low + 1) es) (anewAt (l + 1) 0 (two low (firstKey 0 (drop 9 es)) (low + 1))) count i j old mid new a b h))
 
 -- ---- a move that is made
 pub keeps-pushed : (us : List U.Unit) (count used : ℕ) (old new : List ℕ) → new ≡ pushed old count us → used ≡ count + length us → used ≤ 960
-    → length old ≡ 11520 → Keeps count old used new
+    → length old ≡ 11520 → FrontKept count old used new
 keeps-pushed us count used old new e q h l = record {
   same = ap length e ∙ length-pushed old count us (omega arith);
   front = ap (take (12 * count)) e ∙ take-pushed old count us (omega arith);
@@ -135,7 +133,7 @@ keeps-pushed us count used old new e q h l = record {
 }
 
 -- nothing is pushed
-pub stayed-holds : (count : ℕ) (old new : List ℕ) (r : Rise) → Stayed count old new r → count ≤ 960 → Holds unable count old new r
+pub stayed-holds : (count : ℕ) (old new : List ℕ) (r : Rise) → Stayed count old new r → count ≤ 960 → MakesMove unable count old new r
 stayed-holds count old new r s h = record {
   keeps = record { same = ap length (s .bytes); front = ap (take (12 * count)) (s .bytes); more = omega (arith, s .used); room = omega (arith, s .used) };
   plain = s .refused;
@@ -143,8 +141,8 @@ stayed-holds count old new r s h = record {
 }
 
 -- units are pushed
-pub went-holds : (us : List U.Unit) (g : Bool) (k m x count used : ℕ) (old new : List ℕ) (r : Rise) → Written us count old new used → used ≤ 960
-    → r .count ≡ used → r .refused ≡ false → r .gains ≡ g → r .key ≡ k → r .number ≡ m → r .next ≡ x → Holds (able us g k m x) count old new r
+pub went-holds : (us : List U.Unit) (g : Bool) (k m x count used : ℕ) (old new : List ℕ) (r : Rise) → UnitsPushed us count old new used → used ≤ 960
+    → r .count ≡ used → r .refused ≡ false → r .gains ≡ g → r .key ≡ k → r .number ≡ m → r .next ≡ x → MakesMove (able us g k m x) count old new r
 went-holds us g k m x count used old new r w h e f g′ k′ m′ x′ = record {
   keeps = keeps-pushed us count (r .count) old new (w .bytes) (e ∙ w .size) (omega arith) (w .long);
   plain = f;
@@ -152,17 +150,16 @@ went-holds us g k m x count used old new r w h e f g′ k′ m′ x′ = record 
 }
 
 -- one unit is pushed
-pub written-one : (u : U.Unit) (count : ℕ) (old new : List ℕ) → new ≡ patch old (12 * count) 12 (encode u) → length old ≡ 11520
-    → Written (u ∷ []) count old new (count + 1)
-written-one u count old new e l =
-    record { bytes = e ∙ ap (patch old (12 * count) 12) (sym (append-nil (encode u))); size = refl; long = l }
+pub written-one : (u : U.Unit) (count : ℕ) (old new : List ℕ) → new ≡ pushed old count (u ∷ []) → length old ≡ 11520
+    → UnitsPushed (u ∷ []) count old new (count + 1)
+written-one u count old new e l = record { bytes = e; size = refl; long = l }
 
 -- by the outcome of the test that decides about a move
-pub able-holds : (b : Bool) (m : Move) (count : ℕ) (old new : List ℕ) (r : Rise) → b ≡ true → Holds m count old new r → Holds (cond b m unable) count old new r
+pub able-holds : (b : Bool) (m : Move) (count : ℕ) (old new : List ℕ) (r : Rise) → b ≡ true → MakesMove m count old new r → MakesMove (cond b m unable) count old new r
 able-holds b m count old new r e h = rw e h
 
 pub unable-holds : (b : Bool) (m : Move) (count : ℕ) (old : List ℕ) (r : Rise) → b ≡ false → Stayed count old old r → count ≤ 960
-    → Holds (cond b m unable) count old old r
+    → MakesMove (cond b m unable) count old old r
 unable-holds b m count old r e s h = rw e (stayed-holds count old old r s h)
 
 -- ---- what the tests tell
@@ -192,9 +189,9 @@ module _ (limit x need n k v count : ℕ) (es : List Entry) (l : ℕ) (y : N.Nod
   told-is : told ≡ needsOf need 0 n (length (insertEntry k v es))
   told-is = e ∙ ap (needsOf need 0 n) (sym (S .len))
 
-  pub lands-held : leb (x + told) limit ≡ true → Holds (holdMove limit x 0 n k v (entriesOf y) count) count old new r → Lands limit x need n k v count es old new r
+  pub lands-held : leb (x + told) limit ≡ true → MakesMove (holdMove limit x 0 n k v (entriesOf y) count) count old new r → Lands limit x need n k v count es old new r
   lands-held b H = record {
-    held = λ _. subst (λ (ds : List Entry). Holds (holdMove limit x 0 n k v ds count) count old new r) (S .is) H;
+    held = λ _. subst (λ (ds : List Entry). MakesMove (holdMove limit x 0 n k v ds count) count old new r) (S .is) H;
     refused = λ h. absurd (omega (arith, leb-true (x + told) limit b, told-is));
   }
 
@@ -206,9 +203,9 @@ module _ (limit x need n k v count : ℕ) (es : List Entry) (l : ℕ) (y : N.Nod
 
 -- ---- what a child gave up
 pub passes-gained : (limit l n : ℕ) (es : List Entry) (a : Rise) (d : ℕ) (y : N.Node) (old new : List ℕ) (r : Rise) → a .gains ≡ true
-    → Shows y d (insertEntry (a .key) (a .number) es) → Holds (holdMove limit (a .next) l n (a .key) (a .number) (entriesOf y) (a .count)) (a .count) old new r
-    → Passes limit l n es a old new r
+    → Shows y d (insertEntry (a .key) (a .number) es) → MakesMove (holdMove limit (a .next) l n (a .key) (a .number) (entriesOf y) (a .count)) (a .count) old new r
+    → PassesUp limit l n es a old new r
 passes-gained limit l n es a d y old new r g S H = record {
-  gained = λ _. subst (λ (ds : List Entry). Holds (holdMove limit (a .next) l n (a .key) (a .number) ds (a .count)) (a .count) old new r) (S .is) H;
+  gained = λ _. subst (λ (ds : List Entry). MakesMove (holdMove limit (a .next) l n (a .key) (a .number) ds (a .count)) (a .count) old new r) (S .is) H;
   same = λ e. clash g e;
 }

@@ -8,10 +8,10 @@ use lib.Dec.{leb}
 use lib.ListN.{replicate}
 use borrow.Author.Tests.{leb-true}
 use Rattle.lists.proofs.Tests.{and-left, and-right}
-use Rattle.views.specs.Nodes.{Entry, untouched, view, Rising, insertEntry, deleteEntry}
+use Rattle.views.specs.Nodes.{Entry, untouched, view, insertEntry, deleteEntry}
 use Rattle.tree.specs.Tree.{there, Table, at, next, rootLevel, inserted, refusal, done, allowed, insert, delete, found, absent, lookup, findAt, find, recordsAt, records}
 use Rattle.tree.specs.Step6.{top, times, Tree}
-use Rattle.tree.proofs.Entries.{Between, rising-between, insert-same, insert-other, delete-same, delete-other}
+use Rattle.tree.proofs.Entries.{Between, insert-same, insert-other, delete-same, delete-other}
 use Rattle.tree.proofs.Shape.{recs, hit-same, hit-other, sub-between}
 use Rattle.tree.proofs.Steps.{Shaped, Rooted, level-at, insert-tree, delete-tree, find-records}
 use Rattle.tree.proofs.Step6.{tree-of, shape-of, records-is}
@@ -37,9 +37,6 @@ delete-keeps k t g h = kept (deleteEntry k) t (delete k t) (shape-of t g) (delet
 -- the records are in key order, and to find is to look up among them
 pub records-between : (t : Table) → Tree t → Between 0 top (records t)
 records-between t g = let T = shape-of t g in rw (records-of t T) (sub-between 16 t (T .level) 0 top (T .shape) (T .sub))
-
-pub records-rise : (t : Table) → Tree t → Rising (records t)
-records-rise t g = rising-between 0 top (records t) (records-between t g)
 
 pub find-is : (k : ℕ) (t : Table) → Tree t → k < top → find k t ≡ lookup k (records t)
 unfolding find

@@ -7,7 +7,7 @@ use native.Mathlib.Omega.{arith}
 use lib.Dec.{eqb, leb}
 use lib.ListN.{length, take, drop}
 use Rattle.views.specs.Nodes.{entry, view, insertEntry}
-use Rattle.tree.specs.Tree.{Table, put, entriesAt, next, firstKey, child, Up, stop, gains, tableOf, halve, raise, hold, gain, pass, insertAt, rootLevel, inserted, done, insert, records}
+use Rattle.tree.specs.Tree.{Table, put, entriesAt, next, firstKey, child, Up, stop, gains, tableOf, halve, raise, fitOrSplit, gain, pass, insertAt, rootLevel, inserted, done, insert, records}
 use Rattle.tree.specs.Step6.{top, Tree}
 use Rattle.tree.proofs.Tables.{Ext, ext-put, ext-same}
 use Rattle.tree.proofs.Laws.{insert-done, inserted-keeps}
@@ -17,7 +17,7 @@ cond-ext true t x y p q = p
 cond-ext false t x y p q = q
 
 pub gain-ext : (l n k v : ℕ) (t u : Table) → Ext t u → Ext t (tableOf (gain l n k v u))
-unfolding gain hold halve raise
+unfolding gain fitOrSplit halve raise
 gain-ext l n k v t u e =
     let es = insertEntry k v (entriesAt u n) in
     let m = next u in

@@ -13,7 +13,7 @@ use Rattle.lists.specs.Lists.{flat}
 use Rattle.lists.proofs.Tests.{and-left, and-right}
 use Rattle.views.specs.Nodes.{Entry, View, untouched, broken, view, Above, Rising}
 use Rattle.tree.specs.Tree.{there, Table, at, entriesOf, entriesAt, firstKey, rootLevel, recordsAt}
-use Rattle.tree.specs.Step6.{top, times, isLevel, keysIn, areSubtrees, isSubtree, reached, onceFrom, step6, Fits, Tree}
+use Rattle.tree.specs.Step6.{top, times, isLevel, keysIn, areSubtrees, isSubtree, reached, onceFrom, step6, NodeFits, Tree}
 use Rattle.lists.proofs.Tests.{below-or-not, same-or-not}
 use Rattle.tree.proofs.Entries.{Between, between-le, between-down, rising-between}
 use Rattle.tree.proofs.Shape.{Kid, Shape, number, entryOf, tops, rest, nums, recs, numsOf, startOf, Starts, Kids, Held, Inner, Sub, times-append, hit-other, start-first, sub-out}
@@ -136,7 +136,38 @@ ok-kids t l f i hi (e ∷ es) b h =
       ok-kids t l f (suc (e .key)) hi es (b .1) (and-right x (areSubtrees (isSubtree l t) hi es) h),
     )
 
-module _ (t : Table) (vs : (n : ℕ) → Fits (entriesAt t n)) where
+-- what a tree of level l + 1 asks of its top, rule by rule
+pub record BranchRules (l : ℕ) (t : Table) (n lo hi : ℕ) : Type 0 where
+  pub level : isLevel (suc l) (at t n) ≡ true
+  pub some : leb 1 (length (entriesAt t n)) ≡ true
+  pub few : leb (length (entriesAt t n)) 16 ≡ true
+  pub start : eqb (firstKey 0 (entriesAt t n)) lo ≡ true
+  pub keys : keysIn lo hi (entriesAt t n) ≡ true
+  pub kids : areSubtrees (isSubtree l t) hi (entriesAt t n) ≡ true
+
+pub branch-rules : (l : ℕ) (t : Table) (n lo hi : ℕ) → isSubtree (suc l) t n lo hi ≡ true → BranchRules l t n lo hi
+branch-rules l t n lo hi h =
+    let es = entriesAt t n in
+    let a₆ = areSubtrees (isSubtree l t) hi es in
+    let a₅ = keysIn lo hi es in
+    let a₄ = eqb (firstKey 0 es) lo in
+    let a₃ = leb (length es) 16 in
+    let a₂ = leb 1 (length es) in
+    let a₁ = isLevel (suc l) (at t n) in
+    let h₂ = and-right a₁ (a₂ && (a₃ && (a₄ && (a₅ && a₆)))) h in
+    let h₃ = and-right a₂ (a₃ && (a₄ && (a₅ && a₆))) h₂ in
+    let h₄ = and-right a₃ (a₄ && (a₅ && a₆)) h₃ in
+    let h₅ = and-right a₄ (a₅ && a₆) h₄ in
+    record {
+      level = and-left a₁ (a₂ && (a₃ && (a₄ && (a₅ && a₆)))) h;
+      some = and-left a₂ (a₃ && (a₄ && (a₅ && a₆))) h₂;
+      few = and-left a₃ (a₄ && (a₅ && a₆)) h₃;
+      start = and-left a₄ (a₅ && a₆) h₄;
+      keys = and-left a₅ a₆ h₅;
+      kids = and-right a₅ a₆ h₅;
+    }
+
+module _ (t : Table) (vs : (n : ℕ) → NodeFits (entriesAt t n)) where
   held-read : (l n lo hi : ℕ) → isLevel l (at t n) ≡ true → lo ≤ hi → keysIn lo hi (entriesAt t n) ≡ true → Held 16 t l lo hi (read l t n)
   held-read l n lo hi i g h = record {
     is = rw (read-number, read-tops) (is-node l (at t n) i);
@@ -151,21 +182,11 @@ module _ (t : Table) (vs : (n : ℕ) → Fits (entriesAt t n)) where
       (held-read 0 n lo hi (and-left a b h) g (and-right a b h), tt)
   ok-sub (suc l) n lo hi g h =
       let es = entriesAt t n in
-      let a₆ = areSubtrees (isSubtree l t) hi es in
-      let a₅ = keysIn lo hi es in
-      let a₄ = eqb (firstKey 0 es) lo in
-      let a₃ = leb (length es) 16 in
-      let a₂ = leb 1 (length es) in
-      let a₁ = isLevel (suc l) (at t n) in
-      let h₂ = and-right a₁ (a₂ && (a₃ && (a₄ && (a₅ && a₆)))) h in
-      let h₃ = and-right a₂ (a₃ && (a₄ && (a₅ && a₆))) h₂ in
-      let h₄ = and-right a₃ (a₄ && (a₅ && a₆)) h₃ in
-      let h₅ = and-right a₄ (a₅ && a₆) h₄ in
-      let H = held-read (suc l) n lo hi (and-left a₁ (a₂ && (a₃ && (a₄ && (a₅ && a₆)))) h) g (and-left a₅ a₆ h₅) in (
-        H,
+      let b = branch-rules l t n lo hi h in (
+        held-read (suc l) n lo hi (b .level) g (b .keys),
         (
-          read-starts l t lo es (leb-true 1 (length es) (and-left a₂ (a₃ && (a₄ && (a₅ && a₆))) h₂)) (eqb-true (firstKey 0 es) lo (and-left a₄ (a₅ && a₆) h₄)),
-          ok-kids t l (λ m a b. ok-sub l m a b) lo hi es (rises-within lo hi es (vs n .rising) g (and-left a₅ a₆ h₅)) (and-right a₅ a₆ h₅),
+          read-starts l t lo es (leb-true 1 (length es) (b .some)) (eqb-true (firstKey 0 es) lo (b .start)),
+          ok-kids t l (λ m a c. ok-sub l m a c) lo hi es (rises-within lo hi es (vs n .rising) g (b .keys)) (b .kids),
         ),
       )
 
@@ -182,7 +203,7 @@ once-at ns n (x ∷ t) h (suc j) g =
     ap (λ (i : ℕ). times i ns) (omega arith)
     ∙ once-at ns (suc n) t (and-right (eqb (times n ns) (there x)) (onceFrom (suc n) t ns) h) j (omega arith)
 
-pub step6-tree : (t : Table) → ((n : ℕ) → Fits (entriesAt t n)) → step6 t ≡ true → Shaped t
+pub step6-tree : (t : Table) → ((n : ℕ) → NodeFits (entriesAt t n)) → step6 t ≡ true → Shaped t
 unfolding step6
 step6-tree t vs h =
     let l = rootLevel t in
@@ -205,13 +226,13 @@ step6-tree t vs h =
     }
 
 -- every node of a tree fits
-held-view : (t : Table) (l lo hi : ℕ) (s : Shape l) → Held 16 t l lo hi s → (m : ℕ) → number l s ≡ m → Fits (entriesAt t m)
+held-view : (t : Table) (l lo hi : ℕ) (s : Shape l) → Held 16 t l lo hi s → (m : ℕ) → number l s ≡ m → NodeFits (entriesAt t m)
 held-view t l lo hi s h m e =
     let a : entriesAt t m ≡ tops l s = ap (entriesAt t) (sym e) ∙ rw (h .is) in
     record { rising = rw a (rising-between lo hi (tops l s) (h .keys)); few = rw a (h .size) }
 
-kids-view : (t : Table) (l m : ℕ) → ((lo hi : ℕ) (x : Shape l) → Sub 16 t l lo hi x → 0 < times m (nums l x) → Fits (entriesAt t m))
-    → (hi : ℕ) (xs : List (Kid (Shape l))) → Kids (Sub 16 t l) hi xs → 0 < times m (numsOf l xs) → Fits (entriesAt t m)
+kids-view : (t : Table) (l m : ℕ) → ((lo hi : ℕ) (x : Shape l) → Sub 16 t l lo hi x → 0 < times m (nums l x) → NodeFits (entriesAt t m))
+    → (hi : ℕ) (xs : List (Kid (Shape l))) → Kids (Sub 16 t l) hi xs → 0 < times m (numsOf l xs) → NodeFits (entriesAt t m)
 kids-view t l m f hi [] h g = absurd (omega arith)
 kids-view t l m f hi (x ∷ xs) h g =
     ⊎-elim
@@ -219,24 +240,24 @@ kids-view t l m f hi (x ∷ xs) h g =
     (λ (q : times m (nums l (x .sub)) ≤ 0). kids-view t l m f hi xs (h .1) (omega (arith, times-append m (nums l (x .sub)) (numsOf l xs))))
     (below-or-not 0 (times m (nums l (x .sub))))
 
-top-or-below : (t : Table) (l lo hi m : ℕ) (s : Shape l) → Held 16 t l lo hi s → (0 < times m (rest l s) → Fits (entriesAt t m)) → 0 < times m (nums l s) → Fits (entriesAt t m)
+top-or-below : (t : Table) (l lo hi m : ℕ) (s : Shape l) → Held 16 t l lo hi s → (0 < times m (rest l s) → NodeFits (entriesAt t m)) → 0 < times m (nums l s) → NodeFits (entriesAt t m)
 top-or-below t l lo hi m s h f g =
     ⊎-elim
     (λ (e : number l s ≡ m). held-view t l lo hi s h m e)
     (λ (e : number l s ≡ m → ⊥). f (omega (arith, hit-other (number l s) m e)))
     (same-or-not (number l s) m)
 
-inner-view : (t : Table) (l lo hi m : ℕ) (s : Shape l) → Inner t l lo hi s → 0 < times m (rest l s) → Fits (entriesAt t m)
+inner-view : (t : Table) (l lo hi m : ℕ) (s : Shape l) → Inner t l lo hi s → 0 < times m (rest l s) → NodeFits (entriesAt t m)
 inner-view t zero lo hi m s h g = absurd (omega arith)
 inner-view t (suc l) lo hi m s h g =
     kids-view t l m (λ a b x p. top-or-below t l a b m x (p .0) (inner-view t l a b m x (p .1))) hi (s .kids) (h .1) g
 
-empty-view : (s : View) → there s ≤ 0 → Fits (entriesOf s)
+empty-view : (s : View) → there s ≤ 0 → NodeFits (entriesOf s)
 empty-view untouched h = record { rising = tt; few = omega arith }
 empty-view broken h = record { rising = tt; few = omega arith }
 empty-view (view l es) h = absurd (omega arith)
 
-pub tree-views : (t : Table) → Shaped t → (n : ℕ) → Fits (entriesAt t n)
+pub tree-views : (t : Table) → Shaped t → (n : ℕ) → NodeFits (entriesAt t n)
 tree-views t T m =
     let l = T .level in
     let s = T .shape in

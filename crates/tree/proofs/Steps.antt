@@ -7,7 +7,7 @@ use native.Mathlib.Omega.{arith}
 use lib.ListN.{length, take, drop}
 use borrow.Author.Tests.{le-leb, lt-leb}
 use Rattle.views.specs.Nodes.{Entry, entry, view, insertEntry, deleteEntry}
-use Rattle.tree.specs.Tree.{there, Table, at, put, entriesAt, next, child, firstKey, Up, stop, gains, tableOf, halve, raise, hold, gain, pass, insertAt, rootLevel, inserted, deleteAt, delete, lookup, findAt}
+use Rattle.tree.specs.Tree.{there, Table, at, put, entriesAt, next, child, firstKey, Up, stop, gains, tableOf, halve, raise, fitOrSplit, gain, pass, insertAt, rootLevel, inserted, deleteAt, delete, lookup, findAt}
 use Rattle.tree.specs.Step6.{top, times}
 use Rattle.lists.proofs.Tests.{below-or-not}
 use Rattle.tree.proofs.Entries.{between-up, LeafStep, insert-step, delete-step, lookup-local}
@@ -108,8 +108,8 @@ module _ (t : Table) (l : ℕ) (s : Shape l) (o : Over t l 0 top s) (root : numb
         is = rw append-nil (halves-recs l m (suc m) s);
       }
 
-  pub root-holds : length (tops l s) ≤ 17 → Rooted (tableOf (hold l 0 (tops l s) t)) (recs l s)
-  unfolding hold
+  pub root-holds : length (tops l s) ≤ 17 → Rooted (tableOf (fitOrSplit l 0 (tops l s) t)) (recs l s)
+  unfolding fitOrSplit
   root-holds le =
       ⊎-elim
       (λ (q : 16 < length (tops l s)). rw (lt-leb (length (tops l s)) 16 q) (root-splits q le))
@@ -157,7 +157,7 @@ module _ (k v : ℕ) (t : Table) (l : ℕ) (ks : List (Kid (Shape l))) (w : Unde
       let x : Shape (suc l) = record { number = 0; kids = w .before ++ (g .mids ++ w .after) } in
       let e = joined-records k f st t l 0 top 0 (w .before) (w .kid) (w .after) (w .whole) whole-le (w .low) (w .high) r g ∙ ap (λ (xs : List (Kid (Shape l))). f (recsOf l xs)) (sym (w .is)) in
       rw (gained-tops k f st t l 0 top 0 (w .before) (w .kid) (w .after) (w .whole) whole-le (w .low) (w .high) r g k′ m (g .tops) (g .order .1 .0) (g .order .1 .1))
-      (subst (λ (rs : List Entry). Rooted (tableOf (hold (suc l) 0 (tops (suc l) x) u)) rs) e
+      (subst (λ (rs : List Entry). Rooted (tableOf (fitOrSplit (suc l) 0 (tops (suc l) x) u)) rs) e
       (root-holds u (suc l) x
       (joined-over k f st t l 0 top 0 (w .before) (w .kid) (w .after) (w .whole) whole-le (w .low) (w .high) r g)
       refl

@@ -13,14 +13,14 @@ use Rattle.pages.specs.declared.unit.Update.the-variants.{Insert, Delete}
 use Rattle.pages.specs.declared.unit.Unit as U
 use Rattle.views.specs.Nodes.{Entry, entry, View, view, insertEntry, deleteEntry, apply, inserted as insertOf, anew}
 use Rattle.views.specs.Groups.{unitFor}
-use Rattle.tree.specs.Tree.{levelOf, there, Table, at, put, entriesAt, next, rootLevel, child, leafAt, firstKey, Up, stop, gains, tableOf, halve, raise, hold, gain, pass, insertAt, inserted, deleteAt, delete}
+use Rattle.tree.specs.Tree.{levelOf, there, Table, at, put, entriesAt, next, rootLevel, child, leafAt, firstKey, Up, stop, gains, tableOf, halve, raise, fitOrSplit, gain, pass, insertAt, inserted, deleteAt, delete}
 use Rattle.tree.specs.Step6.{top, times, Tree}
 use Rattle.tree.specs.Units.{touchView, afterUnits, anewAt, halveUnits, raiseUnits, holdUnits, gainUnits, passUnits, insertUnitsAt, insertUnits, deleteUnits}
 use Rattle.lists.proofs.Tests.{below-or-not, same-or-not}
 use Rattle.tree.proofs.Entries.{Between, between-left, between-right, between-lt, first-key, insert-step, rising-between}
 use Rattle.views.proofs.Entries.{insert-most, rebuilt}
 use Rattle.tree.proofs.Tables.{at-same, at-other, put-put, put-there, there-below}
-use Rattle.tree.proofs.Numbers.{Numbers, numbers-then, numbers-put, numbers-halve, numbers-raise, next-same, next-halve, next-raise, raised}
+use Rattle.tree.proofs.Numbers.{Numbering, numbers-then, numbers-put, numbers-halve, numbers-raise, next-same, next-halve, next-raise, raised}
 use Rattle.tree.proofs.Shape.{Leaf, Kid, Shape, number, nums, startOf, Sub, hit-same, hit-zero, there-le}
 use Rattle.tree.proofs.Grow.{Grown, Gaining, gaining, Under, under, under-sub, under-count, inserts}
 use Rattle.tree.proofs.Steps.{level-at, at-root}
@@ -131,12 +131,12 @@ pub record Made (t : Table) (l : ℕ) (us : List U.Unit) (r : Up) : Type 0 where
   pub is : afterUnits us t ≡ tableOf r
   pub few : length us ≤ 19 * l + unitRoom r
   pub most : next (tableOf r) ≤ next t + (l + given r)
-  pub numbers : Numbers t (tableOf r)
+  pub numbers : Numbering t (tableOf r)
   pub nodes : NodesBelow (next (tableOf r)) us
 
 -- node n but node 0 gains an entry
 pub gain-made : (l n k v lo hi : ℕ) (t : Table) → (n ≡ 0 → ⊥) → Gaining t l n k v lo hi → Made t 0 (gainUnits l n k v t) (gain l n k v t)
-unfolding gainUnits holdUnits gain hold afterUnits
+unfolding gainUnits holdUnits gain fitOrSplit afterUnits
 gain-made l n k v lo hi t z G =
     let e = G .is in
     let new = insertEntry k v (G .entries) in
@@ -240,11 +240,11 @@ pub record RootGain (t : Table) (l : ℕ) (us : List U.Unit) (u : Table) : Type 
   pub is : afterUnits us t ≡ u
   pub few : ((length us ≤ 1) × (rootLevel u ≡ l)) ⊎ ((length us ≤ 22) × (rootLevel u ≡ suc l))
   pub most : next u ≤ next t + 2
-  pub numbers : Numbers t u
+  pub numbers : Numbering t u
   pub nodes : NodesBelow (next u) us
 
 pub root-gain : (l k v lo hi : ℕ) (t : Table) → Gaining t l 0 k v lo hi → RootGain t l (gainUnits l 0 k v t) (tableOf (gain l 0 k v t))
-unfolding gainUnits holdUnits gain hold afterUnits
+unfolding gainUnits holdUnits gain fitOrSplit afterUnits
 root-gain l k v lo hi t G =
     let e = G .is in
     let new = insertEntry k v (G .entries) in
@@ -279,7 +279,7 @@ record RootMade (t : Table) (l : ℕ) (us : List U.Unit) (u : Table) : Type 0 wh
   is : afterUnits us t ≡ u
   few : l ≤ 3 → rootLevel u ≤ 3 → length us ≤ 60
   most : next u ≤ next t + (l + 2)
-  numbers : Numbers t u
+  numbers : Numbering t u
   nodes : NodesBelow (next u) us
 
 root-leaf : (k v lo hi : ℕ) (t : Table) → Gaining t 0 0 k v lo hi → RootMade t 0 (gainUnits 0 0 k v t) (tableOf (gain 0 0 k v t))
@@ -333,14 +333,14 @@ module _ (k v : ℕ) (t : Table) (high : k < top) where
       (subst (λ (n : ℕ). (j : ℕ) → times j (nums (suc l) (record { number = n; kids = s .kids })) ≤ 1) root once)
 
 -- what the units of an insert make: the table, few units, and no node from the next number of that table on
-pub record Written (t : Table) (us : List U.Unit) (u : Table) : Type 0 where
+pub record InsertMade (t : Table) (us : List U.Unit) (u : Table) : Type 0 where
   pub is : afterUnits us t ≡ u
   pub few : rootLevel t ≤ 3 → rootLevel u ≤ 3 → length us ≤ 60
   pub nodes : NodesBelow (next u) us
   pub most : next u ≤ next t + (rootLevel t + 2)
-  pub numbers : Numbers t u
+  pub numbers : Numbering t u
 
-pub insert-units : (k v : ℕ) (t : Table) → Tree t → k < top → Written t (insertUnits k v t) (inserted k v t)
+pub insert-units : (k v : ℕ) (t : Table) → Tree t → k < top → InsertMade t (insertUnits k v t) (inserted k v t)
 unfolding insertUnits inserted
 insert-units k v t g h =
     let T = shape-of t g in
@@ -355,7 +355,7 @@ pub record Emptied (t : Table) (us : List U.Unit) (u : Table) : Type 0 where
   pub nodes : NodesBelow (next u) us
   pub levels : (j : ℕ) → levelOf (at u j) ≡ levelOf (at t j)
   pub same : next u ≡ next t
-  pub numbers : Numbers t u
+  pub numbers : Numbering t u
   pub long : length u ≡ length t
 
 delete-leaf : (k n : ℕ) (es : List Entry) (t : Table) → at t n ≡ view 0 es

@@ -12,7 +12,7 @@ use Rattle.pages.specs.declared.unit.Unit as U
 use Rattle.pages.specs.Units.{ValidUpdate, Valid}
 use Rattle.views.specs.Nodes.{Entry, entry, view, insertEntry, deleteEntry, inserted as insertOf}
 use Rattle.views.specs.Groups.{unitFor}
-use Rattle.tree.specs.Tree.{Table, at, put, entriesAt, next, rootLevel, child, leafAt, firstKey, Up, stop, gains, tableOf, halve, raise, hold, gain, pass, insertAt, inserted, deleteAt, delete}
+use Rattle.tree.specs.Tree.{Table, at, put, entriesAt, next, rootLevel, child, leafAt, firstKey, Up, stop, gains, tableOf, halve, raise, fitOrSplit, gain, pass, insertAt, inserted, deleteAt, delete}
 use Rattle.tree.specs.Step6.{top, Tree}
 use Rattle.tree.specs.Units.{anewAt, halveUnits, raiseUnits, holdUnits, gainUnits, passUnits, insertUnitsAt, insertUnits, deleteUnits}
 use Rattle.lists.proofs.Tests.{three, below-or-not, same-or-not}
@@ -112,7 +112,7 @@ RootLow l n k v t = n ≡ 0 → 16 < length (insertEntry k v (entriesAt t n)) �
 -- a node of level l gains an entry
 pub gain-obeys : (l n k v : ℕ) (t : Table) → l ≤ 3 → k < top → v < top → Smalls t → next (tableOf (gain l n k v t)) ≤ top
     → RootLow l n k v t → Obeys (gainUnits l n k v t) (gain l n k v t)
-unfolding gainUnits holdUnits gain hold
+unfolding gainUnits holdUnits gain fitOrSplit
 gain-obeys l n k v t h hk hv ts nx root =
     let new = insertEntry k v (entriesAt t n) in
     let s : Small new = small-insert k v hk hv (ts n) in
@@ -158,7 +158,7 @@ up-low l n (gains k m u) h = λ _ _. h
 
 -- at node 0 by the level of the root that is left
 pub gain-low : (l k v : ℕ) (t : Table) → rootLevel (tableOf (gain l 0 k v t)) ≤ 3 → RootLow l 0 k v t
-unfolding gain hold
+unfolding gain fitOrSplit
 gain-low l k v t h z q =
     let new = insertEntry k v (entriesAt t 0) in
     let b : rootLevel (raise l (next t) new t) ≤ 3 = rw (lt-leb (length new) 16 q) at h in

@@ -15,8 +15,8 @@ use Rattle.tree.specs.Step6.{isLevel, keysIn, reached, times}
 use Rattle.tree.specs.Shown.{shown}
 
 -- the table that the pages alone show
-abbrev pub listed : List ℕ → List ℕ → List ℕ → ℕ → Table
-listed image lens slots limit = shown small limit (pagesOf small image) lens slots 0 []
+abbrev pub pagesTable : List ℕ → List ℕ → List ℕ → ℕ → Table
+pagesTable image lens slots limit = shown small limit (pagesOf small image) lens slots 0 []
 
 -- above the leaves: 1 to 16 entries, the first at lo
 abbrev pub startsAt : ℕ → List Entry → Bool
@@ -49,7 +49,7 @@ pub record Walks (t : Table) (ok : Bool) (ns before after : List ℕ) (r : Bool)
   pub stops : r ≡ false → ok ≡ true → Twice t before ns
 
 -- a number put among the counts: a new one below size
-pub record Marks (size n : ℕ) (before after : List ℕ) (r : Bool) : Type 0 where
+pub record MarksNumber (size n : ℕ) (before after : List ℕ) (r : Bool) : Type 0 where
   pub new : r ≡ true → (j : ℕ) → getD after j 0 ≡ getD before j 0 + times j (n ∷ [])
   pub old : r ≡ false → (size ≤ n) ⊎ (1 ≤ getD before n 0)
 

@@ -13,8 +13,8 @@ use Rattle.tree.specs.Tree.{levelOf, entriesOf, Table, rootLevel, Found,
 use Rattle.tree.specs.Shown.{pagesRead}
 
 -- the entries from i on, of n keys and n values
-abbrev pub from : ℕ → ℕ → List ℕ → List ℕ → List Entry
-from n i ks vs = C.pairs (drop i (take n ks)) (drop i (take n vs))
+abbrev pub entriesFrom : ℕ → ℕ → List ℕ → List ℕ → List Entry
+entriesFrom n i ks vs = C.pairs (drop i (take n ks)) (drop i (take n vs))
 
 -- what a hit says
 abbrev pub hitOf : Hit → Found
@@ -22,7 +22,7 @@ hitOf (At v) = found v
 hitOf Nothing = absent
 
 -- a node of the code that shows the level and the entries of a view
-pub record Holds (w : View) (r : Node) : Type 0 where
+pub record ShowsView (w : View) (r : Node) : Type 0 where
   pub level : r .level ≡ levelOf w
   pub entries : C.entriesOf r ≡ entriesOf w
   pub room : r .len ≤ 16

@@ -15,7 +15,7 @@ use Rattle.pages.specs.declared.unit.Decoded.the-variants.{Good}
 use Rattle.pages.specs.Units.{decodes, Valid}
 use Rattle.views.specs.Nodes.{Entry, entry, insertEntry}
 use Rattle.views.specs.Groups.{unitFor}
-use Rattle.views.specs.Pass.{pushed}
+use Rattle.views.specs.PassCode.{pushed}
 use Rattle.tree.specs.declared.insert.Rise.{Rise}
 use Rattle.tree.specs.declared.insert.Inserted.{Inserted}
 use Rattle.tree.specs.Tree.{Table, entriesAt, next, rootLevel, child, firstKey, leafAt, Up, stop, gains, tableOf, insertAt, inserted, refusal, done, insert, delete}
@@ -29,13 +29,13 @@ two low k high = entry 0 low ∷ entry k high ∷ []
 
 -- ---- what is pushed
 -- the units us behind the count units of a buffer, and the count after them
-pub record Written (us : List U.Unit) (count : ℕ) (old new : List ℕ) (used : ℕ) : Type 0 where
+pub record UnitsPushed (us : List U.Unit) (count : ℕ) (old new : List ℕ) (used : ℕ) : Type 0 where
   pub bytes : new ≡ pushed old count us
   pub size : used ≡ count + length us
   pub long : length old ≡ 11520
 
 -- on any arrays: the buffer keeps its length and the units that it had, and has room for those it has then
-pub record Keeps (count : ℕ) (old : List ℕ) (used : ℕ) (new : List ℕ) : Type 0 where
+pub record FrontKept (count : ℕ) (old : List ℕ) (used : ℕ) (new : List ℕ) : Type 0 where
   pub same : length new ≡ length old
   pub front : take (12 * count) new ≡ take (12 * count) old
   pub more : count ≤ used
@@ -86,8 +86,8 @@ Moved unable count old new r = Stayed count old new r
 Moved (able us g k m x) count old new r = Went us g k m x count old new r
 
 -- what a function that makes a move ensures: it refuses nothing
-pub record Holds (m : Move) (count : ℕ) (old new : List ℕ) (r : Rise) : Type 0 where
-  pub keeps : Keeps count old (r .count) new
+pub record MakesMove (m : Move) (count : ℕ) (old new : List ℕ) (r : Rise) : Type 0 where
+  pub keeps : FrontKept count old (r .count) new
   pub plain : r .refused ≡ false
   pub is : Moved m count old new r
 
@@ -106,12 +106,12 @@ pub record Refused (count : ℕ) (old new : List ℕ) (r : Rise) : Type 0 where
 
 -- (k, v) at leaf n with the entries es
 pub record Lands (limit x need n k v count : ℕ) (es : List Entry) (old new : List ℕ) (r : Rise) : Type 0 where
-  pub held : x + needsOf need 0 n (length (insertEntry k v es)) ≤ limit → Holds (holdMove limit x 0 n k v (insertEntry k v es) count) count old new r
+  pub held : x + needsOf need 0 n (length (insertEntry k v es)) ≤ limit → MakesMove (holdMove limit x 0 n k v (insertEntry k v es) count) count old new r
   pub refused : limit < x + needsOf need 0 n (length (insertEntry k v es)) → Refused count old new r
 
 -- node n of level l with the entries es after its child's answer a: it gains what the child gave up, or the answer stays
-pub record Passes (limit l n : ℕ) (es : List Entry) (a : Rise) (old new : List ℕ) (r : Rise) : Type 0 where
-  pub gained : a .gains ≡ true → Holds (holdMove limit (a .next) l n (a .key) (a .number) (insertEntry (a .key) (a .number) es) (a .count)) (a .count) old new r
+pub record PassesUp (limit l n : ℕ) (es : List Entry) (a : Rise) (old new : List ℕ) (r : Rise) : Type 0 where
+  pub gained : a .gains ≡ true → MakesMove (holdMove limit (a .next) l n (a .key) (a .number) (insertEntry (a .key) (a .number) es) (a .count)) (a .count) old new r
   pub same : a .gains ≡ false → (new ≡ old) × (r ≡ a)
 
 -- ---- the arrays of a state
@@ -139,17 +139,17 @@ abbrev pub givesOf : Up → Bool
 givesOf (stop t) = false
 givesOf (gains k m t) = true
 
-abbrev pub keyOf : Up → ℕ
-keyOf (stop t) = 0
-keyOf (gains k m t) = k
+abbrev pub upKey : Up → ℕ
+upKey (stop t) = 0
+upKey (gains k m t) = k
 
-abbrev pub numberOf : Up → ℕ
-numberOf (stop t) = 0
-numberOf (gains k m t) = m
+abbrev pub upNumber : Up → ℕ
+upNumber (stop t) = 0
+upNumber (gains k m t) = m
 
 -- too many numbers, or the root too high, or too many numbers with the `need` that the nodes above take
-abbrev pub Over : ℕ → ℕ → ℕ → Up → Type 0
-Over limit need n r =
+abbrev pub OverLimit : ℕ → ℕ → ℕ → Up → Type 0
+OverLimit limit need n r =
     (limit < next (tableOf r)) ⊎ (((n ≡ 0) × (3 < rootLevel (tableOf r))) ⊎ ((givesOf r ≡ true) × (limit < next (tableOf r) + need)))
 
 -- the units us make the table of r from t, within the limits
@@ -157,16 +157,16 @@ pub record Sound (limit : ℕ) (t : Table) (us : List U.Unit) (r : Up) : Type 0 
   pub after : afterUnits us t ≡ tableOf r
   pub valid : All (Valid limit) us
   pub small : (n : ℕ) → All (λ (e : Entry). (e .key < top) × (e .value < top)) (entriesAt (tableOf r) n)
-  pub key : keyOf r < top
-  pub number : numberOf r < top
+  pub key : upKey r < top
+  pub number : upNumber r < top
   pub numbers : next (tableOf r) ≤ limit
   pub low : rootLevel (tableOf r) ≤ 3
 
 -- the code's answer r to an insert under node n of level l that makes the units us and leaves up
 pub record Outcome (limit need n l : ℕ) (t : Table) (us : List U.Unit) (up : Up) (count : ℕ) (old new : List ℕ) (r : Rise) : Type 0 where
-  pub refused : r .refused ≡ true → Over limit need n up
+  pub refused : r .refused ≡ true → OverLimit limit need n up
   pub sound : r .refused ≡ false → Sound limit t us up
-  pub went : r .refused ≡ false → Went us (givesOf up) (keyOf up) (numberOf up) (next (tableOf up)) count old new r
+  pub went : r .refused ≡ false → Went us (givesOf up) (upKey up) (upNumber up) (next (tableOf up)) count old new r
   pub room : r .refused ≡ false → givesOf up ≡ true → next (tableOf up) + need ≤ limit
   pub few : r .refused ≡ false → (n ≡ 0 → ⊥) → length us ≤ 19 * suc l
 
@@ -185,7 +185,7 @@ pub record Way (l n k v : ℕ) (t : Table) : Type 0 where
   pub root : l ≡ rootLevel t → n ≡ 0
 
 pub record Rises (image lens slots : List ℕ) (limit x l n need k v count : ℕ) (old new : List ℕ) (r : Rise) : Type 0 where
-  pub keeps : Keeps count old (r .count) new
+  pub keeps : FrontKept count old (r .count) new
   pub plain : r .gains ≡ true → r .refused ≡ false
   pub whole : r .refused ≡ true → new ≡ old
   pub is : (us : List U.Unit) → Ready limit x count old us (tableIn image lens slots limit count old) → Way l n k v (tableIn image lens slots limit count old)
@@ -203,7 +203,7 @@ pub record Done (image lens slots : List ℕ) (limit k v count : ℕ) (old : Lis
 
 -- what an insert ensures; one that is refused leaves every byte of the buffer
 pub record Inserts (image lens slots : List ℕ) (limit x k v count : ℕ) (old new : List ℕ) (r : Inserted) : Type 0 where
-  pub keeps : Keeps count old (r .count) new
+  pub keeps : FrontKept count old (r .count) new
   pub stays : r .refused ≡ true → (r .count ≡ count) × (r .next ≡ x)
   pub whole : r .refused ≡ true → new ≡ old
   pub refused : r .refused ≡ true → (us : List U.Unit) → Ready limit x count old us (tableIn image lens slots limit count old)
@@ -218,7 +218,7 @@ pub record Gone (image lens slots : List ℕ) (limit k count : ℕ) (us : List U
   pub one : used ≡ count + 1
 
 pub record Deletes (image lens slots : List ℕ) (limit leaf k count : ℕ) (old new : List ℕ) (used : ℕ) : Type 0 where
-  pub keeps : Keeps count old used new
+  pub keeps : FrontKept count old used new
   pub is : (x : ℕ) (us : List U.Unit) → Ready limit x count old us (tableIn image lens slots limit count old)
       → leaf ≡ leafAt (rootLevel (tableIn image lens slots limit count old)) 0 k (tableIn image lens slots limit count old)
       → Gone image lens slots limit k count us (tableIn image lens slots limit count old) new used

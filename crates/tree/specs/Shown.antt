@@ -1,5 +1,5 @@
 -- The table that the arrays of a state show, with the image: for each node number the view from its pages and then from the buffer.
-use mathlib.Core.List.{List, [], _∷_, map}
+use mathlib.Core.List.{List, [], _∷_}
 use Prim.Native.Nat.{ℕ, _+_}
 use lib.ListN.{length}
 use Rattle.lists.specs.Lists.{tab}

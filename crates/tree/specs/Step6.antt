@@ -63,11 +63,11 @@ Leads zero n k t = isLevel 0 (at t n) ≡ true
 Leads (suc l) n k t = (isLevel (suc l) (at t n) ≡ true) × Leads l (child t n k) k t
 
 -- what step 4 leaves of a node: at most 16 entries, their keys rising
-pub record Fits (es : List Entry) : Type 0 where
+pub record NodeFits (es : List Entry) : Type 0 where
   pub rising : Rising es
   pub few : length es ≤ 16
 
 -- a table that passes, whatever wrote it: its numbers may have gaps, its nodes may be thin
 pub record Tree (t : Table) : Type 0 where
-  pub views : (n : ℕ) → Fits (entriesAt t n)
+  pub views : (n : ℕ) → NodeFits (entriesAt t n)
   pub passes : step6 t ≡ true

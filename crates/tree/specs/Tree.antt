@@ -124,14 +124,14 @@ unfoldable pub raise : ℕ → ℕ → List Entry → Table → Table
 raise l m es t = put 0 (view (suc l) (entry 0 m ∷ entry (firstKey 0 (drop 9 es)) (suc m) ∷ [])) (halve l m (suc m) es t)
 
 -- node n of level l is to hold es: up to 16 it does, with 17 it splits
-unfoldable pub hold : ℕ → ℕ → List Entry → Table → Up
-hold l n es t =
+unfoldable pub fitOrSplit : ℕ → ℕ → List Entry → Table → Up
+fitOrSplit l n es t =
     cond (leb (length es) 16) (stop (put n (view l es) t))
     (cond (eqb n 0) (stop (raise l (next t) es t)) (gains (firstKey 0 (drop 9 es)) (next t) (halve l n (next t) es t)))
 
 -- node n of level l gains (k, v)
 unfoldable pub gain : ℕ → ℕ → ℕ → ℕ → Table → Up
-gain l n k v t = hold l n (insertEntry k v (entriesAt t n)) t
+gain l n k v t = fitOrSplit l n (insertEntry k v (entriesAt t n)) t
 
 -- the parent gains what its child gave up, by the same rule
 abbrev pub pass : ℕ → ℕ → Up → Up
@@ -146,15 +146,15 @@ insertAt (suc l) n k v t = pass (suc l) n (insertAt l (child t n k) k v t)
 unfoldable pub inserted : ℕ → ℕ → Table → Table
 inserted k v t = tableOf (insertAt (rootLevel t) 0 k v t)
 
-pub data Step : Type 0 where
-  refusal : ℕ → Step
-  done : Table → Step
+pub data TreeStep : Type 0 where
+  refusal : ℕ → TreeStep
+  done : Table → TreeStep
 
 -- 5: a node number of `limit` or more, or a root above level 3
-unfoldable pub allowed : ℕ → Table → Step
+unfoldable pub allowed : ℕ → Table → TreeStep
 allowed limit t = cond (leb (next t) limit && leb (rootLevel t) 3) (done t) (refusal 5)
 
-unfoldable pub insert : ℕ → ℕ → ℕ → Table → Step
+unfoldable pub insert : ℕ → ℕ → ℕ → Table → TreeStep
 insert limit k v t = allowed limit (inserted k v t)
 
 -- ---- to delete: the leaf's entry goes; nodes never join

@@ -6,9 +6,9 @@ ghost use Rattle.views.specs.FoldCode.{viewOf};
 ghost use Rattle.views.specs.NodeCode.{entriesOf};
 ghost use Rattle.tree.specs.Tree as T;
 ghost use Rattle.tree.specs.Step6.{isLevel, keysIn, areSubtrees, isSubtree, reached, step6};
-ghost use Rattle.tree.specs.FindCode.{from};
-ghost use Rattle.tree.specs.CheckCode.{listed, startsAt, obeysAt, ownAt, under, Walks, Marks, countsFrom};
-use crate::find::solid;
+ghost use Rattle.tree.specs.FindCode.{entriesFrom};
+ghost use Rattle.tree.specs.CheckCode.{pagesTable, startsAt, obeysAt, ownAt, under, Walks, MarksNumber, countsFrom};
+use crate::find::node_or_empty;
 use views::fold::Folded;
 use views::fold::Stage;
 use views::node::Node;
@@ -102,7 +102,7 @@ fn own(f: Folded, level: u32, lo: u32, hi: u64) -> bool
 // Where the keys of the child at `i` end: the next key, or the node's own end.
 fn end_at(n: Node, i: usize, hi: u64) -> u64
     requires { ⌜ (n .len ≤ 16) × (i < n .len) ⌝ }
-    ensures { λ r. ⌜ (r ≡ T.firstKey hi (from (n .len) (i + 1) (n .keys) (n .values))) × (length (n .keys) ≡ 17) × (length (n .values) ≡ 17) ⌝ }
+    ensures { λ r. ⌜ (r ≡ T.firstKey hi (entriesFrom (n .len) (i + 1) (n .keys) (n .values))) × (length (n .keys) ≡ 17) × (length (n .values) ≡ 17) ⌝ }
 {
     let len = n.len;
     let j = i + 1;
@@ -112,7 +112,7 @@ fn end_at(n: Node, i: usize, hi: u64) -> u64
 // Counts `number`, unless it is counted already or no number of a node.
 fn mark(lens: &[u32], seen: &mut [u32], number: u32) -> bool
     requires { ⌜ (length (now lens) ≡ 256) × (length (now seen) ≡ 256) ⌝ }
-    ensures { λ r. ⌜ Marks (length (now (lens .entry))) number (now (seen .entry)) (now (seen .exit)) r ⌝ }
+    ensures { λ r. ⌜ MarksNumber (length (now (lens .entry))) number (now (seen .entry)) (now (seen .exit)) r ⌝ }
 {
     let n = number as usize;
     if lens.len() <= n {
@@ -154,9 +154,9 @@ fn visit(
     hi: u64,
 ) -> bool
     requires { ⌜ length (now image) % 528 ≡ 0 ⌝ }
-    ensures { λ r. ⌜ Walks (listed (now (image .entry)) (now (lens .entry)) (now (slots .entry)) limit)
-        (isSubtree level (listed (now (image .entry)) (now (lens .entry)) (now (slots .entry)) limit) number lo hi)
-        (reached level (listed (now (image .entry)) (now (lens .entry)) (now (slots .entry)) limit) number)
+    ensures { λ r. ⌜ Walks (pagesTable (now (image .entry)) (now (lens .entry)) (now (slots .entry)) limit)
+        (isSubtree level (pagesTable (now (image .entry)) (now (lens .entry)) (now (slots .entry)) limit) number lo hi)
+        (reached level (pagesTable (now (image .entry)) (now (lens .entry)) (now (slots .entry)) limit) number)
         (now (seen .entry)) (now (seen .exit)) r ⌝ }
 {
     let f = list_view(image, lens, slots, number, limit);
@@ -188,9 +188,9 @@ fn subtrees(
     hi: u64,
 ) -> bool
     requires { ⌜ (length (now image) % 528 ≡ 0) × (n .len ≤ 16) ⌝ }
-    ensures { λ r. ⌜ Walks (listed (now (image .entry)) (now (lens .entry)) (now (slots .entry)) limit)
-        (areSubtrees (isSubtree level (listed (now (image .entry)) (now (lens .entry)) (now (slots .entry)) limit)) hi (from (n .len) i (n .keys) (n .values)))
-        (under level (listed (now (image .entry)) (now (lens .entry)) (now (slots .entry)) limit) (from (n .len) i (n .keys) (n .values)))
+    ensures { λ r. ⌜ Walks (pagesTable (now (image .entry)) (now (lens .entry)) (now (slots .entry)) limit)
+        (areSubtrees (isSubtree level (pagesTable (now (image .entry)) (now (lens .entry)) (now (slots .entry)) limit)) hi (entriesFrom (n .len) i (n .keys) (n .values)))
+        (under level (pagesTable (now (image .entry)) (now (lens .entry)) (now (slots .entry)) limit) (entriesFrom (n .len) i (n .keys) (n .values)))
         (now (seen .entry)) (now (seen .exit)) r ⌝ }
 {
     let len = n.len;
@@ -216,7 +216,7 @@ fn all_once(
     seen: &[u32; 256],
 ) -> bool
     requires { ⌜ length (now image) % 528 ≡ 0 ⌝ }
-    ensures { λ r. ⌜ r ≡ countsFrom 0 (listed (now (image .entry)) (now (lens .entry)) (now (slots .entry)) limit) (now (seen .entry)) ⌝ }
+    ensures { λ r. ⌜ r ≡ countsFrom 0 (pagesTable (now (image .entry)) (now (lens .entry)) (now (slots .entry)) limit) (now (seen .entry)) ⌝ }
 {
     let mut n: u32 = 0;
     while n < limit {
@@ -240,10 +240,10 @@ pub fn is_tree(
     seen: &mut [u32; 256],
 ) -> bool
     requires { ⌜ length (now image) % 528 ≡ 0 ⌝ }
-    ensures { λ r. ⌜ r ≡ step6 (listed (now (image .entry)) (now (lens .entry)) (now (slots .entry)) limit) ⌝ }
+    ensures { λ r. ⌜ r ≡ step6 (pagesTable (now (image .entry)) (now (lens .entry)) (now (slots .entry)) limit) ⌝ }
 {
     let f = list_view(image, lens, slots, 0, limit);
-    let n = solid(f);
+    let n = node_or_empty(f);
     let level = n.level;
     clear(seen);
     let tree = visit(image, lens, slots, limit, seen, level, 0, 0, TOP);

@@ -9,12 +9,13 @@ ghost use Rattle.views.specs.NodeCode.{entriesOf};
 ghost use Rattle.views.specs.Stored.{storedList};
 ghost use Rattle.tree.specs.Tree as T;
 ghost use Rattle.tree.specs.Shown.{shown};
-ghost use Rattle.tree.specs.FindCode.{hitOf, Holds, Finds, Answers};
+ghost use Rattle.tree.specs.FindCode.{hitOf, ShowsView, Finds, Answers};
 use views::fold::Folded;
 use views::fold::Stage;
 use views::node;
 use views::node::Node;
 use views::view::node_view;
+use views::view::used_slots;
 
 // What a leaf holds for a key: its value, or nothing.
 pub enum Hit {
@@ -64,9 +65,9 @@ pub fn lookup(n: Node, key: u32) -> Hit
 }
 
 // The level and the entries of a view; none where the node is not there.
-pub fn solid(f: Folded) -> Node
+pub fn node_or_empty(f: Folded) -> Node
     requires { ⌜ f .node .len ≤ 16 ⌝ }
-    ensures { λ r. ⌜ Holds (viewOf f) r ⌝ }
+    ensures { λ r. ⌜ ShowsView (viewOf f) r ⌝ }
 {
     let stage = f.stage;
     match stage {
@@ -87,31 +88,17 @@ pub fn node_at(
     number: u32,
 ) -> Node
     requires { ⌜ length (now image) % 528 ≡ 0 ⌝ }
-    ensures { λ r. ⌜ Holds (T.at (shown small limit (pagesOf small (now (image .entry))) (now (lens .entry)) (now (slots .entry)) count (now (buffer .entry))) number) r ⌝ }
+    ensures { λ r. ⌜ ShowsView (T.at (shown small limit (pagesOf small (now (image .entry))) (now (lens .entry)) (now (slots .entry)) count (now (buffer .entry))) number) r ⌝ }
 {
     let f = node_view(image, lens, slots, buffer, count, number, limit);
-    solid(f)
-}
-
-// How many pages the list of node `number` has, with the arrays as slices.
-fn used_pages(lens: &[u32], slots: &[u32], number: u32) -> u32
-    requires { ⌜ (length (now lens) ≡ 256) × (length (now slots) ≡ 1024) ⌝ }
-    ensures { λ r. ⌜ (r ≡ length (storedList (now (lens .entry)) (now (slots .entry)) number)) × (r ≤ 4) ⌝ }
-{
-    let n = number as usize;
-    if n < 256 {
-        let len = lens[n];
-        if len < 4 { len } else { 4 }
-    } else {
-        0
-    }
+    node_or_empty(f)
 }
 
 // How many pages the list of node `number` has, as they are read: at most 4.
 pub fn list_pages(lens: &[u32; 256], slots: &[u32; 1024], number: u32) -> u32
     ensures { λ r. ⌜ (r ≡ length (storedList (now (lens .entry)) (now (slots .entry)) number)) × (r ≤ 4) ⌝ }
 {
-    used_pages(lens, slots, number)
+    used_slots(lens, slots, number) as u32
 }
 
 // The way from node `number` of level `level`, which `n` shows, down to the leaf of `key`.
@@ -127,7 +114,7 @@ fn find_at(
     n: Node,
     key: u32,
 ) -> Looked
-    requires { ⌜ (length (now image) % 528 ≡ 0) × (level ≤ 3) × Holds (T.at (shown small limit (pagesOf small (now image)) (now lens) (now slots) count (now buffer)) number) n ⌝ }
+    requires { ⌜ (length (now image) % 528 ≡ 0) × (level ≤ 3) × ShowsView (T.at (shown small limit (pagesOf small (now image)) (now lens) (now slots) count (now buffer)) number) n ⌝ }
     ensures { λ r. ⌜ Finds (now (lens .entry)) (now (slots .entry)) level number key (shown small limit (pagesOf small (now (image .entry))) (now (lens .entry)) (now (slots .entry)) count (now (buffer .entry))) r ⌝ }
 {
     let pages = list_pages(lens, slots, number);

@@ -8,7 +8,7 @@ ghost use Rattle.views.specs.NodeCode.{entriesOf, Shows};
 ghost use Rattle.tree.specs.Tree.{at, firstKey};
 ghost use Rattle.tree.specs.Units.{halveUnits, raiseUnits};
 ghost use Rattle.tree.specs.FindCode as F;
-ghost use Rattle.tree.specs.InsertCode.{two, Written, fitMove, raiseMove, halveMove, holdMove, Holds, needsOf, Lands, Passes, tableIn, Rises, answers, Inserts};
+ghost use Rattle.tree.specs.InsertCode.{two, UnitsPushed, fitMove, raiseMove, halveMove, holdMove, MakesMove, needsOf, Lands, PassesUp, tableIn, Rises, answers, Inserts};
 use crate::find::child;
 use crate::find::node_at;
 use pages::unit::Unit;
@@ -110,7 +110,7 @@ fn pair(level: u32, low: u32, key: u32, high: u32) -> Node
 // The 9 written to node `low` and the 8 to node `high`. Returns the count after them.
 fn halve(buffer: &mut [u8; 11520], count: usize, n: Node, level: u32, low: u32, high: u32) -> usize
     requires { ⌜ (n .len ≡ 17) × (low < 65536) × (high < 65536) × (count ≤ 941) ⌝ }
-    ensures { λ r. ⌜ Written (halveUnits level low high (entriesOf n)) count (now (buffer .entry)) (now (buffer .exit)) r × (r ≡ count + 19) ⌝ }
+    ensures { λ r. ⌜ UnitsPushed (halveUnits level low high (entriesOf n)) count (now (buffer .entry)) (now (buffer .exit)) r × (r ≡ count + 19) ⌝ }
 {
     let first = lower(n, level);
     let second = upper(n, level);
@@ -121,7 +121,7 @@ fn halve(buffer: &mut [u8; 11520], count: usize, n: Node, level: u32, low: u32, 
 // Both halves written to `next` and to the number behind it, and node 0 one level higher. Returns the count after them.
 fn raise(buffer: &mut [u8; 11520], count: usize, n: Node, level: u32, next: u32) -> usize
     requires { ⌜ (n .len ≡ 17) × (next < 1000) × (level < 3) × (count ≤ 938) ⌝ }
-    ensures { λ r. ⌜ Written (raiseUnits level next (entriesOf n)) count (now (buffer .entry)) (now (buffer .exit)) r × (r ≡ count + 22) ⌝ }
+    ensures { λ r. ⌜ UnitsPushed (raiseUnits level next (entriesOf n)) count (now (buffer .entry)) (now (buffer .exit)) r × (r ≡ count + 22) ⌝ }
 {
     let used = halve(buffer, count, n, level, next, next + 1);
     let key = middle(n);
@@ -200,7 +200,7 @@ fn can_halve(limit: u32, next: u32, node: u32, count: usize) -> bool
 // A node that has room for the entry: one unit.
 fn fit(buffer: &mut [u8; 11520], count: usize, next: u32, node: u32, key: u32, value: u32) -> Rise
     requires { ⌜ count ≤ 960 ⌝ }
-    ensures { λ r. ⌜ Holds (fitMove next node key value count) count (now (buffer .entry)) (now (buffer .exit)) r ⌝ }
+    ensures { λ r. ⌜ MakesMove (fitMove next node key value count) count (now (buffer .entry)) (now (buffer .exit)) r ⌝ }
 {
     if can_fit(count, node) {
         buffer::push_unit(
@@ -225,9 +225,16 @@ fn fit(buffer: &mut [u8; 11520], count: usize, next: u32, node: u32, key: u32, v
 }
 
 // Node 0 with 17 entries: both halves to new numbers, and node 0 one level higher.
-fn grow(buffer: &mut [u8; 11520], count: usize, limit: u32, next: u32, level: u32, n: Node) -> Rise
+fn split_root(
+    buffer: &mut [u8; 11520],
+    count: usize,
+    limit: u32,
+    next: u32,
+    level: u32,
+    n: Node,
+) -> Rise
     requires { ⌜ (count ≤ 960) × (limit ≤ 256) × (n .len ≡ 17) ⌝ }
-    ensures { λ r. ⌜ Holds (raiseMove limit next level (entriesOf n) count) count (now (buffer .entry)) (now (buffer .exit)) r ⌝ }
+    ensures { λ r. ⌜ MakesMove (raiseMove limit next level (entriesOf n) count) count (now (buffer .entry)) (now (buffer .exit)) r ⌝ }
 {
     if can_raise(limit, next, level, count) {
         let used = raise(buffer, count, n, level, next);
@@ -255,7 +262,7 @@ fn split(
     n: Node,
 ) -> Rise
     requires { ⌜ (count ≤ 960) × (limit ≤ 256) × (n .len ≡ 17) ⌝ }
-    ensures { λ r. ⌜ Holds (halveMove limit next level node (entriesOf n) count) count (now (buffer .entry)) (now (buffer .exit)) r ⌝ }
+    ensures { λ r. ⌜ MakesMove (halveMove limit next level node (entriesOf n) count) count (now (buffer .entry)) (now (buffer .exit)) r ⌝ }
 {
     if can_halve(limit, next, node, count) {
         let used = halve(buffer, count, n, level, node, next);
@@ -274,7 +281,7 @@ fn split(
 }
 
 // Node `node` of `level` is to hold the entries of `n`, with `key` and `value` among them.
-fn hold(
+fn fit_or_split(
     buffer: &mut [u8; 11520],
     count: usize,
     limit: u32,
@@ -286,14 +293,14 @@ fn hold(
     value: u32,
 ) -> Rise
     requires { ⌜ (count ≤ 960) × (limit ≤ 256) × (n .len ≤ 17) × (length (entriesOf n) ≡ n .len) ⌝ }
-    ensures { λ r. ⌜ Holds (holdMove limit next level node key value (entriesOf n) count) count (now (buffer .entry)) (now (buffer .exit)) r ⌝ }
+    ensures { λ r. ⌜ MakesMove (holdMove limit next level node key value (entriesOf n) count) count (now (buffer .entry)) (now (buffer .exit)) r ⌝ }
 {
     let len = n.len;
     if len <= 16 {
         return fit(buffer, count, next, node, key, value);
     }
     if node == 0 {
-        grow(buffer, count, limit, next, level, n)
+        split_root(buffer, count, limit, next, level, n)
     } else {
         split(buffer, count, limit, next, level, node, n)
     }
@@ -335,7 +342,7 @@ fn has_numbers(limit: u32, next: u32, more: u32) -> bool
 }
 
 // The entry at its leaf. Refused before anything is pushed, where the leaf and the nodes above it would take too many numbers.
-fn land(
+fn gain_leaf(
     buffer: &mut [u8; 11520],
     count: usize,
     limit: u32,
@@ -353,7 +360,7 @@ fn land(
     let len = new.len;
     let more = needs(need, 0, node, len);
     if has_numbers(limit, next, more) {
-        hold(buffer, count, limit, next, 0, node, new, key, value)
+        fit_or_split(buffer, count, limit, next, 0, node, new, key, value)
     } else {
         refuse(count, next)
     }
@@ -362,7 +369,7 @@ fn land(
 // Node `node` of `level` with the entries of `n` gains what its child gave up, if anything.
 fn pass_up(buffer: &mut [u8; 11520], limit: u32, level: u32, node: u32, n: Node, r: Rise) -> Rise
     requires { ⌜ (limit ≤ 256) × (n .len ≤ 16) × (r .count ≤ 960) ⌝ }
-    ensures { λ a. ⌜ Passes limit level node (entriesOf n) r (now (buffer .entry)) (now (buffer .exit)) a ⌝ }
+    ensures { λ a. ⌜ PassesUp limit level node (entriesOf n) r (now (buffer .entry)) (now (buffer .exit)) a ⌝ }
 {
     if r.gains {
         let k = r.key;
@@ -370,7 +377,7 @@ fn pass_up(buffer: &mut [u8; 11520], limit: u32, level: u32, node: u32, n: Node,
         let used = r.count;
         let last = r.next;
         let new = node::insert(n, k, m);
-        hold(buffer, used, limit, last, level, node, new, k, m)
+        fit_or_split(buffer, used, limit, last, level, node, new, k, m)
     } else {
         r
     }
@@ -394,11 +401,11 @@ fn insert_at(
     value: u32,
 ) -> Rise
     requires { ⌜ (length (now image) % 528 ≡ 0) × (limit ≤ 256) × (count ≤ 960) × (level ≤ 3) × (need + level ≤ 260)
-        × F.Holds (at (tableIn (now image) (now lens) (now slots) limit count (now buffer)) node) n ⌝ }
+        × F.ShowsView (at (tableIn (now image) (now lens) (now slots) limit count (now buffer)) node) n ⌝ }
     ensures { λ r. ⌜ Rises (now (image .entry)) (now (lens .entry)) (now (slots .entry)) limit next level node need key value count (now (buffer .entry)) (now (buffer .exit)) r ⌝ }
 {
     if level == 0 {
-        return land(buffer, count, limit, next, node, n, need, key, value);
+        return gain_leaf(buffer, count, limit, next, node, n, need, key, value);
     }
     let below = child(n, key);
     let m = node_at(image, lens, slots, buffer, count, limit, below);

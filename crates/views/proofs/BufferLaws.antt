@@ -4,25 +4,30 @@ use mathlib.Core.List.{List, [], _∷_, _++_, map, append-assoc, append-nil}
 use Prim.Native.Nat.{ℕ, zero, suc, _+_, _*_, _<_, _≤_}
 use native.Mathlib.Numerals.{add-one}
 use native.Mathlib.Omega.{arith}
-use lib.ListN.{length, take, drop, getD, length-append, length-drop, length-map, take-append-drop, drop-of-length-le, List·getD-append}
+use lib.ListN.{length, take, drop, getD, length-append, length-drop, take-append-drop, drop-of-length-le, List·getD-append}
 use lib.Seq.{take-at, drop-at, drop-cons, drop-drop, drop-append-le, getD-take, length-take-le}
 use Rattle.lists.specs.Lists.{All, none, more, flat, patch}
 use Rattle.lists.proofs.Flats.{map-append}
+use Rattle.lists.proofs.Parts.{length-patch}
 use Rattle.pages.specs.declared.unit.Unit as U
 use Rattle.pages.specs.declared.unit.Update.the-variants.{Insert, Reset}
 use Rattle.pages.specs.declared.unit.Decoded.the-variants.{Good}
 use Rattle.pages.specs.Units.{decode, decodes, encode, Valid}
-use Rattle.pages.proofs.UnitLaws.{length-encode, decodes-units}
+use Rattle.pages.proofs.UnitLaws.{length-encode, length-units, decodes-units}
 use Rattle.views.specs.declared.node.Node as N
-use Rattle.views.specs.Nodes.{Entry, anew}
+use Rattle.views.specs.Nodes.{Entry}
 use Rattle.views.specs.NodeCode.{pairs, entriesOf}
 use Rattle.views.specs.Groups.{unitFor}
-use Rattle.views.specs.Pass.{pushed, entryUnits, nodeUnits}
+use Rattle.views.specs.PassCode.{pushed, entryUnits, nodeUnits}
 
 -- ---- pushes one after the other
 -- no unit
 pub pushed-none : (b : List ℕ) (c : ℕ) → pushed b c [] ≡ b
 pushed-none b c = take-append-drop (12 * c) b
+
+-- one unit
+pub pushed-one : (b last : List ℕ) (c : ℕ) (u : U.Unit) → last ≡ patch b (12 * c) 12 (encode u) → last ≡ pushed b c (u ∷ [])
+pushed-one b last c u e = e ∙ ap (patch b (12 * c) 12) (sym (append-nil (encode u)))
 
 -- one unit, and the others behind it
 pub pushed-more : (b : List ℕ) (c : ℕ) (u : U.Unit) (us : List U.Unit) → 12 * c + 12 ≤ length b
@@ -42,6 +47,26 @@ pushed-more b c u us h =
     ∙ ap (λ (x : List ℕ). take a b ++ x)
     (sym (append-assoc (encode u) (flat encode us) (drop k rest))
     ∙ ap (λ (x : List ℕ). (encode u ++ flat encode us) ++ x) (drop-drop k 12 (drop a b) ∙ ap (λ (m : ℕ). drop m (drop a b)) e))
+
+-- a list of units, and others behind them
+pub pushed-append : (b : List ℕ) (c : ℕ) (us vs : List U.Unit) → 12 * (c + length us) ≤ length b
+    → pushed (pushed b c us) (c + length us) vs ≡ pushed b c (us ++ vs)
+pushed-append b c [] vs h = ap₂ (λ (x : List ℕ) (m : ℕ). pushed x m vs) (pushed-none b c) (let e : c + 0 ≡ c = omega arith in e)
+pushed-append b c (u ∷ us) vs h =
+    let x : List ℕ = patch b (12 * c) 12 (encode u) in
+    let l : length x ≡ length b = length-patch b (12 * c) 12 (encode u) (omega arith) (length-encode u) in
+    let e : c + suc (length us) ≡ c + 1 + length us = omega arith in
+    ap₂ (λ (y : List ℕ) (m : ℕ). pushed y m vs) (sym (pushed-more b c u us (omega arith))) e
+    ∙ pushed-append x (c + 1) us vs (omega arith)
+    ∙ pushed-more b c u (us ++ vs) (omega arith)
+
+-- the buffer keeps its length, and what stands before the units
+pub length-pushed : (b : List ℕ) (c : ℕ) (us : List U.Unit) → 12 * (c + length us) ≤ length b → length (pushed b c us) ≡ length b
+length-pushed b c us h = length-patch b (12 * c) (12 * length us) (flat encode us) (omega arith) (length-units us)
+
+pub take-pushed : (b : List ℕ) (c : ℕ) (us : List U.Unit) → 12 * c ≤ length b → take (12 * c) (pushed b c us) ≡ take (12 * c) b
+take-pushed b c us h =
+    take-at (take (12 * c) b) (flat encode us ++ drop (12 * length us) (drop (12 * c) b)) (12 * c) (length-take-le (12 * c) b h)
 
 -- ---- the loop over the entries of node x: what is still to be pushed to b is what all entries push to b₀
 module _ (n c : ℕ) (b₀ : List ℕ) (x : N.Node) where
@@ -128,14 +153,3 @@ module _ (limit c : ℕ) (bytes : List ℕ) (us : List U.Unit) (h : 12 * c ≤ l
       decodes-append limit c (length vs) (c + length vs) x (flat encode vs ++ rest) (drop (12 * c) bytes) refl (length-take-le (12 * c) bytes h)
       ∙ ap₂ _++_ (ap (decodes limit c) (take-append-drop (12 * c) bytes) ∙ e) (decodes-units rest v)
       ∙ sym (map-append Good us vs)
-
-  -- one unit
-  pub unit-read : (u : U.Unit) → Valid limit u → decodes limit (c + 1) (patch bytes (12 * c) 12 (encode u)) ≡ map Good (us ++ (u ∷ []))
-  unit-read u v = ap (λ (x : List ℕ). decodes limit (c + 1) (patch bytes (12 * c) 12 x)) (sym (append-nil (encode u))) ∙ pushed-read (u ∷ []) (more v none)
-
-  -- a node written anew
-  pub node-read : (n : ℕ) (x : N.Node) → length (entriesOf x) ≡ x .len → All (Valid limit) (nodeUnits n x)
-      → decodes limit (c + 1 + x .len) (pushed bytes c (nodeUnits n x)) ≡ map Good (us ++ nodeUnits n x)
-  node-read n x l v =
-      let k : c + 1 + x .len ≡ c + length (nodeUnits n x) = simp length-map (omega arith) in
-      ap (λ (m : ℕ). decodes limit m (pushed bytes c (nodeUnits n x))) k ∙ pushed-read (nodeUnits n x) v

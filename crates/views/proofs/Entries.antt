@@ -1,17 +1,16 @@
 -- Entries in key order: insert and delete keep the order, a lookup after them, and a node written anew. Assumes nothing.
-use mathlib.Core.Path.{_≡_, refl, sym, ap, ap₂, _∙_}
-use mathlib.Core.Bool.{false, cond}
+use mathlib.Core.Path.{_≡_, refl, ap, _∙_}
+use mathlib.Core.Bool.{false}
 use mathlib.Core.List.{List, [], _∷_, _++_, map, foldl, append-assoc, append-nil}
-use mathlib.Core.Option.{Option, none, some}
 use Prim.Native.Nat.{ℕ, suc, _≤_, _<_}
 use native.Mathlib.Omega.{arith}
 use lib.Dec.{ltb, leb, eqb}
 use lib.ListN.{length, length-append}
-use borrow.Author.Tests.{ltb-true, ltb-false, leb-true, eqb-true, eqb-false, lt-ltb, le-leb, eq-eqb, ne-eqb}
+use borrow.Author.Tests.{ltb-true, ltb-false, leb-true, eqb-true, eqb-false, lt-ltb, le-leb}
 use Rattle.lists.proofs.Tests.{cases}
 use Rattle.pages.specs.declared.unit.Update.{Update}
 use Rattle.pages.specs.declared.unit.Update.the-variants.{Insert, Delete, Reset}
-use Rattle.views.specs.Nodes.{Entry, entry, Above, Rising, insertEntry, deleteEntry, View, untouched, broken, view, within, apply, inserted, anew}
+use Rattle.views.specs.Nodes.{Entry, Above, Rising, insertEntry, deleteEntry, View, untouched, broken, view, within, apply, inserted, anew}
 
 -- ---- the order
 pub above-less : (j k : ℕ) (es : List Entry) → j ≤ k → Above k es → Above j es
@@ -21,19 +20,6 @@ above-less j k (e ∷ es) l h = (omega (arith, h .0), h .1)
 pub above-rising : (k : ℕ) (es : List Entry) → Above k es → Rising es
 above-rising k [] h = tt
 above-rising k (e ∷ es) h = h .1
-
--- parts of joined lists
-pub rising-left : (ps es : List Entry) → Rising (ps ++ es) → Rising ps
-rising-left [] es h = tt
-rising-left (p ∷ ps) es h = go (p .key) ps h
-  where
-    go : (k : ℕ) (qs : List Entry) → Above k (qs ++ es) → Above k qs
-    go k [] h = tt
-    go k (q ∷ qs) h = (h .0, go (q .key) qs (h .1))
-
-pub rising-right : (ps es : List Entry) → Rising (ps ++ es) → Rising es
-rising-right [] es h = h
-rising-right (p ∷ ps) es h = rising-right ps es (above-rising (p .key) (ps ++ es) h)
 
 -- a later entry's key is above
 pub above-at : (k : ℕ) (ps : List Entry) (e : Entry) (es : List Entry) → Above k (ps ++ e ∷ es) → k < e .key
@@ -81,25 +67,11 @@ insert-most k v (e ∷ es) =
     (λ t. rw t (omega (arith, insert-most k v es)))
     (λ t. cases (eqb (e .key) k) (λ q. rw (t, q) (omega arith)) (λ q. rw (t, q) (omega arith)))
 
-pub insert-least : (k v : ℕ) (es : List Entry) → length es ≤ length (insertEntry k v es)
-insert-least k v [] = omega arith
-insert-least k v (e ∷ es) =
-    cases (ltb (e .key) k)
-    (λ t. rw t (omega (arith, insert-least k v es)))
-    (λ t. cases (eqb (e .key) k) (λ q. rw (t, q) (omega arith)) (λ q. rw (t, q) (omega arith)))
-
 pub delete-most : (k : ℕ) (es : List Entry) → length (deleteEntry k es) ≤ length es
 delete-most k [] = omega arith
 delete-most k (e ∷ es) =
     cases (ltb (e .key) k)
     (λ t. rw t (omega (arith, delete-most k es)))
-    (λ t. cases (eqb (e .key) k) (λ q. rw (t, q) (omega arith)) (λ q. rw (t, q) (omega arith)))
-
-pub delete-least : (k : ℕ) (es : List Entry) → length es ≤ suc (length (deleteEntry k es))
-delete-least k [] = omega arith
-delete-least k (e ∷ es) =
-    cases (ltb (e .key) k)
-    (λ t. rw t (omega (arith, delete-least k es)))
     (λ t. cases (eqb (e .key) k) (λ q. rw (t, q) (omega arith)) (λ q. rw (t, q) (omega arith)))
 
 -- ---- a node written anew

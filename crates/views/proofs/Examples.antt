@@ -13,7 +13,7 @@ use Rattle.pages.specs.Units.{decode, encode}
 use Rattle.pages.specs.Data.{obeys, laid, dataOf}
 use Rattle.pages.specs.Steps.{commit, index, count, before, isAt, full, steps}
 use Rattle.views.specs.Nodes.{entry, view}
-use Rattle.views.specs.Table.{eventsOf, Node, fresh, nodeOf, isWell, Meaning, refusal, means, meaning}
+use Rattle.views.specs.Table.{eventsOf, Node, fresh, nodeOf, isWell, NodesRead, refusal, means, meaning}
 
 -- a live page: page i of n of commit c, with these units
 abbrev on : ℕ → ℕ → ℕ → List Unit → Page
@@ -27,7 +27,7 @@ abbrev one : ℕ → Update → Page
 one c u = on c 0 1 (at 0 u ∷ [])
 
 -- what a chip with nodes 0 and 1 means
-abbrev reads : List Page → Meaning
+abbrev reads : List Page → NodesRead
 reads ps = meaning small 2 ps
 
 abbrev node : ℕ → List ℕ → Node

@@ -16,29 +16,29 @@ use Rattle.pages.specs.Units.{decode, decodes}
 use Rattle.views.specs.declared.fold.Shape.{Shape}
 use Rattle.views.specs.declared.fold.Stage.the-variants.{Broken, Full}
 use Rattle.views.specs.Nodes.{View, broken, insertEntry, deleteEntry, apply}
-use Rattle.views.specs.NodeCode.{entriesIn, Keeps}
+use Rattle.views.specs.NodeCode.{entriesIn, HoldsEntries}
 use Rattle.views.specs.Table.{isGood}
-use Rattle.views.specs.FoldCode.{viewIn, StandsIn, turnView, viewAfter}
-use Rattle.views.specs.Stored.{viewOver}
+use Rattle.views.specs.FoldCode.{viewIn, StandsIn}
+use Rattle.views.specs.Stored.{turnView, viewAfter, viewOver}
 
 -- ---- one update of a view so far, its shape s over keys ks and values vs, which leaves the entries in ls and ws
 module _ (s : Shape) (ks vs ls ws : List ℕ) where
   -- an entry put in
-  pub entered : (k v n : ℕ) → s .stage ≡ Full → Keeps n ls ws (insertEntry k v (entriesIn (s .len) ks vs)) → n ≤ 16
+  pub entered : (k v n : ℕ) → s .stage ≡ Full → HoldsEntries n ls ws (insertEntry k v (entriesIn (s .len) ks vs)) → n ≤ 16
       → StandsIn (record { stage = Full; level = s .level; len = n }) ls ws (apply (viewIn s ks vs) (Insert k v))
   entered k v n e h l =
       let m : length (insertEntry k v (entriesIn (s .len) ks vs)) ≤ 16 = omega (arith, h .len) in
       record { is = rw (e, le-leb _ 16 m, h .is); room = l; keys = h .keys; values = h .values }
 
   -- a 17th entry
-  pub overfull : (r : Shape) (k v n : ℕ) → s .stage ≡ Full → Keeps n ls ws (insertEntry k v (entriesIn (s .len) ks vs)) → 16 < n
+  pub overfull : (r : Shape) (k v n : ℕ) → s .stage ≡ Full → HoldsEntries n ls ws (insertEntry k v (entriesIn (s .len) ks vs)) → 16 < n
       → (r .stage ≡ Broken) × (r .len ≤ 16) → StandsIn r ls ws (apply (viewIn s ks vs) (Insert k v))
   overfull r k v n e h l q =
       let m : 16 < length (insertEntry k v (entriesIn (s .len) ks vs)) = omega (arith, h .len) in
       record { is = rw (q .0, e, lt-leb _ 16 m); room = q .1; keys = h .keys; values = h .values }
 
   -- an entry taken out
-  pub left-out : (k n : ℕ) → s .stage ≡ Full → Keeps n ls ws (deleteEntry k (entriesIn (s .len) ks vs)) × (n ≤ s .len) → s .len ≤ 16
+  pub left-out : (k n : ℕ) → s .stage ≡ Full → HoldsEntries n ls ws (deleteEntry k (entriesIn (s .len) ks vs)) × (n ≤ s .len) → s .len ≤ 16
       → StandsIn (record { stage = Full; level = s .level; len = n }) ls ws (apply (viewIn s ks vs) (Delete k))
   left-out k n e h l = record { is = rw (e, h .0 .is); room = omega (arith, h .1); keys = h .0 .keys; values = h .0 .values }
 

@@ -1,18 +1,17 @@
 -- Steps 4 and 5 when pages are added or taken away. Assumes nothing.
 use mathlib.Core.Path.{_≡_, refl, sym, ap, _∙_}
 use mathlib.Core.Logic.{_⊎_, inl, inr, ⊎-elim}
-use mathlib.Core.Bool.{Bool, true, false, _&&_, not, or-true}
+use mathlib.Core.Bool.{Bool, true, false, not, or-true}
 use mathlib.Core.List.{List, [], _∷_, _++_, map, foldl, foldl-append}
 use Prim.Native.Nat.{ℕ, _^_, _<_}
-use native.Mathlib.Omega.{arith}
 use lib.Dec.{eqb}
 use lib.ListN.{length, drop}
 use borrow.Author.Tests.{eqb-true}
-use Rattle.lists.specs.Lists.{filter, all, any, All, none, more, tab, flat}
+use Rattle.lists.specs.Lists.{filter, all, any, All, none, more, flat}
 use Rattle.lists.proofs.Tests.{cases, clash}
-use Rattle.lists.proofs.Alls.{All-map, all-All, All-all}
+use Rattle.lists.proofs.Alls.{All-map}
 use Rattle.lists.proofs.Filters.{filter-append, filter-all, filter-none}
-use Rattle.lists.proofs.Flats.{tab-same, flat-append, all-append, All-flat-filter}
+use Rattle.lists.proofs.Flats.{flat-append}
 use Rattle.chip.specs.Geometry.{Geometry}
 use Rattle.pages.specs.declared.unit.Update.{Update}
 use Rattle.pages.specs.declared.unit.Update.the-variants.{Insert, Delete, Reset}
@@ -24,7 +23,7 @@ use Rattle.pages.specs.Units.{decodes, encode, Valid}
 use Rattle.pages.specs.Data.{headOf, dataOf}
 use Rattle.pages.specs.Steps.{Live}
 use Rattle.pages.proofs.HeaderLaws.{laid-head, data-units}
-use Rattle.views.specs.Table.{Event, eventAt, eventsOf, events, isSound, Node, joins, listed, updated, turnUnit, turn, fresh, nodeOf, table}
+use Rattle.views.specs.Table.{Event, eventAt, eventsOf, events, isGood, isSound, Node, joins, listed, updated, turnUnit, turn, fresh, nodeOf}
 use Rattle.views.proofs.Entries.{RisingView, FewView, apply-rising, apply-few}
 
 -- ---- an event knows its page
@@ -51,14 +50,10 @@ events-filter limit hit (x ∷ xs) =
     (λ t. rw (t, r, a, filter-none k (All-map (λ e h. ap (λ (p : ℕ). not (hit p)) h ∙ rw t) (events-at limit x))))
     (λ t. rw (t, r, a, filter-all k (All-map (λ e h. ap (λ (p : ℕ). not (hit p)) h ∙ rw t) (events-at limit x))))
 
--- ---- every unit of joined and of filtered pages obeys the layout
-pub sound-append : (limit : ℕ) (xs ys : List Live)
-    → all isSound (events limit (xs ++ ys)) ≡ (all isSound (events limit xs) && all isSound (events limit ys))
-sound-append limit xs ys = ap (all isSound) (events-append limit xs ys) ∙ all-append isSound (events limit xs) (events limit ys)
-
-pub sound-filter : (limit : ℕ) (k : Live → Bool) (xs : List Live) → all isSound (events limit xs) ≡ true
-    → all isSound (events limit (filter k xs)) ≡ true
-sound-filter limit k xs e = All-all isSound (All-flat-filter (eventsOf limit) k xs (all-All isSound (events limit xs) e))
+-- ---- events are sound where what is decoded is units
+pub sound-events : (p : ℕ) (ds : List Decoded) → all isSound (map (eventAt p) ds) ≡ all isGood ds
+sound-events p [] = refl
+sound-events p (d ∷ ds) = rw (sound-events p ds)
 
 -- ---- the units of a page that is laid out with them
 pub events-laid : (g : Geometry) (limit p c i n : ℕ) (us : List Unit) → c < 2 ^ 32 → All (Valid limit) us
@@ -77,9 +72,6 @@ good-sound p (u ∷ us) = good-sound p us
 pub node-append : (n : ℕ) (es fs : List Event) → nodeOf n (es ++ fs) ≡ foldl (turn n) (nodeOf n es) fs
 unfolding nodeOf
 node-append n es fs = foldl-append (turn n) fresh es fs
-
-pub table-append : (limit : ℕ) (es fs : List Event) → table limit (es ++ fs) ≡ tab 0 limit (λ (n : ℕ). foldl (turn n) (nodeOf n es) fs)
-table-append limit es fs = tab-same (λ n. nodeOf n (es ++ fs)) (λ n. foldl (turn n) (nodeOf n es) fs) 0 limit (λ n l. node-append n es fs)
 
 -- ---- the entries of every node rise, and are at most 16
 turn-rising : (n p : ℕ) (d : Decoded) (s : Node) → RisingView (s .now) → RisingView (turnUnit n p d s .now)
@@ -158,10 +150,3 @@ module _ (hit : ℕ → Bool) where
       (sym
       (⊎-elim {C = foldl (turn n) fresh es ≡ foldl (turn n) fresh (filter (λ (e : Event). not (hit (e .place))) es)}
       (λ e. e) (λ k. clash k h) (fold-near n es fresh fresh (inl refl))))
-
-  -- so does the whole table
-  pub table-kept : (limit : ℕ) (xs : List Live) → ((n : ℕ) → n < limit → any hit (nodeOf n (events limit xs) .pages) ≡ false)
-      → table limit (events limit (filter (λ (x : Live). not (hit (x .place))) xs)) ≡ table limit (events limit xs)
-  table-kept limit xs h =
-      tab-same (λ n. nodeOf n (events limit (filter (λ (x : Live). not (hit (x .place))) xs))) (λ n. nodeOf n (events limit xs)) 0 limit
-      (λ n l. node-kept limit n xs (h n (omega arith)))

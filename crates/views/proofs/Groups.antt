@@ -1,25 +1,24 @@
 -- What the groups of a commit make of the nodes: views after the buffer, and lists of pages. Assumes nothing.
-use mathlib.Core.Path.{_≡_, refl, sym, ap, ap₂, _∙_, subst}
-use mathlib.Core.Bool.{Bool, true, false}
+use mathlib.Core.Path.{_≡_, refl, sym, ap, _∙_, subst}
+use mathlib.Core.Bool.{true, false}
 use mathlib.Core.List.{List, [], _∷_, _++_, map, foldl, foldl-append}
 use Prim.Native.Nat.{ℕ, suc, _≤_, _<_}
 use native.Mathlib.Omega.{arith}
 use lib.Dec.{leb, eqb}
 use lib.ListN.{length}
 use borrow.Author.Tests.{le-leb, leb-true, eq-eqb, ne-eqb, eqb-true, eqb-false}
-use Rattle.lists.specs.Lists.{all, any, All, none, more, tab, flat}
+use Rattle.lists.specs.Lists.{all, any, All, none, more, tab}
 use Rattle.lists.proofs.Tests.{cases, clash, and-left, and-right, and-intro}
 use Rattle.lists.proofs.Alls.{All-head, All-tail, All-map}
-use Rattle.lists.proofs.Flats.{flat-append, map-append, all-tab}
+use Rattle.lists.proofs.Flats.{all-tab}
 use Rattle.pages.specs.declared.unit.Update.{Update}
 use Rattle.pages.specs.declared.unit.Update.the-variants.{Insert, Delete, Reset}
 use Rattle.pages.specs.declared.unit.Unit as U
-use Rattle.pages.specs.declared.unit.Decoded.the-variants.{Good}
 use Rattle.views.specs.Nodes.{Entry, Rising, View, view, apply, anew}
-use Rattle.views.specs.Table.{Event, eventAt, Node, joins, listed, updated, turn, nodeOf, isWhole, isWell}
-use Rattle.views.specs.Groups.{own, present, Group, unitFor, eventIn, eventsIn, isReset}
+use Rattle.views.specs.Table.{Event, Node, joins, listed, updated, turn, nodeOf, isWhole, isWell}
+use Rattle.views.specs.Groups.{own, present, Group, eventIn, eventsIn, isReset, Without, Distinct}
 use Rattle.views.proofs.Entries.{RisingView, FewView, updates-rising, updates-few, rebuilt}
-use Rattle.views.proofs.Folds.{node-append, node-rising, node-few, listed-hit}
+use Rattle.views.proofs.Folds.{node-append, node-rising, node-few}
 
 -- ---- the buffer, unit after unit
 pub own-append : (n : ℕ) (us vs : List U.Unit) → own n (us ++ vs) ≡ own n us ++ own n vs
@@ -28,11 +27,6 @@ own-append n (u ∷ us) vs = cases (eqb (u .node) n) (λ t. rw (t, own-append n 
 
 pub present-append : (n : ℕ) (w : View) (us vs : List U.Unit) → present n w (us ++ vs) ≡ present n (present n w us) vs
 present-append n w us vs = ap (foldl apply w) (own-append n us vs) ∙ foldl-append apply w (own n us) (own n vs)
-
--- no unit of another node counts
-pub present-other : (n : ℕ) (w : View) {us : List U.Unit} → All (λ (u : U.Unit). u .node ≡ n → ⊥) us → present n w us ≡ w
-present-other n w none = refl
-present-other n w (more {x = u} d h) = rw (ne-eqb (u .node) n d) (present-other n w h)
 
 -- ---- a group's turn on its node, and on another
 -- a node after updates that all stand on page p
@@ -57,13 +51,6 @@ updates-now p s [] = refl
 updates-now p s (u ∷ us) = updates-now p (updated p u s) us
 
 -- ---- all groups, each node in one of them
-abbrev pub Without : ℕ → List Group → Type 0
-Without n qs = All (λ (q : Group). q .node ≡ n → ⊥) qs
-
-abbrev pub Distinct : List Group → Type 0
-Distinct [] = Unit {0}
-Distinct (q ∷ qs) = Without (q .node) qs × Distinct qs
-
 pub groups-other : (n : ℕ) (qs : List Group) (s : Node) → Without n qs → foldl (turn n) s (eventsIn qs) ≡ s
 groups-other n [] s h = refl
 groups-other n (q ∷ qs) s h =
@@ -82,36 +69,6 @@ by-groups R n (q ∷ qs) s d h k =
     rw (o, groups-other n qs (updatedAll (q .place) s (q .updates)) (rw e at (d .0))) (All-head h e))
     (λ t. let e = eqb-false (q .node) n t in
     rw (group-other n q e (q .updates) s) (by-groups R n qs s (d .1) (All-tail h) (λ w. k (more e w)))))
-
--- a node with a group, wherever the group stands
-pub groups-node : (ls : List Group) (q : Group) (rs : List Group) (s : Node) → Without (q .node) ls → Without (q .node) rs
-    → foldl (turn (q .node)) s (eventsIn (ls ++ q ∷ rs)) ≡ updatedAll (q .place) s (q .updates)
-groups-node ls q rs s h k =
-    rw (
-      flat-append (λ (r : Group). map (eventIn r) (r .updates)) ls (q ∷ rs),
-      foldl-append (turn (q .node)) s (eventsIn ls) (eventsIn (q ∷ rs)),
-      groups-other (q .node) ls s h,
-      foldl-append (turn (q .node)) s (map (eventIn q) (q .updates)) (eventsIn rs),
-    )
-    (ap (λ (r : Node). foldl (turn (q .node)) r (eventsIn rs)) (group-node q (q .updates) s)
-    ∙ groups-other (q .node) rs (updatedAll (q .place) s (q .updates)) k)
-
--- ---- groups of one page
--- their units in order
-abbrev pub unitsIn : List Group → List U.Unit
-unitsIn qs = flat (λ (q : Group). map (unitFor (q .node)) (q .updates)) qs
-
-group-events : (p : ℕ) (q : Group) → q .place ≡ p → (us : List Update) → map (eventAt p) (map Good (map (unitFor (q .node)) us)) ≡ map (eventIn q) us
-group-events p q e [] = refl
-group-events p q e (u ∷ us) = ap₂ _∷_ (ap (λ (m : ℕ). eventAt m (Good (unitFor (q .node) u))) (sym e)) (group-events p q e us)
-
--- what a page with those units reads as
-pub groups-events : (p : ℕ) {qs : List Group} → All (λ (q : Group). q .place ≡ p) qs → map (eventAt p) (map Good (unitsIn qs)) ≡ eventsIn qs
-groups-events p none = refl
-groups-events p (more {x = q} {xs = qs} h hs) =
-    let us : List U.Unit = map (unitFor (q .node)) (q .updates) in
-    ap (map (eventAt p)) (map-append Good us (unitsIn qs)) ∙ map-append (eventAt p) (map Good us) (map Good (unitsIn qs))
-    ∙ ap₂ _++_ (group-events p q h (q .updates)) (groups-events p hs)
 
 -- ---- views: after the groups, the state after the buffer
 pub present-groups : (n : ℕ) (qs : List Group) (s : Node) (us : List U.Unit) → Distinct qs
@@ -189,28 +146,6 @@ list-reset p s [] h = clash h refl
 list-reset p s (Insert k v ∷ us) h = list-reset p (updated p (Insert k v) s) us h
 list-reset p s (Delete k ∷ us) h = list-reset p (updated p (Delete k) s) us h
 list-reset p s (Reset l ∷ us) h = list-anew p s l us
-
--- ---- a page with a unit of a node is in that node's list
-pub list-names : (p : ℕ) (s : Node) (u : Update) (us : List Update) → any (λ (q : ℕ). eqb q p) (updatedAll p s (u ∷ us) .pages) ≡ true
-list-names p s u [] = listed-hit (λ q. eqb q p) u p (s .pages) (eq-eqb p p refl)
-list-names p s u (v ∷ us) = list-names p (updated p u s) v us
-
--- a page that a list names, none of which is hit
-named : (hit : ℕ → Bool) (p : ℕ) (ps : List ℕ) → any (λ (q : ℕ). eqb q p) ps ≡ true → any hit ps ≡ false → hit p ≡ false
-named hit p [] h k = clash h refl
-named hit p (q ∷ qs) h k =
-    cases (hit q)
-    (λ u. let z : true ≡ false = (rw u at k) in clash refl z)
-    (λ u. cases (eqb q p) (λ t. ap hit (sym (eqb-true q p t)) ∙ u) (λ t. named hit p qs (rw t at h) (rw u at k)))
-
--- a block that no list names after the groups holds no page of theirs
-pub outside-groups : (hit : ℕ → Bool) (s : Node) (ls : List Group) (q : Group) (rs : List Group) (u : Update) (us : List Update)
-    → q .updates ≡ u ∷ us → Without (q .node) ls → Without (q .node) rs
-    → any hit (foldl (turn (q .node)) s (eventsIn (ls ++ q ∷ rs)) .pages) ≡ false → hit (q .place) ≡ false
-outside-groups hit s ls q rs u us e h k n =
-    let o = groups-node ls q rs s h k in
-    let m : any hit (updatedAll (q .place) s (u ∷ us) .pages) ≡ false = (rw (o, e) at n) in
-    named hit (q .place) (updatedAll (q .place) s (u ∷ us) .pages) (list-names (q .place) s u us) m
 
 -- ---- no view broken, no list above 4 pages
 pub joins-most : (p : ℕ) (ps : List ℕ) → length (joins p ps) ≤ suc (length ps)

@@ -1,6 +1,5 @@
 pub mod Entries
 pub mod Folds
-pub mod Tables
 pub mod Groups
 pub mod Rooms
 pub mod Meanings
@@ -11,6 +10,7 @@ pub mod ViewSteps
 pub mod BufferLaws
 pub mod WellLaws
 pub mod ViewLaws
+pub mod NodeViews
 pub mod StoreLaws
 pub mod TableLaws
 pub mod ReadLaws

@@ -1,27 +1,26 @@
--- What an image means as a whole: from its pages in order, after an erase, and when pages that are not live change. Assumes nothing.
+-- What an image means as a whole: from its pages in order, and after an erase. Assumes nothing.
 use mathlib.Core.Path.{_≡_, refl, sym, ap, _∙_}
 use mathlib.Core.Bool.{Bool, true, false, cond, _&&_, not}
 use mathlib.Core.List.{List, [], _∷_, _++_}
 use Prim.Native.Nat.{ℕ, _+_, _<_}
 use native.Mathlib.Omega.{arith}
 use lib.Dec.{eqb}
-use lib.ListN.{length, take, getD}
+use lib.ListN.{length, getD}
 use borrow.Author.Tests.{eq-eqb}
-use Rattle.lists.specs.Lists.{filter, all, All, At, modify, mapFrom, tab}
+use Rattle.lists.specs.Lists.{filter, all, All, mapFrom, tab}
 use Rattle.lists.proofs.Tests.{cases, and-left, and-right}
 use Rattle.lists.proofs.Alls.{All-head, All-map, All-right, All-filter, all-All, All-all}
 use Rattle.lists.proofs.Filters.{filter-append}
 use Rattle.lists.proofs.Flats.{tab-same, length-tab, getD-tab, tab-all}
 use Rattle.lists.proofs.Ends.{End, nil, snoc, endOf, snoc-some}
 use Rattle.chip.specs.Geometry.{Geometry}
-use Rattle.chip.specs.Page.{Page, isLive, blank, tornPage}
-use Rattle.chip.specs.Chip.{inBlock, filled, erase, whole, tear}
-use Rattle.chip.proofs.Marks.{blank-quiet, torn-quiet}
+use Rattle.chip.specs.Page.{Page, isLive}
+use Rattle.chip.specs.Chip.{inBlock, filled, whole}
 use Rattle.pages.specs.Steps.{Live, liveFrom, commit, ordered, lastFrom, full, ofCommit, refused, stand, without, split, steps, settle}
 use Rattle.pages.proofs.Order.{chain}
 use Rattle.pages.proofs.Pairs.{own, settleOrdered, steps-ordered}
 use Rattle.pages.proofs.Settle.{last-snoc, settle-snoc, Whole, stands, removed}
-use Rattle.pages.proofs.LivePages.{outside, quiet, steady, gone-ordered}
+use Rattle.pages.proofs.LivePages.{outside, gone-ordered}
 use Rattle.views.specs.Table.{Event, events, isSound, Node, nodeOf, table, isWell, refusal, means, read, readStood, meaning}
 use Rattle.views.proofs.Folds.{events-filter, node-kept}
 use Rattle.views.proofs.Rooms.{Unlisted, Outside}
@@ -33,26 +32,6 @@ inOrder g ps = ordered (liveFrom g 0 ps)
 pub meaning-ordered : (g : Geometry) (limit : ℕ) (ps : List Page) → meaning g limit ps ≡ readStood limit (settleOrdered g (inOrder g ps))
 unfolding meaning
 meaning-ordered g limit ps = ap (readStood limit) (steps-ordered g ps)
-
--- ---- the meaning is one of the live pages
-module _ (g : Geometry) where
-  pub live-steps : (ps qs : List Page) → liveFrom g 0 ps ≡ liveFrom g 0 qs → steps g ps ≡ steps g qs
-  unfolding steps
-  live-steps ps qs e = ap (settle g) e
-
-  pub live-meaning : (limit : ℕ) (ps qs : List Page) → liveFrom g 0 ps ≡ liveFrom g 0 qs → meaning g limit ps ≡ meaning g limit qs
-  unfolding meaning
-  live-meaning limit ps qs e = ap (readStood limit) (live-steps ps qs e)
-
-  -- a page that is not live, before and after
-  pub quiet-meaning : (limit : ℕ) (f : Page → Page) (p : ℕ) (x : Page) (ps : List Page) → At p x ps → isLive g x ≡ false → isLive g (f x) ≡ false
-      → meaning g limit (modify p f ps) ≡ meaning g limit ps
-  quiet-meaning limit f p x ps a h k = live-meaning limit (modify p f ps) ps (quiet g f p 0 x ps a h k)
-
-  -- a live page that stays live and keeps its data
-  pub steady-meaning : (limit : ℕ) (f : Page → Page) (p : ℕ) (x : Page) (ps : List Page) → At p x ps → isLive g x ≡ true → isLive g (f x) ≡ true
-      → take (g .area) (f x) ≡ take (g .area) x → meaning g limit (modify p f ps) ≡ meaning g limit ps
-  steady-meaning limit f p x ps a h k e = live-meaning limit (modify p f ps) ps (steady g f p 0 x ps a h k e)
 
 -- ---- reading the pages that stand
 pub stood : (limit : ℕ) (v s : List Live) (z : Live) → readStood limit (stand v (s ++ (z ∷ []))) ≡ read limit (s ++ (z ∷ [])) (commit z)
@@ -206,43 +185,3 @@ module _ (g : Geometry) (limit : ℕ) (ps : List Page) (tb : List Node) (c : ℕ
   kept-well n l =
       ap (λ (m : ℕ). isWell (nodeIn g limit ps m)) (let e : n ≡ 0 + n = omega arith in e)
       ∙ tab-all isWell (nodeIn g limit ps) 0 limit n (opened g limit ps tb c k .well) l
-
-  -- ---- what keeps the meaning
-  -- a page that is not live, before and after
-  pub kept-quiet : (f : Page → Page) (p : ℕ) (x : Page) → At p x ps → isLive g x ≡ false → isLive g (f x) ≡ false → Kept g limit (modify p f ps) tb c
-  kept-quiet f p x a h q =
-      let e : liveFrom g 0 (modify p f ps) ≡ liveFrom g 0 ps = quiet g f p 0 x ps a h q in
-      record {
-        is = live-meaning g limit (modify p f ps) ps e ∙ k .is;
-        clean = live-steps g (modify p f ps) ps e ∙ k .clean ∙ ap (λ (l : List Live). stand [] (ordered l)) (sym e);
-      }
-
-  -- a block that no list names and that holds no page of the greatest commit, with pages y, not live, in its place
-  module _ (b : ℕ) (un : Unlisted g limit (nodeIn g limit ps) b) (out : Outside g c (inOrder g ps) b) where
-    pub kept-filled : (y : Page) → isLive g y ≡ false → Kept g limit (mapFrom 0 (filled g b y) ps) tb c
-    kept-filled y q =
-        let o = opened g limit ps tb c k in
-        let w : Outside g c (o .s ++ (o .z ∷ [])) b = rw (← o .order) out in
-        let h = erased g limit (nodeIn g limit ps) c (o .s) (o .z) (o .good) b un w in
-        let i = erased-ordered g limit (nodeIn g limit ps) c (o .s) (o .z) (o .good) b un w y ps q (o .order) in
-        record {
-          is = standing-means g limit (nodeIn g limit ps) c (filter (outside g b) (o .s)) (o .z) h (o .well) (mapFrom 0 (filled g b y) ps) i
-              ∙ ap (λ (t : List Node). means t c) (sym (o .tables));
-          clean = standing-clean g limit (nodeIn g limit ps) c (filter (outside g b) (o .s)) (o .z) h (mapFrom 0 (filled g b y) ps) i;
-        }
-
-    -- the nodes stay, and another block outside the greatest commit stays outside: the next erase may follow
-    pub filled-nodes : (y : Page) → isLive g y ≡ false → (n : ℕ) → n < limit → nodeIn g limit (mapFrom 0 (filled g b y) ps) n ≡ nodeIn g limit ps n
-    unfolding nodeIn
-    filled-nodes y q n l =
-        ap (λ (xs : List Live). nodeOf n (events limit xs)) (gone-ordered g b y ps q) ∙ node-kept (inBlock g b) limit n (inOrder g ps) (un n l)
-
-    pub filled-outside : (y : Page) → isLive g y ≡ false → (d : ℕ) → Outside g c (inOrder g ps) d → Outside g c (inOrder g (mapFrom 0 (filled g b y) ps)) d
-    filled-outside y q d o = rw (gone-ordered g b y ps q) (All-filter (outside g b) o)
-
-    -- its erase, whole and torn
-    pub kept-erase : Kept g limit (whole g (erase b) ps) tb c
-    kept-erase = kept-filled (blank g) (blank-quiet g)
-
-    pub kept-torn : (torn : List ℕ) → Kept g limit (tear g torn (erase b) ps) tb c
-    kept-torn torn = cases (eqb (getD torn 0 0) 0) (λ t. rw t k) (λ t. rw t (kept-filled (tornPage g torn) (torn-quiet g torn)))

@@ -12,7 +12,7 @@ use borrow.Author.Tests.{lt-ltb, le-ltb, eq-eqb, ne-eqb}
 use Rattle.lists.proofs.Tests.{cases}
 use Rattle.views.specs.declared.node.Node.{Node}
 use Rattle.views.specs.Nodes.{Entry, entry, insertEntry, deleteEntry}
-use Rattle.views.specs.NodeCode.{pairs, entriesIn, entriesOf, rank, insertAt, removeAt, Keeps, Pushed, Pulled}
+use Rattle.views.specs.NodeCode.{pairs, entriesIn, entriesOf, rank, insertIndex, removeIndex, HoldsEntries, Pushed, Pulled}
 
 -- ---- the loop of position
 -- a key below k is passed
@@ -30,23 +30,23 @@ rank-end k n l = rw (slice-empty n l)
 
 module _ {A : Type 0} where
   -- ---- the loop of insert_at
-  insert-push-suc : (i : ℕ) (a d : A) (l : List A) → i < length l → insertAt (suc i) (getD l i d) (set l i a) ≡ insertAt i a l
+  insert-push-suc : (i : ℕ) (a d : A) (l : List A) → i < length l → insertIndex (suc i) (getD l i d) (set l i a) ≡ insertIndex i a l
   insert-push-suc i a d [] h = absurd (not-suc-le-zero h)
   insert-push-suc zero a d (x ∷ xs) h = refl
   insert-push-suc (suc i) a d (x ∷ xs) h = ap (λ (r : List A). x ∷ r) (insert-push-suc i a d xs (le-of-suc-le-suc h))
 
   -- to insert at i is to put it there and to insert what stood there one place further
-  pub insert-push : (i : ℕ) (a d : A) (l : List A) → i < length l → insertAt (i + 1) (getD l i d) (set l i a) ≡ insertAt i a l
+  pub insert-push : (i : ℕ) (a d : A) (l : List A) → i < length l → insertIndex (i + 1) (getD l i d) (set l i a) ≡ insertIndex i a l
   insert-push i a d l h = rw add-one (insert-push-suc i a d l h)
 
-  take-insert-end : (a : A) (n m : ℕ) (l : List A) → n ≤ m → n ≤ length l → take n (insertAt m a l) ≡ take n l
+  take-insert-end : (a : A) (n m : ℕ) (l : List A) → n ≤ m → n ≤ length l → take n (insertIndex m a l) ≡ take n l
   take-insert-end a zero m l g h = refl
   take-insert-end a (suc n) m [] g h = absurd (not-suc-le-zero h)
   take-insert-end a (suc n) zero (x ∷ xs) g h = absurd (not-suc-le-zero g)
   take-insert-end a (suc n) (suc m) (x ∷ xs) g h = ap (λ (r : List A). x ∷ r) (take-insert-end a n m xs (le-of-suc-le-suc g) (le-of-suc-le-suc h))
 
   -- ---- the loop of remove_at
-  remove-pull-suc : (i : ℕ) (d : A) (l : List A) → suc i < length l → removeAt (suc i) (set l i (getD l (suc i) d)) ≡ removeAt i l
+  remove-pull-suc : (i : ℕ) (d : A) (l : List A) → suc i < length l → removeIndex (suc i) (set l i (getD l (suc i) d)) ≡ removeIndex i l
   remove-pull-suc i d [] h = absurd (not-suc-le-zero h)
   remove-pull-suc zero d (x ∷ []) h = absurd (not-suc-le-zero (le-of-suc-le-suc h))
   remove-pull-suc zero d (x ∷ y ∷ xs) h = refl
@@ -54,54 +54,54 @@ module _ {A : Type 0} where
 
   -- to remove what stands before i is to put the element at i there and to remove the one at i
   pub remove-pull : (i : ℕ) (d : A) (l : List A) → 1 ≤ i → i < length l
-      → removeAt (i + 1 - 1) (set l (i - 1) (getD l i d)) ≡ removeAt (i - 1) l
+      → removeIndex (i + 1 - 1) (set l (i - 1) (getD l i d)) ≡ removeIndex (i - 1) l
   remove-pull i d l p h =
       let e : i ≡ suc (i - 1) = omega arith in
       let q : i + 1 - 1 ≡ suc (i - 1) = omega arith in
-      ap (λ (m : ℕ). removeAt m (set l (i - 1) (getD l i d))) q
-      ∙ ap (λ (m : ℕ). removeAt (suc (i - 1)) (set l (i - 1) (getD l m d))) e ∙ remove-pull-suc (i - 1) d l (omega arith)
+      ap (λ (m : ℕ). removeIndex m (set l (i - 1) (getD l i d))) q
+      ∙ ap (λ (m : ℕ). removeIndex (suc (i - 1)) (set l (i - 1) (getD l m d))) e ∙ remove-pull-suc (i - 1) d l (omega arith)
 
   -- to remove the last element is to take the others
-  pub remove-last : (n : ℕ) (l : List A) → length l ≡ suc n → removeAt n l ≡ take n l
+  pub remove-last : (n : ℕ) (l : List A) → length l ≡ suc n → removeIndex n l ≡ take n l
   remove-last n [] h = absurd (omega arith)
   remove-last zero (x ∷ []) h = refl
   remove-last zero (x ∷ y ∷ xs) h = absurd (omega arith)
   remove-last (suc n) (x ∷ xs) h = ap (λ (r : List A). x ∷ r) (remove-last n xs (omega arith))
 
   -- ---- the first n of a list with one element more or one less
-  take-insert-suc : (n i : ℕ) (a : A) (l : List A) → i ≤ n → take (suc n) (insertAt i a l) ≡ insertAt i a (take n l)
+  take-insert-suc : (n i : ℕ) (a : A) (l : List A) → i ≤ n → take (suc n) (insertIndex i a l) ≡ insertIndex i a (take n l)
   take-insert-suc n zero a l h = refl
   take-insert-suc zero (suc i) a l h = absurd (not-suc-le-zero h)
   take-insert-suc (suc n) (suc i) a [] h = refl
   take-insert-suc (suc n) (suc i) a (x ∷ xs) h = ap (λ (r : List A). x ∷ r) (take-insert-suc n i a xs (le-of-suc-le-suc h))
 
-  take-remove : (n i : ℕ) (l : List A) → i ≤ n → take n (removeAt i l) ≡ removeAt i (take (suc n) l)
+  take-remove : (n i : ℕ) (l : List A) → i ≤ n → take n (removeIndex i l) ≡ removeIndex i (take (suc n) l)
   take-remove n i [] h = take-nil n
   take-remove n zero (x ∷ xs) h = refl
   take-remove zero (suc i) (x ∷ xs) h = absurd (not-suc-le-zero h)
   take-remove (suc n) (suc i) (x ∷ xs) h = ap (λ (r : List A). x ∷ r) (take-remove n i xs (le-of-suc-le-suc h))
 
-  take-pulled : (n i : ℕ) (xs ys : List A) → i ≤ n → n < length ys → removeAt n ys ≡ removeAt i xs → take n ys ≡ removeAt i (take (suc n) xs)
+  take-pulled : (n i : ℕ) (xs ys : List A) → i ≤ n → n < length ys → removeIndex n ys ≡ removeIndex i xs → take n ys ≡ removeIndex i (take (suc n) xs)
   take-pulled n i xs ys h g q =
       sym (take-take n (suc n) ys (omega arith)) ∙ sym (remove-last n (take (suc n) ys) (length-take-le (suc n) ys (omega arith)))
       ∙ sym (take-remove n n ys (omega arith)) ∙ ap (take n) q ∙ take-remove n i xs h
 
 -- what the loop of insert_at leaves
 pub pushed : (n p x i carry : ℕ) (xs ys : List ℕ) → p ≤ n → n < length xs → length ys ≡ length xs → n < i
-    → take (n + 1) (insertAt i carry ys) ≡ take (n + 1) (insertAt p x xs) → Pushed n p x xs ys
+    → take (n + 1) (insertIndex i carry ys) ≡ take (n + 1) (insertIndex p x xs) → Pushed n p x xs ys
 pushed n p x i carry xs ys h g e j q = record {
   is = sym (take-insert-end carry (n + 1) i ys (omega arith) (omega arith)) ∙ q ∙ rw add-one (take-insert-suc n p x xs h);
   size = e;
 }
 
 -- what the loop of remove_at leaves
-pub pulled : (n p i : ℕ) (xs ys : List ℕ) → p < n → n ≤ length xs → length ys ≡ length xs → i ≡ n → removeAt (i - 1) ys ≡ removeAt p xs
+pub pulled : (n p i : ℕ) (xs ys : List ℕ) → p < n → n ≤ length xs → length ys ≡ length xs → i ≡ n → removeIndex (i - 1) ys ≡ removeIndex p xs
     → Pulled n p xs ys
 pulled n p i xs ys h g e j q =
     let s : suc (n - 1) ≡ n = omega arith in
     let t : i - 1 ≡ n - 1 = omega arith in
     record {
-      is = take-pulled (n - 1) p xs ys (omega arith) (omega arith) (ap (λ (m : ℕ). removeAt m ys) (sym t) ∙ q) ∙ ap (λ (m : ℕ). removeAt p (take m xs)) s;
+      is = take-pulled (n - 1) p xs ys (omega arith) (omega arith) (ap (λ (m : ℕ). removeIndex m ys) (sym t) ∙ q) ∙ ap (λ (m : ℕ). removeIndex p (take m xs)) s;
       size = e;
     }
 
@@ -118,7 +118,7 @@ insert-hit k v (x ∷ xs) (y ∷ ys) e g q =
 
 -- it does not
 pub insert-miss : (k v : ℕ) (ks vs : List ℕ) → length ks ≡ length vs → (rank k ks < length ks → getD ks (rank k ks) 0 ≡ k → ⊥)
-    → insertEntry k v (pairs ks vs) ≡ pairs (insertAt (rank k ks) k ks) (insertAt (rank k ks) v vs)
+    → insertEntry k v (pairs ks vs) ≡ pairs (insertIndex (rank k ks) k ks) (insertIndex (rank k ks) v vs)
 insert-miss k v [] [] e g = refl
 insert-miss k v [] (y ∷ ys) e g = absurd (omega arith)
 insert-miss k v (x ∷ xs) [] e g = absurd (omega arith)
@@ -128,7 +128,7 @@ insert-miss k v (x ∷ xs) (y ∷ ys) e g =
     (λ t. rw (t, ne-eqb x k ((rw t at g) (omega arith))))
 
 pub delete-hit : (k : ℕ) (ks vs : List ℕ) → length ks ≡ length vs → rank k ks < length ks → getD ks (rank k ks) 0 ≡ k
-    → deleteEntry k (pairs ks vs) ≡ pairs (removeAt (rank k ks) ks) (removeAt (rank k ks) vs)
+    → deleteEntry k (pairs ks vs) ≡ pairs (removeIndex (rank k ks) ks) (removeIndex (rank k ks) vs)
 delete-hit k [] vs e g q = absurd (not-suc-le-zero g)
 delete-hit k (x ∷ xs) [] e g q = absurd (omega arith)
 delete-hit k (x ∷ xs) (y ∷ ys) e g q =
@@ -161,7 +161,7 @@ pub length-entries : (n : Node) → length (n .keys) ≡ 17 → length (n .value
 length-entries n lk lv h = length-in (n .len) (n .keys) (n .values) lk lv h
 
 -- arrays whose entries are known
-keeps : (n : ℕ) (ks vs : List ℕ) (es : List Entry) → length ks ≡ 17 → length vs ≡ 17 → n ≤ 17 → entriesIn n ks vs ≡ es → Keeps n ks vs es
+keeps : (n : ℕ) (ks vs : List ℕ) (es : List Entry) → length ks ≡ 17 → length vs ≡ 17 → n ≤ 17 → entriesIn n ks vs ≡ es → HoldsEntries n ks vs es
 keeps n ks vs es lk lv h q = record { is = q; len = ap length (sym q) ∙ length-in n ks vs lk lv h; keys = lk; values = lv; room = h }
 
 -- ---- the first n entries, by the place i of key k
@@ -183,20 +183,20 @@ module _ (n : ℕ) (ks vs : List ℕ) (k : ℕ) (lk : length ks ≡ 17) (lv : le
 
     -- an entry is put in at i
     pub gained : (v r : ℕ) (ls ws : List ℕ) → n ≤ 16 → (i < n → getD ks i 0 ≡ k → ⊥) → Pushed n i k ks ls → Pushed n i v vs ws → r ≡ n + 1
-        → Keeps r ls ws (insertEntry k v (entriesIn n ks vs))
+        → HoldsEntries r ls ws (insertEntry k v (entriesIn n ks vs))
     gained v r ls ws h f a b e =
         keeps r ls ws (insertEntry k v (entriesIn n ks vs)) (a .size ∙ lk) (b .size ∙ lv) (omega arith)
         (rw (e, a .is, b .is, at, insert-miss k v (take n ks) (take n vs) same (missing f)))
 
     -- the value at i is written anew
-    pub replaced : (v : ℕ) (ws : List ℕ) → length ws ≡ 17 → i < n → getD ks i 0 ≡ k → ws ≡ set vs i v → Keeps n ks ws (insertEntry k v (entriesIn n ks vs))
+    pub replaced : (v : ℕ) (ws : List ℕ) → length ws ≡ 17 → i < n → getD ks i 0 ≡ k → ws ≡ set vs i v → HoldsEntries n ks ws (insertEntry k v (entriesIn n ks vs))
     replaced v ws rv h q e =
         keeps n ks ws (insertEntry k v (entriesIn n ks vs)) lk rv le
         (rw (e, take-set-lt n vs i v h, at, insert-hit k v (take n ks) (take n vs) same (within h) (there h q)))
 
     -- the entry at i is taken out
     pub lost : (r : ℕ) (ls ws : List ℕ) → i < n → getD ks i 0 ≡ k → Pulled n i ks ls → Pulled n i vs ws → r ≡ n - 1
-        → Keeps r ls ws (deleteEntry k (entriesIn n ks vs)) × (r ≤ n)
+        → HoldsEntries r ls ws (deleteEntry k (entriesIn n ks vs)) × (r ≤ n)
     lost r ls ws h q a b e = (
       keeps r ls ws (deleteEntry k (entriesIn n ks vs)) (a .size ∙ lk) (b .size ∙ lv) (omega arith)
           (rw (e, a .is, b .is, at, delete-hit k (take n ks) (take n vs) same (within h) (there h q))),
@@ -204,7 +204,7 @@ module _ (n : ℕ) (ks vs : List ℕ) (k : ℕ) (lk : length ks ≡ 17) (lv : le
     )
 
     -- the key is not there
-    pub unchanged : (i < n → getD ks i 0 ≡ k → ⊥) → Keeps n ks vs (deleteEntry k (entriesIn n ks vs)) × (n ≤ n)
+    pub unchanged : (i < n → getD ks i 0 ≡ k → ⊥) → HoldsEntries n ks vs (deleteEntry k (entriesIn n ks vs)) × (n ≤ n)
     unchanged f = (
       keeps n ks vs (deleteEntry k (entriesIn n ks vs)) lk lv le (sym (delete-miss k (take n ks) (take n vs) same (missing f))),
       omega arith,

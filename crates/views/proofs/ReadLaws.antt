@@ -1,15 +1,15 @@
 -- The node table read from the standing pages: their keys lead to them, and the check of what is stored is steps 4 and 5. Assumes nothing.
 use mathlib.Core.Path.{_≡_, refl, sym, ap, ap₂, _∙_}
-use mathlib.Core.Bool.{Bool, true, false, cond, _&&_, and-comm, and-false}
-use mathlib.Core.List.{List, [], _∷_, map, reverse, foldl}
-use Prim.Native.Nat.{ℕ, zero, suc, _+_, _*_, _/_, _%_, _≤_, _<_, min}
+use mathlib.Core.Bool.{Bool, true, false, _&&_, and-false}
+use mathlib.Core.List.{List, [], _∷_, map, reverse}
+use Prim.Native.Nat.{ℕ, _+_, _%_, _≤_, _<_}
 use native.Mathlib.Omega.{arith}
-use lib.Dec.{ltb, leb, eqb}
+use lib.Dec.{ltb, leb}
 use lib.ListN.{length, take, getD}
 use borrow.Author.Tests.{lt-ltb, le-leb, lt-leb, leb-true, leb-false}
 use Rattle.lists.specs.Lists.{all, allBelow, All, none, more, tab}
-use Rattle.lists.proofs.Tests.{cases, same-test, and-left, and-right, and-intro}
-use Rattle.lists.proofs.Alls.{All-head, All-tail, All-map, All-zip, All-all}
+use Rattle.lists.proofs.Tests.{cases, same-test}
+use Rattle.lists.proofs.Alls.{All-map}
 use Rattle.lists.proofs.Anys.{below-all, below-is}
 use Rattle.lists.proofs.Flats.{all-tab, tab-all}
 use Rattle.chip.specs.Geometry.{small}
@@ -17,15 +17,15 @@ use Rattle.chip.specs.Page.{Page}
 use Rattle.chip.specs.Chip.{pagesOf}
 use Rattle.chip.proofs.ImageLaws.{length-pages}
 use Rattle.pages.specs.Data.{headOf, obeys}
-use Rattle.pages.specs.Steps.{Live, live, liveFrom, stand, steps}
-use Rattle.pages.specs.Keys.{keyOf, keyFrom}
+use Rattle.pages.specs.Steps.{Live, stand, steps}
+use Rattle.pages.specs.KeyCode.{keyOf}
 use Rattle.pages.proofs.HeaderLaws.{obeys-is}
 use Rattle.pages.proofs.LivePages.{places-below}
-use Rattle.views.specs.Table.{Event, events, isSound, isWell, isWhole, Node, fresh, turn, nodeOf, table}
+use Rattle.views.specs.Table.{events, isSound, isWell, isWhole, Node, fresh, nodeOf, table}
 use Rattle.views.specs.Stored.{storedList, Stores, listView}
-use Rattle.views.specs.Pass.{Turned, Notes, pageAt, isReadable, pagesAt, allReadable, Passes, Empty}
-use Rattle.views.specs.Well.{wellStored, allWellStored}
-use Rattle.views.specs.Read.{ReadTable}
+use Rattle.views.specs.PassCode.{pageAt, isReadable, pagesAt, allReadable, Passes, Empty}
+use Rattle.views.specs.WellCode.{wellStored, allWellStored}
+use Rattle.views.specs.ReadCode.{ReadTable}
 use Rattle.views.proofs.ViewLaws.{standing-all, standing-obeys, standing-bytes, view-listed}
 
 -- a key's remainder is its place

@@ -1,13 +1,12 @@
--- Which blocks no list names after a commit: those that were unnamed and not written, after a snapshot all that were not written. Assumes nothing.
+-- Which blocks no list names after a commit that is a snapshot: all that were not written. Assumes nothing.
 use mathlib.Core.Path.{_≡_, ap, _∙_}
 use mathlib.Core.Bool.{Bool, false}
-use mathlib.Core.List.{List, [], _∷_, _++_, foldl}
-use Prim.Native.Nat.{ℕ, suc, _≤_, _<_}
-use native.Mathlib.Omega.{arith}
+use mathlib.Core.List.{List, [], _∷_, foldl}
+use Prim.Native.Nat.{ℕ, _<_}
 use lib.Dec.{eqb}
 use Rattle.lists.specs.Lists.{any, All, none, more}
 use Rattle.lists.proofs.Tests.{cases}
-use Rattle.lists.proofs.Alls.{All-map, All-zip, All-append}
+use Rattle.lists.proofs.Alls.{All-map, All-zip}
 use Rattle.lists.proofs.Flats.{All-flat}
 use Rattle.chip.specs.Geometry.{Geometry}
 use Rattle.chip.specs.Chip.{inBlock}
@@ -17,9 +16,9 @@ use Rattle.pages.specs.declared.unit.Decoded.{Decoded}
 use Rattle.pages.specs.declared.unit.Decoded.the-variants.{Good, Bad}
 use Rattle.pages.specs.Steps.{Live, commit}
 use Rattle.views.specs.Table.{Event, eventsOf, events, joins, listed, Node, turnUnit, turn}
-use Rattle.views.specs.Groups.{Group, eventsIn}
+use Rattle.views.specs.Groups.{Group, eventsIn, Without, Distinct}
 use Rattle.views.proofs.Folds.{events-at}
-use Rattle.views.proofs.Groups.{Without, Distinct, by-groups, list-anew}
+use Rattle.views.proofs.Groups.{by-groups, list-anew}
 
 -- no list of a node names a page of block b
 abbrev pub Unlisted : Geometry → ℕ → (ℕ → Node) → ℕ → Type 0
@@ -67,16 +66,3 @@ module _ (hit : ℕ → Bool) where
       by-groups (λ (r : Node). any hit (r .pages) ≡ false) n qs s d
       (All-zip (λ q m r e. let o = list-anew (q .place) s (r .0) (r .1) in rw (r .2, o, m)) h a)
       (λ w. rw (k w))
-
--- ---- blocks
--- a block with no new page holds no page of the new commit
-pub outside-new : (g : Geometry) (c : ℕ) (xs news : List Live) (b : ℕ) → All (λ (x : Live). commit x ≤ c) xs
-    → All (λ (x : Live). inBlock g b (x .place) ≡ false) news → Outside g (suc c) (xs ++ news) b
-outside-new g c xs news b h k = All-append (All-map (λ x l e. absurd (omega arith)) h) (All-map (λ x l e. l) k)
-
--- blocks that no list named and that get no new page are still unnamed, and outside the new commit
-pub room-kept : (g : Geometry) (limit c : ℕ) (T : ℕ → Node) (xs news : List Live) (bs : List ℕ) → All (Unlisted g limit T) bs
-    → All (λ (x : Live). commit x ≤ c) xs → All (λ (b : ℕ). All (λ (x : Live). inBlock g b (x .place) ≡ false) news) bs
-    → All (Unlisted g limit (λ (n : ℕ). foldl (turn n) (T n) (events limit news))) bs × All (Outside g (suc c) (xs ++ news)) bs
-room-kept g limit c T xs news bs u h k =
-    (All-zip (λ b un a n l. still-unlisted (inBlock g b) limit n (T n) news a (un n l)) u k, All-map (λ b a. outside-new g c xs news b h a) k)

@@ -13,7 +13,7 @@ use Rattle.lists.proofs.Tests.{cases}
 use Rattle.lists.proofs.Parts.{length-part}
 use Rattle.views.specs.Table.{joins}
 use Rattle.views.specs.Stored.{Stores}
-use Rattle.views.specs.Pass.{Becomes}
+use Rattle.views.specs.PassCode.{Becomes}
 
 -- ---- one element set, and a part of the list
 -- outside the part
@@ -60,9 +60,9 @@ empty-joins p [] h = refl
 empty-joins p (q ∷ qs) h = absurd (omega arith)
 
 -- a list is not shorter with a page more
-joins-most : (p : ℕ) (ps : List ℕ) → length ps ≤ length (joins p ps)
-joins-most p [] = omega arith
-joins-most p (q ∷ qs) = cases (eqb p q) (λ t. rw t (omega arith)) (λ t. rw t (omega arith))
+joins-least : (p : ℕ) (ps : List ℕ) → length ps ≤ length (joins p ps)
+joins-least p [] = omega arith
+joins-least p (q ∷ qs) = cases (eqb p q) (λ t. rw t (omega arith)) (λ t. rw t (omega arith))
 
 module _ (l s : List ℕ) (n p : ℕ) (hl : length l ≡ 256) (hs : length s ≡ 1024) (hn : n < 256) where
   -- ---- other nodes, after a store to the lengths and to a slot
@@ -131,7 +131,7 @@ module _ (l s : List ℕ) (n p : ℕ) (hl : length l ≡ 256) (hs : length s ≡
       becomes n (joins p) l s l s
       (λ ps st.
       let k = longer (length ps) (getD l n 0) (st .size) h in
-      let j = joins-most p ps in
+      let j = joins-least p ps in
       record { size = st .size ∙ omega arith; pages = λ g. absurd (omega arith) })
       (λ m h d ps st. st)
 

@@ -19,9 +19,10 @@ use Rattle.pages.specs.declared.unit.Unit as U
 use Rattle.pages.specs.declared.unit.Decoded.{Decoded}
 use Rattle.pages.specs.declared.unit.Decoded.the-variants.{Good, Bad}
 use Rattle.pages.specs.Units.{half, word, decodeKind, decode, decodes}
-use Rattle.views.specs.Table.{Event, eventAt, eventsOf, events, isGood, isSound, Node, listed, turnUnit, turn, fresh, nodeOf}
+use Rattle.views.specs.Table.{Event, eventAt, eventsOf, events, isGood, isSound, Node, listed, turnUnit, turn}
 use Rattle.views.specs.Stored.{Stores}
-use Rattle.views.specs.Pass.{Becomes, Turned, Notes, pageAt, isReadable, pagesAt, allReadable, Passes, Empty}
+use Rattle.views.specs.PassCode.{Becomes, Turned, Notes, pageAt, isReadable, pagesAt, allReadable, Passes}
+use Rattle.views.proofs.Folds.{sound-events}
 
 -- ---- one unit
 -- the list of its node altered is the unit's turn
@@ -79,10 +80,6 @@ decodes-at limit (suc n) (suc i) b h =
 flat-events : (p : ℕ) (ds : List Decoded) → flat (λ (d : Decoded). eventAt p d ∷ []) ds ≡ map (eventAt p) ds
 flat-events p [] = refl
 flat-events p (d ∷ ds) = ap (λ (es : List Event). eventAt p d ∷ es) (flat-events p ds)
-
-sound-events : (p : ℕ) (ds : List Decoded) → all isSound (map (eventAt p) ds) ≡ all isGood ds
-sound-events p [] = refl
-sound-events p (d ∷ ds) = ap (λ (b : Bool). isGood d && b) (sound-events p ds)
 
 -- ---- answers
 -- a pass that stops says nothing of the lists
@@ -272,14 +269,3 @@ pub cleared : (n : ℕ) (s : List ℕ) (m : ℕ) → m < n → Stores (replicate
 cleared n s m h =
     let e : _≡_ {A = ℕ} (getD (replicate n 0) m 0) 0 = getD-replicate {A = ℕ} n m 0 0 h in
     record { size = e; pages = λ k. ap (λ (i : ℕ). take i (part (4 * m) 4 s)) e }
-
--- what a pass over the pages of keys says
-module _ (image keys : List ℕ) (limit : ℕ) {l s r t : List ℕ} {a : Bool} (k : Passes image keys limit l s r t a) where
-  -- where every page can be read, the answer is whether all units obey the layout
-  pub passes-sound : allReadable image keys ≡ true → a ≡ all isSound (events limit (pagesAt image keys))
-  passes-sound e = k .good ∙ rw e
-
-  -- where the answer is true, and the lists were empty, the lists of all nodes are stored
-  pub passes-lists : a ≡ true → Empty l → (m : ℕ) → m < 256 → Stores r t m (nodeOf m (events limit (pagesAt image keys)) .pages)
-  unfolding nodeOf
-  passes-lists q e m h = k .is q m h fresh (e s m h)

@@ -29,11 +29,11 @@ use Rattle.pages.proofs.LivePages.{places}
 use Rattle.views.specs.Nodes.{View, untouched, apply}
 use Rattle.views.specs.Table.{eventAt, eventsOf, events, isGood, isSound, Node, joins, updated, turn, fresh, nodeOf}
 use Rattle.views.specs.Groups.{isReset}
-use Rattle.views.specs.FoldCode.{turnView, viewAfter}
-use Rattle.views.specs.Stored.{storedList, Stores, pageView, listView}
+use Rattle.views.specs.Stored.{turnView, viewAfter, storedList, Stores, pageView, listView}
 use Rattle.views.proofs.Groups.{updatedAll, updates-now, list-more, list-reset, well-is}
 use Rattle.views.proofs.Rooms.{still-unlisted}
 use Rattle.views.proofs.Meanings.{inOrder, Kept, nodeIn, opened, kept-well}
+use Rattle.views.proofs.Folds.{sound-events}
 
 -- ---- the units of one page for one node
 -- the updates of node n among what is decoded, in order
@@ -279,11 +279,6 @@ foldl-same : {A B : Type 0} (f h : B → A → B) (b : B) {xs : List A} → All 
 foldl-same f h b none = refl
 foldl-same f h b (more {x = x} {xs = xs} e es) = ap (λ (c : _). foldl f c xs) (e b) ∙ foldl-same f h (h b x) es
 
--- events are sound where what is decoded is units
-sound-good : (p : ℕ) (ds : List Decoded) → all isSound (map (eventAt p) ds) ≡ all isGood ds
-sound-good p [] = refl
-sound-good p (d ∷ ds) = rw (sound-good p ds)
-
 -- all events are sound: those of each page are
 sound-each : (limit : ℕ) (xs : List Live) → all isSound (events limit xs) ≡ true → All (λ (x : Live). all isSound (eventsOf limit x) ≡ true) xs
 sound-each limit [] e = none
@@ -314,7 +309,7 @@ module _ (g : Geometry) (limit : ℕ) (ps : List Page) where
   unfolding eventsOf
   fine-page x o e s =
       let few = obeys-is g (x .bytes) o .few in
-      let good = sym (sound-good (x .place) (decodes limit (headOf (x .bytes) .units) (drop 8 (x .bytes)))) ∙ s in
+      let good = sym (sound-events (x .place) (decodes limit (headOf (x .bytes) .units) (drop 8 (x .bytes)))) ∙ s in
       and-intro (leb (headOf (dataAt (x .place)) .units) (g .units)) (all isGood (unitsAt limit dataAt (x .place)))
       (rw (← e) (le-leb (headOf (x .bytes) .units) (g .units) few)) (rw (← e) good)
 

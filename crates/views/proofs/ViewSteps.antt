@@ -1,16 +1,14 @@
 -- The steps of reading a node's view again: a page, a slot of the node's list, the buffer. Assumes nothing.
 use mathlib.Core.Path.{_≡_, sym, ap, ap₂, _∙_}
 use mathlib.Core.List.{List, [], _∷_, foldl}
-use Prim.Native.Nat.{ℕ, suc, _+_, _*_, _-_, _/_, _<_, _≤_}
+use Prim.Native.Nat.{ℕ, suc, _+_, _*_, _-_, _/_, _<_, _≤_, min}
 use native.Mathlib.Nat.{add-sub-cancel-left}
 use native.Mathlib.Numerals.{add-one}
 use native.Mathlib.Omega.{arith}
-use lib.Dec.{ltb}
 use lib.ListN.{length, take, drop, getD, length-take, length-drop, drop-of-length-le, List·getD-eq-default}
-use lib.Seq.{take-add, take-all, take-take, drop-at, drop-cons, length-take-le, getD-take, getD-drop}
-use borrow.Author.Tests.{le-leb, lt-leb, ltb-true, ltb-false}
+use lib.Seq.{take-add, drop-at, drop-cons, length-take-le, getD-take, getD-drop}
+use borrow.Author.Tests.{le-leb, lt-leb}
 use Rattle.lists.specs.Lists.{part}
-use Rattle.lists.proofs.Tests.{cases}
 use Rattle.chip.specs.Geometry.{small}
 use Rattle.chip.specs.Page.{Page}
 use Rattle.chip.specs.Chip.{pagesOf}
@@ -58,43 +56,38 @@ module _ (limit n : ℕ) (w : View) (image : List ℕ) (p : ℕ) where
 
 -- ---- the slots of a node
 -- a view after the pages at these places
-abbrev pub after : ℕ → List Page → ℕ → View → List ℕ → View
-after limit pages n w ps = foldl (λ (v : View) (p : ℕ). pageView small limit n v (getD pages p [])) w ps
+abbrev pub afterPages : ℕ → List Page → ℕ → View → List ℕ → View
+afterPages limit pages n w ps = foldl (λ (v : View) (p : ℕ). pageView small limit n v (getD pages p [])) w ps
 
-module _ (lens slots : List ℕ) (n used : ℕ) (most : used ≤ 4) (low : used ≤ getD lens n 0) (all : used < 4 → used ≡ getD lens n 0)
-    (on : 0 < used → n < 256) (size : length slots ≡ 1024) where
-  -- the node's list is its first used slots
-  list-is : storedList lens slots n ≡ take used (drop (4 * n) slots)
-  list-is =
-      let k : ℕ = getD lens n 0 in
-      let d : List ℕ = drop (4 * n) slots in
-      cases (ltb used 4)
-      (λ t. let e = all (ltb-true used 4 t) in rw (← e) (take-take used 4 d most))
-      (λ t. let e : used ≡ 4 = omega (arith, ltb-false used 4 t) in rw e (take-all k (take 4 d) (rw length-take (omega arith))))
+module _ (lens slots : List ℕ) (n : ℕ) where
+  -- how many pages its list has
+  pub list-length : length (storedList lens slots n) ≡ min (getD lens n 0) (min 4 (length slots - 4 * n))
+  list-length = rw (length-take, length-take, length-drop)
 
-  -- it has no more pages than that
-  list-size : length (storedList lens slots n) ≤ used
-  list-size = rw (list-is, length-take) (omega arith)
+  -- none past the last node
+  pub list-past : length lens ≤ n → length (storedList lens slots n) ≡ 0
+  list-past h = rw (List·getD-eq-default lens 0 {n = n} h)
 
   module _ (limit : ℕ) (pages : List Page) (i : ℕ) (w : View) where
     -- the next slot
-    pub slot-next : i < used → after limit pages n w (drop i (storedList lens slots n)) ≡ listView small limit pages n (storedList lens slots n)
+    pub slot-next : i < length (storedList lens slots n)
+        → afterPages limit pages n w (drop i (storedList lens slots n)) ≡ listView small limit pages n (storedList lens slots n)
         → (p : ℕ) → p ≡ getD slots (4 * n + i) 0 → (v : View) → v ≡ pageView small limit n w (getD pages p [])
-        → after limit pages n v (drop (i + 1) (storedList lens slots n)) ≡ listView small limit pages n (storedList lens slots n)
+        → afterPages limit pages n v (drop (i + 1) (storedList lens slots n)) ≡ listView small limit pages n (storedList lens slots n)
     slot-next h left p q v e =
         let d : List ℕ = drop (4 * n) slots in
+        let k : ℕ = getD lens n 0 in
         let l : List ℕ = storedList lens slots n in
-        let s : used ≤ length d = rw length-drop (omega (arith, on (omega arith))) in
-        let fits : i < length l = rw (list-is, length-take-le used d s) h in
-        let at : getD l i 0 ≡ p = ap (λ (k : List ℕ). getD k i 0) list-is ∙ getD-take used d i 0 h ∙ getD-drop (4 * n) slots i 0 ∙ sym q in
-        let next : drop i l ≡ p ∷ drop (suc i) l = drop-cons l i 0 fits ∙ ap (λ (k : ℕ). k ∷ drop (suc i) l) at in
-        ap₂ (after limit pages n) e (ap (λ (k : ℕ). drop k l) (add-one i)) ∙ ap (after limit pages n w) (sym next) ∙ left
+        let at : getD l i 0 ≡ p =
+        getD-take k (take 4 d) i 0 (omega (arith, list-length)) ∙ getD-take 4 d i 0 (omega (arith, list-length)) ∙ getD-drop (4 * n) slots i 0 ∙ sym q in
+        let next : drop i l ≡ p ∷ drop (suc i) l = drop-cons l i 0 h ∙ ap (λ (m : ℕ). m ∷ drop (suc i) l) at in
+        ap₂ (afterPages limit pages n) e (ap (λ (m : ℕ). drop m l) (add-one i)) ∙ ap (afterPages limit pages n w) (sym next) ∙ left
 
     -- no slot left
-    pub slots-done : used ≤ i → after limit pages n w (drop i (storedList lens slots n)) ≡ listView small limit pages n (storedList lens slots n)
+    pub slots-done : length (storedList lens slots n) ≤ i
+        → afterPages limit pages n w (drop i (storedList lens slots n)) ≡ listView small limit pages n (storedList lens slots n)
         → w ≡ listView small limit pages n (storedList lens slots n)
-    slots-done h left =
-        ap (after limit pages n w) (sym (drop-of-length-le (storedList lens slots n) {i = i} (omega (arith, list-size)))) ∙ left
+    slots-done h left = ap (afterPages limit pages n w) (sym (drop-of-length-le (storedList lens slots n) {i = i} h)) ∙ left
 
 -- ---- the buffer
 module _ (limit n count : ℕ) (bytes : List ℕ) (w : View) where

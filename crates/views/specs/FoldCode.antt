@@ -1,19 +1,14 @@
--- How the code folds the units of one node: the view that its state shows, and what a run of units makes of that view.
+-- How the code folds the units of one node: the view that its structs and arrays show.
 use mathlib.Core.Path.{_≡_}
-use mathlib.Core.Bool.{cond}
-use mathlib.Core.List.{List, foldl}
+use mathlib.Core.List.{List}
 use Prim.Native.Nat.{ℕ, _≤_}
-use lib.Dec.{eqb}
 use lib.ListN.{length}
-use Rattle.pages.specs.declared.unit.Update.{Update}
-use Rattle.pages.specs.declared.unit.Decoded.{Decoded}
-use Rattle.pages.specs.declared.unit.Decoded.the-variants.{Good, Bad}
 use Rattle.views.specs.declared.node.Node.{Node}
 use Rattle.views.specs.declared.fold.Stage.{Stage}
 use Rattle.views.specs.declared.fold.Stage.the-variants.{Untouched, Broken, Full}
 use Rattle.views.specs.declared.fold.Folded.{Folded}
 use Rattle.views.specs.declared.fold.Shape.{Shape}
-use Rattle.views.specs.Nodes.{View, untouched, broken, view, apply}
+use Rattle.views.specs.Nodes.{View, untouched, broken, view}
 use Rattle.views.specs.NodeCode.{entriesOf}
 
 -- the view that a stage and a node show
@@ -43,12 +38,3 @@ pub record StandsIn (r : Shape) (ks vs : List ℕ) (w : View) : Type 0 where
   pub room : r .len ≤ 16
   pub keys : length ks ≡ 17
   pub values : length vs ≡ 17
-
--- what 12 bytes do to the view of node n: nothing where they are for another node, or no unit
-abbrev pub turnView : ℕ → View → Decoded → View
-turnView n w (Good u) = cond (eqb (u .node) n) (apply w (u .update)) w
-turnView n w Bad = w
-
--- the view of node n after these
-abbrev pub viewAfter : ℕ → View → List Decoded → View
-viewAfter n w ds = foldl (turnView n) w ds

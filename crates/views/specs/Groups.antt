@@ -1,9 +1,10 @@
 -- The units of the reservation buffer, and the pages of a commit as groups of units, each node in one group.
+use mathlib.Core.Path.{_≡_}
 use mathlib.Core.Bool.{Bool, true, false, cond}
 use mathlib.Core.List.{List, [], _∷_, map, foldl}
 use Prim.Native.Nat.{ℕ}
 use lib.Dec.{eqb}
-use Rattle.lists.specs.Lists.{flat}
+use Rattle.lists.specs.Lists.{All, flat}
 use Rattle.pages.specs.declared.unit.Update.{Update}
 use Rattle.pages.specs.declared.unit.Update.the-variants.{Insert, Delete, Reset}
 use Rattle.pages.specs.declared.unit.Unit as U
@@ -40,3 +41,12 @@ abbrev pub isReset : Update → Bool
 isReset (Insert k v) = false
 isReset (Delete k) = false
 isReset (Reset l) = true
+
+-- no group of node n
+abbrev pub Without : ℕ → List Group → Type 0
+Without n qs = All (λ (q : Group). q .node ≡ n → ⊥) qs
+
+-- each node is in one group at most
+abbrev pub Distinct : List Group → Type 0
+Distinct [] = Unit {0}
+Distinct (q ∷ qs) = Without (q .node) qs × Distinct qs

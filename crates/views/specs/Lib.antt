@@ -4,6 +4,6 @@ pub mod Groups
 pub mod NodeCode
 pub mod FoldCode
 pub mod Stored
-pub mod Pass
-pub mod Well
-pub mod Read
+pub mod PassCode
+pub mod WellCode
+pub mod ReadCode

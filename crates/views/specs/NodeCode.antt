@@ -28,16 +28,16 @@ rank k [] = 0
 rank k (x ∷ xs) = cond (ltb x k) (suc (rank k xs)) 0
 
 -- a at index i, what stood from there on one place further; past the end a is last
-abbrev pub insertAt : {A : Type 0} → ℕ → A → List A → List A
-insertAt zero a xs = a ∷ xs
-insertAt (suc i) a [] = a ∷ []
-insertAt (suc i) a (x ∷ xs) = x ∷ insertAt i a xs
+abbrev pub insertIndex : {A : Type 0} → ℕ → A → List A → List A
+insertIndex zero a xs = a ∷ xs
+insertIndex (suc i) a [] = a ∷ []
+insertIndex (suc i) a (x ∷ xs) = x ∷ insertIndex i a xs
 
 -- without the element at index i
-abbrev pub removeAt : {A : Type 0} → ℕ → List A → List A
-removeAt i [] = []
-removeAt zero (x ∷ xs) = xs
-removeAt (suc i) (x ∷ xs) = x ∷ removeAt i xs
+abbrev pub removeIndex : {A : Type 0} → ℕ → List A → List A
+removeIndex i [] = []
+removeIndex zero (x ∷ xs) = xs
+removeIndex (suc i) (x ∷ xs) = x ∷ removeIndex i xs
 
 -- what a function that returns a node ensures: its level, its entries, how many they are, and that the arrays hold them
 pub record Shows (r : Node) (level : ℕ) (es : List Entry) : Type 0 where
@@ -47,7 +47,7 @@ pub record Shows (r : Node) (level : ℕ) (es : List Entry) : Type 0 where
   pub room : r .len ≤ 17
 
 -- what a function that changes the entries in two lent arrays ensures: the entries, how many they are, and the arrays' lengths
-pub record Keeps (n : ℕ) (ks vs : List ℕ) (es : List Entry) : Type 0 where
+pub record HoldsEntries (n : ℕ) (ks vs : List ℕ) (es : List Entry) : Type 0 where
   pub is : entriesIn n ks vs ≡ es
   pub len : length es ≡ n
   pub keys : length ks ≡ 17
@@ -56,10 +56,10 @@ pub record Keeps (n : ℕ) (ks vs : List ℕ) (es : List Entry) : Type 0 where
 
 -- an array ys whose first n + 1 places hold the first n of xs with a at i
 pub record Pushed (n i a : ℕ) (xs ys : List ℕ) : Type 0 where
-  pub is : take (n + 1) ys ≡ insertAt i a (take n xs)
+  pub is : take (n + 1) ys ≡ insertIndex i a (take n xs)
   pub size : length ys ≡ length xs
 
 -- an array ys whose first n - 1 places hold the first n of xs without that at i
 pub record Pulled (n i : ℕ) (xs ys : List ℕ) : Type 0 where
-  pub is : take (n - 1) ys ≡ removeAt i (take n xs)
+  pub is : take (n - 1) ys ≡ removeIndex i (take n xs)
   pub size : length ys ≡ length xs

@@ -1,19 +1,19 @@
 -- The node table as it is stored in arrays, and a node's view read from its pages and then from the buffer. Defined for any arrays.
 use mathlib.Core.Path.{_≡_}
-use mathlib.Core.Bool.{Bool, cond, _&&_}
-use mathlib.Core.List.{List, [], map, foldl, reverse}
-use Prim.Native.Nat.{ℕ, _+_, _*_, _≤_, min}
-use lib.Dec.{leb}
+use mathlib.Core.Bool.{cond}
+use mathlib.Core.List.{List, [], foldl, reverse}
+use Prim.Native.Nat.{ℕ, _*_, _≤_, min}
+use lib.Dec.{leb, eqb}
 use lib.ListN.{length, take, drop, getD}
 use Rattle.lists.specs.Lists.{all, part}
 use Rattle.chip.specs.Geometry.{Geometry}
 use Rattle.chip.specs.Page.{Page}
 use Rattle.pages.specs.declared.unit.Decoded.{Decoded}
+use Rattle.pages.specs.declared.unit.Decoded.the-variants.{Good, Bad}
 use Rattle.pages.specs.Units.{decodes}
 use Rattle.pages.specs.Data.{headOf}
-use Rattle.views.specs.Nodes.{View, untouched, broken}
+use Rattle.views.specs.Nodes.{View, untouched, broken, apply}
 use Rattle.views.specs.Table.{isGood}
-use Rattle.views.specs.FoldCode.{viewAfter}
 
 -- the pages of node n, the oldest first: its length says how many of its four slots are used
 abbrev pub storedList : List ℕ → List ℕ → ℕ → List ℕ
@@ -23,6 +23,15 @@ storedList lens slots n = take (getD lens n 0) (part (4 * n) 4 slots)
 pub record Stores (lens slots : List ℕ) (n : ℕ) (ps : List ℕ) : Type 0 where
   pub size : getD lens n 0 ≡ min 5 (length ps)
   pub pages : length ps ≤ 4 → storedList lens slots n ≡ reverse ps
+
+-- what 12 bytes do to the view of node n: nothing where they are for another node, or no unit
+abbrev pub turnView : ℕ → View → Decoded → View
+turnView n w (Good u) = cond (eqb (u .node) n) (apply w (u .update)) w
+turnView n w Bad = w
+
+-- the view of node n after these
+abbrev pub viewAfter : ℕ → View → List Decoded → View
+viewAfter n w ds = foldl (turnView n) w ds
 
 -- a view after the units: broken where 12 bytes are no unit
 abbrev pub viewOver : ℕ → View → List Decoded → View

@@ -9,7 +9,6 @@ use Rattle.chip.specs.Geometry.{Geometry}
 use Rattle.chip.specs.Page.{Page}
 use Rattle.pages.specs.declared.unit.Update.{Update}
 use Rattle.pages.specs.declared.unit.Update.the-variants.{Insert, Delete, Reset}
-use Rattle.pages.specs.declared.unit.Unit.{Unit}
 use Rattle.pages.specs.declared.unit.Decoded.{Decoded}
 use Rattle.pages.specs.declared.unit.Decoded.the-variants.{Good, Bad}
 use Rattle.pages.specs.Units.{decodes}
@@ -90,19 +89,19 @@ unfoldable pub isWell : Node → Bool
 isWell s = isWhole (s .now) && leb (length (s .pages)) 4
 
 -- what steps 1 to 5 say: a refusal, or the nodes and the greatest standing commit number
-pub data Meaning : Type 0 where
-  refusal : ℕ → Meaning
-  means : (nodes : List Node) (number : ℕ) → Meaning
+pub data NodesRead : Type 0 where
+  refusal : ℕ → NodesRead
+  means : (nodes : List Node) (number : ℕ) → NodesRead
 
-abbrev pub read : ℕ → List Live → ℕ → Meaning
+abbrev pub read : ℕ → List Live → ℕ → NodesRead
 read limit xs c =
     cond (all isSound (events limit xs) && all isWell (table limit (events limit xs))) (means (table limit (events limit xs)) c) (refusal 8)
 
-abbrev pub readStood : ℕ → Stood → Meaning
+abbrev pub readStood : ℕ → Stood → NodesRead
 readStood limit (refused n) = refusal n
 readStood limit (stand v []) = refusal 7
 readStood limit (stand v (x ∷ xs)) = read limit (x ∷ xs) (commit (lastFrom x xs))
 
 -- steps 1 to 5 on the pages of an image whose node numbers are below limit
-unfoldable pub meaning : Geometry → ℕ → List Page → Meaning
+unfoldable pub meaning : Geometry → ℕ → List Page → NodesRead
 meaning g limit ps = readStood limit (steps g ps)

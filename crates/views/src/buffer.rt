@@ -5,7 +5,7 @@ ghost use lib.ListN.{length};
 ghost use Rattle.lists.specs.Lists.{patch};
 ghost use Rattle.pages.specs.Units.{encode};
 ghost use Rattle.views.specs.NodeCode.{entriesOf};
-ghost use Rattle.views.specs.Pass.{pushed, entryUnits, nodeUnits};
+ghost use Rattle.views.specs.PassCode.{pushed, entryUnits, nodeUnits};
 use crate::node::Node;
 use pages::unit::Unit;
 use pages::unit::Update;

@@ -4,7 +4,7 @@ ghost use mathlib.Core.List.{[]};
 ghost use Prim.Native.Nat.{_+_, _-_, _<_, _≤_};
 ghost use lib.ListN.{length, take};
 ghost use Rattle.views.specs.Nodes.{insertEntry, deleteEntry};
-ghost use Rattle.views.specs.NodeCode.{entriesIn, entriesOf, rank, Pushed, Pulled, Keeps, Shows};
+ghost use Rattle.views.specs.NodeCode.{entriesIn, entriesOf, rank, Pushed, Pulled, HoldsEntries, Shows};
 
 // The entries are the first `len` keys, each with the value at its index.
 pub struct Node {
@@ -79,7 +79,7 @@ fn lose(keys: &mut [u32], values: &mut [u32], len: usize, p: usize) -> usize
 // `key` with `value` among the first `len` entries, in the place of an equal key if there is one. Returns how many there are then.
 pub fn put(keys: &mut [u32], values: &mut [u32], len: usize, key: u32, value: u32) -> usize
     requires { ⌜ (length (now keys) ≡ 17) × (length (now values) ≡ 17) × (len ≤ 16) ⌝ }
-    ensures { λ r. ⌜ Keeps r (now (keys .exit)) (now (values .exit)) (insertEntry key value (entriesIn len (now (keys .entry)) (now (values .entry)))) ⌝ }
+    ensures { λ r. ⌜ HoldsEntries r (now (keys .exit)) (now (values .exit)) (insertEntry key value (entriesIn len (now (keys .entry)) (now (values .entry)))) ⌝ }
 {
     let p = position(keys, len, key);
     if p < len {
@@ -97,7 +97,7 @@ pub fn put(keys: &mut [u32], values: &mut [u32], len: usize, key: u32, value: u3
 // The first `len` entries without `key`, if it is there. Returns how many are left.
 pub fn take_out(keys: &mut [u32], values: &mut [u32], len: usize, key: u32) -> usize
     requires { ⌜ (length (now keys) ≡ 17) × (length (now values) ≡ 17) × (len ≤ 17) ⌝ }
-    ensures { λ r. ⌜ Keeps r (now (keys .exit)) (now (values .exit)) (deleteEntry key (entriesIn len (now (keys .entry)) (now (values .entry)))) × (r ≤ len) ⌝ }
+    ensures { λ r. ⌜ HoldsEntries r (now (keys .exit)) (now (values .exit)) (deleteEntry key (entriesIn len (now (keys .entry)) (now (values .entry)))) × (r ≤ len) ⌝ }
 {
     let p = position(keys, len, key);
     if p < len {

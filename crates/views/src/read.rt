@@ -3,7 +3,7 @@ ghost use mathlib.Core.Path.{_≡_};
 ghost use Prim.Native.Nat.{_-_, _%_, _≤_};
 ghost use lib.ListN.{length};
 ghost use Rattle.lists.specs.Lists.{part};
-ghost use Rattle.views.specs.Read.{Reads};
+ghost use Rattle.views.specs.ReadCode.{Reads};
 use crate::table;
 use crate::well;
 

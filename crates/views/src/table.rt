@@ -7,7 +7,7 @@ ghost use lib.ListN.{length};
 ghost use Rattle.lists.specs.Lists.{all, part};
 ghost use Rattle.pages.specs.Units.{half, decodes};
 ghost use Rattle.views.specs.Table.{eventAt, eventsOf, isGood, isSound, joins, listed};
-ghost use Rattle.views.specs.Pass.{Becomes, Empty, Notes, Passes, isReadable, pageAt};
+ghost use Rattle.views.specs.PassCode.{Becomes, Empty, Notes, Passes, isReadable, pageAt};
 use chip::geometry::DATA;
 use chip::geometry::PAGE;
 use chip::geometry::UNITS;

@@ -62,10 +62,10 @@ fn place_view(
     }
 }
 
-// How many slots of `node` count: at most 4, and none past the last node.
-fn used_slots(lens: &[u32], node: u32) -> usize
-    requires { ⌜ length (now lens) ≡ 256 ⌝ }
-    ensures { λ r. ⌜ (r ≤ 4) × (r ≤ getD (now (lens .entry)) node 0) × (r < 4 → r ≡ getD (now (lens .entry)) node 0) × (0 < r → node < 256) ⌝ }
+// How many slots of `node` count, which is how many pages its list has: at most 4, and none past the last node.
+pub fn used_slots(lens: &[u32], slots: &[u32], node: u32) -> usize
+    requires { ⌜ (length (now lens) ≡ 256) × (length (now slots) ≡ 1024) ⌝ }
+    ensures { λ r. ⌜ (r ≡ length (storedList (now (lens .entry)) (now (slots .entry)) node)) × (r ≤ 4) ⌝ }
 {
     let n = node as usize;
     if n < 256 {
@@ -100,7 +100,7 @@ fn slots_view(
     ensures { λ r. ⌜ StandsIn r (now (keys .exit)) (now (values .exit))
         (listView small limit (pagesOf small (now (image .entry))) node (storedList (now (lens .entry)) (now (slots .entry)) node)) ⌝ }
 {
-    let used = used_slots(lens, node);
+    let used = used_slots(lens, slots, node);
     let mut s = Shape {
         stage: Stage::Untouched,
         level: 0,

@@ -6,7 +6,7 @@ ghost use Rattle.chip.specs.Geometry.{small};
 ghost use Rattle.chip.specs.Chip.{pagesOf};
 ghost use Rattle.views.specs.FoldCode.{viewOf};
 ghost use Rattle.views.specs.Table.{isWhole};
-ghost use Rattle.views.specs.Well.{allWellStored, wellStored};
+ghost use Rattle.views.specs.WellCode.{allWellStored, wellStored};
 use crate::fold::Folded;
 use crate::fold::Stage;
 use crate::view;

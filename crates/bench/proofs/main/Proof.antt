@@ -1,6 +1,8 @@
 use borrow.Author.Needs.{needs}
 use mathlib.Core.Path.{_≡_}
 use lib.ListN.{length}
+use Rattle.bench.specs.Input.{TakesSome}
+use Rattle.bench.proofs.InputLaws.{some-none, some-then}
 use Rattle.bench.proofs.main.Statement.{statement}
 use Rattle.bench.proofs.main.Tie as tie
 use Rattle.bench.proofs.main.Reads as reads
@@ -12,7 +14,8 @@ use Rattle.frames.proofs.line.no_line.Reads as no-line-reads
 use Rattle.store.proofs.state.initial.Reads as initial-reads
 
 abbrev Inv-loop : tie.InvT-loop
-Inv-loop image₀ torn b₀ turns₀ image b turns = length image ≡ 50688
+Inv-loop image₀ torn b₀ turns₀ image b turns =
+    (length image ≡ 50688) × TakesSome torn (b₀ .line) (b₀ .state) image₀ (b .line) (b .state) image
 
 abbrev μ-loop : tie.MeasureT-loop
 μ-loop image₀ torn b₀ turns₀ image b turns = turns
@@ -27,7 +30,7 @@ no-line-requires c κs = search needs
 
 -- src/main.rt:99:5
 loop-holds : tie.Need-loop-holds Inv-loop μ-loop
-loop-holds c = search needs
+loop-holds c = (search needs, some-none _ _ _ _)
 
 -- src/main.rt:100:9
 sub-turns : tie.Need-sub-turns Inv-loop μ-loop
@@ -51,7 +54,10 @@ loop-less c = search needs
 
 -- src/main.rt:99:5
 loop-again : tie.Need-loop-again Inv-loop μ-loop
-loop-again c = search needs
+loop-again c =
+    let t = c .before .before .before .before in
+    let l = t .before .before .before .before .loop in
+    (search needs, some-then _ _ _ _ _ _ _ _ _ _ (l .inv .1) (t .turn .ensures))
 
 -- src/main.rt:99:5
 loop-less-2 : tie.Need-loop-less-2 Inv-loop μ-loop
@@ -59,7 +65,10 @@ loop-less-2 c = search needs
 
 -- src/main.rt:99:5
 loop-again-2 : tie.Need-loop-again-2 Inv-loop μ-loop
-loop-again-2 c = search needs
+loop-again-2 c =
+    let t = c .before .before .before .before in
+    let l = t .before .before .before .before .loop in
+    (search needs, some-then _ _ _ _ _ _ _ _ _ _ (l .inv .1) (t .turn .ensures))
 
 -- src/main.rt:109:9
 is-empty-requires : tie.Need-is-empty-requires Inv-loop μ-loop

@@ -2,6 +2,8 @@ use borrow.Author.Needs.{needs}
 use mathlib.Core.Path.{_≡_}
 use Prim.Native.Nat.{ℕ}
 use lib.ListN.{length, length-replicate}
+use Rattle.probe.specs.Makes.{rig, CarriesSome}
+use Rattle.probe.proofs.BytesLaws.{carry-some-none, carry-some-then}
 use Rattle.probe.proofs.main.Statement.{statement}
 use Rattle.probe.proofs.main.Tie as tie
 use Rattle.probe.proofs.main.Reads as reads
@@ -12,6 +14,7 @@ use Rattle.probe.proofs.turn.Reads as turn-reads
 
 abbrev Inv-loop : tie.InvT-loop
 Inv-loop image₀ torn₀ out₀ r₀ turns₀ image torn out r turns = (length image ≡ 675840) × (length torn ≡ 600) × (length out ≡ 65536)
+    × CarriesSome (r₀ .line) (rig (r₀ .probe .bed) torn₀ (r₀ .probe .state) image₀) (r .line) (rig (r .probe .bed) torn (r .probe .state) image)
 
 abbrev μ-loop : tie.MeasureT-loop
 μ-loop image₀ torn₀ out₀ r₀ turns₀ image torn out r turns = turns
@@ -22,7 +25,7 @@ begun-requires c κs = search needs
 
 -- src/main.rt:158:5
 loop-holds : tie.Need-loop-holds Inv-loop μ-loop
-loop-holds c = (length-replicate {A = ℕ} 675840 255, length-replicate {A = ℕ} 600 90, length-replicate {A = ℕ} 65536 0)
+loop-holds c = (length-replicate {A = ℕ} 675840 255, length-replicate {A = ℕ} 600 90, length-replicate {A = ℕ} 65536 0, carry-some-none _ _)
 
 -- src/main.rt:159:9
 sub-turns : tie.Need-sub-turns Inv-loop μ-loop
@@ -50,7 +53,10 @@ loop-less c = search needs
 
 -- src/main.rt:158:5
 loop-again : tie.Need-loop-again Inv-loop μ-loop
-loop-again c = search needs
+loop-again c =
+    let t = c .before .before .before .before .before in
+    let l = t .before .before .before .before .before .loop in
+    (search needs, search needs, search needs, carry-some-then _ _ _ _ _ _ (l .inv .3) (t .turn .ensures))
 
 -- src/main.rt:158:5
 loop-less-2 : tie.Need-loop-less-2 Inv-loop μ-loop
@@ -58,7 +64,10 @@ loop-less-2 c = search needs
 
 -- src/main.rt:158:5
 loop-again-2 : tie.Need-loop-again-2 Inv-loop μ-loop
-loop-again-2 c = search needs
+loop-again-2 c =
+    let t = c .before .before .before .before .before in
+    let l = t .before .before .before .before .before .loop in
+    (search needs, search needs, search needs, carry-some-then _ _ _ _ _ _ (l .inv .3) (t .turn .ensures))
 
 -- src/main.rt:165:15
 slice-aggregate-finish : tie.Need-slice-aggregate-finish Inv-loop μ-loop

@@ -1,7 +1,10 @@
 use borrow.Author.Needs.{needs}
-use mathlib.Core.Path.{_≡_}
+use mathlib.Core.Path.{_≡_, refl}
 use Prim.Native.Nat.{_≤_, _-_}
+use native.Mathlib.Omega.{arith}
 use lib.ListN.{length}
+use Rattle.probe.specs.Makes.{rig}
+use Rattle.probe.proofs.BytesLaws.{ToCarryIn, carry-all, carry-feed, carry-byte, carry-none}
 use Rattle.probe.proofs.take_bytes.Statement.{statement}
 use Rattle.probe.proofs.take_bytes.Tie as tie
 use Rattle.probe.proofs.take_bytes.Reads as reads
@@ -13,13 +16,14 @@ use Rattle.probe.proofs.answer_line.Reads as answer-line-reads
 abbrev Inv-loop : tie.InvT-loop
 Inv-loop image₀ torn₀ out₀ bytes probe₀ l₀ i₀ image torn out probe l i =
     (length image ≡ length image₀) × (length torn ≡ length torn₀) × (length out ≡ length out₀) × (i ≤ length bytes)
+    × ToCarryIn bytes l₀ (rig (probe₀ .bed) torn₀ (probe₀ .state) image₀) i l (rig (probe .bed) torn (probe .state) image)
 
 abbrev μ-loop : tie.MeasureT-loop
 μ-loop image₀ torn₀ out₀ bytes probe₀ l₀ i₀ image torn out probe l i = length bytes - i
 
 -- src/main.rt:87:5
 loop-holds : tie.Need-loop-holds Inv-loop μ-loop
-loop-holds c = search needs
+loop-holds c = (search needs, search needs, search needs, search needs, carry-all _ _ _)
 
 -- src/main.rt:88:20
 shared-slice-read-byte : tie.Need-shared-slice-read-byte Inv-loop μ-loop
@@ -43,7 +47,17 @@ loop-less c = search needs
 
 -- src/main.rt:87:5
 loop-again : tie.Need-loop-again Inv-loop μ-loop
-loop-again c = search needs
+loop-again c =
+    let a = c .before .before .before .before .before .before .before in
+    let t = a .before .before .before .before in
+    let n = t .before .before in
+    let l = n .before .loop in (
+      search needs,
+      search needs,
+      search needs,
+      search needs,
+      carry-feed _ _ _ _ _ _ _ refl (n .loop-test .taken) (l .inv .4) (t .if1 .taken) (c .no-line .result) (c .no-line .ensures) _ (a .answer-line .ensures),
+    )
 
 -- src/main.rt:94:13
 with-byte-requires : tie.Need-with-byte-requires Inv-loop μ-loop
@@ -55,7 +69,16 @@ loop-less-2 c = search needs
 
 -- src/main.rt:87:5
 loop-again-2 : tie.Need-loop-again-2 Inv-loop μ-loop
-loop-again-2 c = search needs
+loop-again-2 c =
+    let e = c .before in
+    let n = e .before .before in
+    let l = n .before .loop in (
+      search needs,
+      search needs,
+      search needs,
+      search needs,
+      carry-byte _ _ _ _ _ _ _ refl (n .loop-test .taken) (l .inv .4) (e .if1 .left) (c .with-byte .result) (c .with-byte .ensures),
+    )
 
 -- src/main.rt:81:1
 same-length : tie.Need-same-length Inv-loop μ-loop
@@ -71,7 +94,9 @@ same-length-3 c = search needs
 
 -- src/main.rt:81:1
 returns : tie.Need-returns Inv-loop μ-loop
-returns c = search needs
+returns c =
+    let l = c .before .loop in
+    carry-none _ _ _ _ _ _ (l .inv .4) (omega (arith, c .loop-test .left, l .inv .3))
 
 pub take-bytes-spec : {M : Type 1} → statement M
 take-bytes-spec =

@@ -6,7 +6,7 @@ use lib.ListN.{length}
 use Rattle.chip.specs.Geometry.{small}
 use Rattle.chip.specs.Page.{isFree}
 use Rattle.chip.specs.Chip.{pagesOf}
-use Rattle.chip.specs.Sets.{setOf}
+use Rattle.chip.specs.SetCode.{setOf}
 use Rattle.chip.proofs.SetLaws.{ones-set, trailing-set}
 use Rattle.chip.proofs.ImageLaws.{length-pages}
 use borrow.Author.Needs.{needs}

@@ -10,7 +10,7 @@ use Rattle.lists.specs.Lists.{part}
 use Rattle.chip.specs.Geometry.{small}
 use Rattle.chip.specs.Page.{isFree}
 use Rattle.chip.specs.Chip.{pagesOf}
-use Rattle.chip.specs.Sets.{setOf}
+use Rattle.chip.specs.SetCode.{setOf}
 use Rattle.chip.proofs.SetLaws.{set-more, set-same}
 use Rattle.chip.proofs.ImageLaws.{length-pages, page-at}
 use borrow.Author.Needs.{needs}

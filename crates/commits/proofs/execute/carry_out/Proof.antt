@@ -52,7 +52,7 @@ returns c =
     let b = w .before .before .before .before .before .before .before in
     let l = b .before .before in
     let a = l .before .before .before .before .before .args in
-    carries (a .k .anew) small (a .limit) (a .lens .now) (a .slots .now) (a .count) (a .buffer .now) (a .g .head) _ (a .bounds .now) (a .k .pages) (a .commit) (a .torn .now)
+    carries (a .k .snapshot) small (a .limit) (a .lens .now) (a .slots .now) (a .count) (a .buffer .now) (a .g .head) _ (a .bounds .now) (a .k .pages) (a .commit) (a .torn .now)
     (a .power) (b .clear-blocks .result) (w .write-pages .result) _ _ _ _ _ _ _ _ (l .lay-places .ensures .list) (b .clear-blocks .ensures) (w .write-pages .ensures)
 
 pub carry-out-spec : {M : Type 1} → statement M

@@ -4,12 +4,12 @@ use Rattle.commits.proofs.execute.choose.Statement.{statement}
 use Rattle.commits.proofs.execute.choose.Tie as tie
 use Rattle.commits.proofs.execute.choose.Reads as reads
 use Rattle.commits.proofs.execute.choose.Lts as lts
-use Rattle.commits.proofs.execute.less.Reads as less-reads
+use Rattle.plan.proofs.places.excess.Reads as excess-reads
 use Rattle.plan.proofs.pack.pack_pages.Reads as pack-pages-reads
 
 -- src/execute.rt:59:9
-less-requires : tie.Need-less-requires
-less-requires c κs = search needs
+excess-requires : tie.Need-excess-requires
+excess-requires c κs = search needs
 
 -- src/execute.rt:60:9
 pack-pages-requires : tie.Need-pack-pages-requires
@@ -32,7 +32,7 @@ returns : tie.Need-returns
 returns c =
     let k = c .before in
     let l = k .before .before in
-    chooses-delta _ _ _ _ _ _ _ _ _ _ (l .less .ensures) _ _ (k .pack-pages .ensures) (c .if1 .taken)
+    chooses-delta _ _ _ _ _ _ _ _ _ _ (l .excess .ensures) _ _ (k .pack-pages .ensures) (c .if1 .taken)
 
 -- src/execute.rt:71:9
 pack-pages-requires-2 : tie.Need-pack-pages-requires-2
@@ -60,13 +60,13 @@ returns-2 c =
     let e = c .before .before in
     let k = e .before in
     let l = k .before .before in
-    chooses-snapshot _ _ _ _ _ _ _ _ _ _ (l .less .ensures) _ _ _ _ (k .pack-pages .ensures) (e .if1 .left) (c .pack-pages2 .ensures)
+    chooses-snapshot _ _ _ _ _ _ _ _ _ _ (l .excess .ensures) _ _ _ _ (k .pack-pages .ensures) (e .if1 .left) (c .pack-pages2 .ensures)
 
 pub choose-spec : {M : Type 1} → statement M
 choose-spec =
     tie.close
     (tie.spec
-    less-requires
+    excess-requires
     pack-pages-requires
     add-if1
     mul-if1

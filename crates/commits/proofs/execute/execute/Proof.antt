@@ -1,7 +1,8 @@
 use mathlib.Core.Path.{refl}
 use native.Mathlib.Omega.{arith}
-use Rattle.plan.proofs.GroundLaws.{survey-spare}
-use Rattle.commits.proofs.ExecuteLaws.{executes-none, executes-empty, executes-plan, fits-more, not-false, not-true, width-most}
+use Rattle.plan.proofs.SurveyLaws.{survey-spare}
+use borrow.Author.Tests.{not-true, not-false}
+use Rattle.commits.proofs.ExecuteLaws.{executes-none, executes-empty, executes-plan, fits-more, width-most}
 use borrow.Author.Needs.{needs}
 use Rattle.commits.proofs.execute.execute.Statement.{statement}
 use Rattle.commits.proofs.execute.execute.Tie as tie
@@ -10,7 +11,7 @@ use Rattle.commits.proofs.execute.execute.Lts as lts
 use Rattle.commits.proofs.execute.carry_out.Reads as carry-out-reads
 use Rattle.commits.proofs.execute.choose.Reads as choose-reads
 use Rattle.commits.proofs.execute.nothing.Reads as nothing-reads
-use Rattle.plan.proofs.ground.survey.Reads as survey-reads
+use Rattle.plan.proofs.survey.survey.Reads as survey-reads
 
 -- src/execute.rt:187:9
 survey-requires : tie.Need-survey-requires

@@ -2,7 +2,6 @@ use mathlib.Core.Path.{_≡_}
 use Prim.Native.Nat.{_≤_, _-_}
 use native.Mathlib.Omega.{arith}
 use Rattle.chip.specs.Geometry.{small}
-use Rattle.commits.specs.Turn.{Advances}
 use Rattle.commits.proofs.PageLaws.{advances-join, advances-none, reach-same}
 use borrow.Author.Needs.{needs}
 use Rattle.commits.proofs.write.write_listed.Statement.{statement}
@@ -10,13 +9,14 @@ use Rattle.commits.proofs.write.write_listed.Tie as tie
 use Rattle.commits.proofs.write.write_listed.Reads as reads
 use Rattle.commits.proofs.write.write_listed.Lts as lts
 use Rattle.commits.proofs.write.write_page.Reads as write-page-reads
+use Rattle.commits.specs.WriteCode.{Advances}
 
 abbrev Inv-loop : tie.InvT-loop
-Inv-loop image₀ lens slots buffer count limit anew bounds places total commit torn new-lens₀ new-slots₀ left₀ i₀ image new-lens new-slots left i =
-    (i ≤ total) × Advances anew small limit lens slots count buffer bounds places total commit torn 0 i left₀ left image₀ image new-lens₀ new-slots₀ new-lens new-slots
+Inv-loop image₀ lens slots buffer count limit snapshot bounds places total commit torn new-lens₀ new-slots₀ left₀ i₀ image new-lens new-slots left i =
+    (i ≤ total) × Advances snapshot small limit lens slots count buffer bounds places total commit torn 0 i left₀ left image₀ image new-lens₀ new-slots₀ new-lens new-slots
 
 abbrev μ-loop : tie.MeasureT-loop
-μ-loop image₀ lens slots buffer count limit anew bounds places total commit torn new-lens₀ new-slots₀ left₀ i₀ image new-lens new-slots left i =
+μ-loop image₀ lens slots buffer count limit snapshot bounds places total commit torn new-lens₀ new-slots₀ left₀ i₀ image new-lens new-slots left i =
     total - i
 
 -- src/write.rt:98:5

@@ -84,7 +84,7 @@ returns c =
     let b = w .before .before .before in
     let k = b .before .before .before .before .before .before .before .before .before .before in
     let a = k .args in
-    advances-page (a .anew) (a .limit) (a .lens .now) (a .slots .now) (a .count) (a .buffer .now) (a .bounds .now) (a .places .now) (a .total) (a .commit) (a .torn .now) (a .index) (k .pre .4)
+    advances-page (a .snapshot) (a .limit) (a .lens .now) (a .slots .now) (a .count) (a .buffer .now) (a .bounds .now) (a .places .now) (a .total) (a .commit) (a .torn .now) (a .index) (k .pre .4)
     (a .power) (w .put-page .result) _ _ _ _ _ _ _ (b .build-page .ensures) (w .put-page .ensures) (c .note .ensures)
 
 pub write-page-spec : {M : Type 1} → statement M

@@ -6,7 +6,6 @@ use Rattle.chip.specs.Geometry.{small}
 use Rattle.chip.specs.Chip.{Ran, pagesOf}
 use Rattle.chip.proofs.ImageLaws.{length-pages}
 use Rattle.chip.proofs.Runs.{ran-none}
-use Rattle.log.specs.Mount.{retireOps}
 use Rattle.log.proofs.MountCode.{retire-more, retire-done}
 use borrow.Author.Needs.{needs}
 use Rattle.log.proofs.mount.retire.Statement.{statement}
@@ -14,6 +13,7 @@ use Rattle.log.proofs.mount.retire.Tie as tie
 use Rattle.log.proofs.mount.retire.Reads as reads
 use Rattle.log.proofs.mount.retire.Lts as lts
 use Rattle.log.proofs.mount.retire_at.Reads as retire-at-reads
+use Rattle.log.specs.MountCode.{retireOps}
 
 abbrev Inv-loop : tie.InvT-loop
 Inv-loop image₀ commit torn pages left₀ at₀ image left at = (at ≤ pages) × Ran small torn (retireOps small commit (take at (pagesOf small image₀))) left₀ left image₀ image

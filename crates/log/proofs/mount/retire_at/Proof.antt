@@ -8,7 +8,6 @@ use borrow.Author.Tests.{not-true, not-false}
 use Rattle.lists.specs.Lists.{part}
 use Rattle.chip.specs.Geometry.{small}
 use Rattle.chip.proofs.ImageLaws.{page-at}
-use Rattle.log.specs.Mount.{isOf}
 use Rattle.log.proofs.MountCode.{retire-none, retire-one}
 use borrow.Author.Needs.{needs}
 use Rattle.log.proofs.mount.retire_at.Statement.{statement}
@@ -17,6 +16,7 @@ use Rattle.log.proofs.mount.retire_at.Reads as reads
 use Rattle.log.proofs.mount.retire_at.Lts as lts
 use Rattle.chip.proofs.image.set_mark.Reads as set-mark-reads
 use Rattle.log.proofs.mount.is_of.Reads as is-of-reads
+use Rattle.log.specs.MountCode.{isOf}
 
 -- src/mount.rt:32:13
 mul-a : tie.Need-mul-a

@@ -6,7 +6,7 @@ use Rattle.lists.specs.Lists.{part}
 use Rattle.lists.proofs.Parts.{length-part}
 use Rattle.chip.specs.Geometry.{small}
 use Rattle.chip.proofs.ImageLaws.{page-lent}
-use Rattle.pages.specs.Write.{written}
+use Rattle.pages.specs.WriteCode.{written}
 use Rattle.pages.proofs.WriteLaws.{length-written, written-ran}
 use borrow.Author.Needs.{needs}
 use Rattle.pages.proofs.write.write_at.Statement.{statement}

@@ -2,7 +2,6 @@ use Prim.Native.Nat.{_≤_}
 use native.Mathlib.Omega.{arith}
 use Rattle.chip.specs.Geometry.{small}
 use Rattle.chip.specs.Chip.{pagesOf}
-use Rattle.plan.specs.Group.{groupIn}
 use Rattle.plan.proofs.BuildLaws.{Gathering, gathering-start, gathering-next, gathering-done}
 use borrow.Author.Needs.{needs}
 use Rattle.plan.proofs.build.gather.Statement.{statement}
@@ -10,19 +9,20 @@ use Rattle.plan.proofs.build.gather.Tie as tie
 use Rattle.plan.proofs.build.gather.Reads as reads
 use Rattle.plan.proofs.build.gather.Lts as lts
 use Rattle.plan.proofs.build.push_group.Reads as push-group-reads
+use Rattle.plan.specs.GroupCode.{groupIn}
 
 abbrev Inv-loop : tie.InvT-loop
-Inv-loop image lens slots buffer count limit anew from to out₀ k₀ n₀ out k n =
-    (n ≤ to) × Gathering (groupIn anew small limit (pagesOf small image) lens slots count buffer) from to out₀ n k out
+Inv-loop image lens slots buffer count limit snapshot from to out₀ k₀ n₀ out k n =
+    (n ≤ to) × Gathering (groupIn snapshot small limit (pagesOf small image) lens slots count buffer) from to out₀ n k out
 
 abbrev μ-loop : tie.MeasureT-loop
-μ-loop image lens slots buffer count limit anew from to out₀ k₀ n₀ out k n = n
+μ-loop image lens slots buffer count limit snapshot from to out₀ k₀ n₀ out k n = n
 
 -- src/build.rt:109:5
 loop-holds : tie.Need-loop-holds Inv-loop μ-loop
 loop-holds c =
     let a = c .before .args in
-    let f = groupIn (a .anew) small (a .limit) (pagesOf small (a .image .now)) (a .lens .now) (a .slots .now) (a .count) (a .buffer .now) in
+    let f = groupIn (a .snapshot) small (a .limit) (pagesOf small (a .image .now)) (a .lens .now) (a .slots .now) (a .count) (a .buffer .now) in
     (omega arith, gathering-start f (a .from) (a .to) (a .out .now))
 
 -- src/build.rt:110:9
@@ -47,7 +47,7 @@ loop-again c =
     let t = c .before .before in
     let l = t .before .loop in
     let a = t .before .before .before .args in
-    let f = groupIn (a .anew) small (a .limit) (pagesOf small (a .image .now)) (a .lens .now) (a .slots .now) (a .count) (a .buffer .now) in
+    let f = groupIn (a .snapshot) small (a .limit) (pagesOf small (a .image .now)) (a .lens .now) (a .slots .now) (a .count) (a .buffer .now) in
     (omega arith, gathering-next f (a .from) (a .to) (a .out .now) (l .n) (l .k) (c .push-group .result) (l .out) _ (t .loop-test .taken) (l .inv .1) (c .push-group .ensures))
 
 -- src/build.rt:90:1
@@ -55,7 +55,7 @@ returns : tie.Need-returns Inv-loop μ-loop
 returns c =
     let l = c .before .loop in
     let a = c .before .before .before .args in
-    let f = groupIn (a .anew) small (a .limit) (pagesOf small (a .image .now)) (a .lens .now) (a .slots .now) (a .count) (a .buffer .now) in
+    let f = groupIn (a .snapshot) small (a .limit) (pagesOf small (a .image .now)) (a .lens .now) (a .slots .now) (a .count) (a .buffer .now) in
     gathering-done f (a .from) (a .to) (a .out .now) (l .n) (l .k) (l .out) (c .loop-test .left) (l .inv .1)
 
 pub gather-spec : {M : Type 1} → statement M

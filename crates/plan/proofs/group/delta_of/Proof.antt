@@ -4,8 +4,7 @@ use Rattle.chip.specs.Geometry.{small}
 use Rattle.chip.specs.Chip.{pagesOf}
 use Rattle.views.specs.FoldCode.{viewOf}
 use Rattle.views.specs.Stored.{nodeView, storedList}
-use Rattle.log.specs.Plan.{rewrite}
-use Rattle.plan.specs.Group.{ownIn}
+use Rattle.log.specs.Policy.{rewrite}
 use Rattle.plan.proofs.GroupSteps.{delta-none, delta-some}
 use borrow.Author.Needs.{needs}
 use Rattle.plan.proofs.group.delta_of.Statement.{statement}
@@ -17,6 +16,7 @@ use Rattle.plan.proofs.group.count_units.Reads as count-units-reads
 use Rattle.plan.proofs.group.is_full.Reads as is-full-reads
 use Rattle.plan.proofs.group.nothing.Reads as nothing-reads
 use Rattle.views.proofs.view.node_view.Reads as node-view-reads
+use Rattle.plan.specs.GroupCode.{ownIn}
 
 -- src/group.rt:177:9
 count-units-requires : tie.Need-count-units-requires

@@ -13,7 +13,7 @@ use Rattle.plan.proofs.places.is_erased.Statement.{statement}
 use Rattle.plan.proofs.places.is_erased.Tie as tie
 use Rattle.plan.proofs.places.is_erased.Reads as reads
 use Rattle.plan.proofs.places.is_erased.Lts as lts
-use Rattle.plan.proofs.ground.free_of.Reads as free-of-reads
+use Rattle.plan.proofs.survey.free_of.Reads as free-of-reads
 
 -- src/places.rt:125:9
 returns : tie.Need-returns

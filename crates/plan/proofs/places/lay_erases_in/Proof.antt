@@ -6,12 +6,12 @@ use Rattle.plan.proofs.places.lay_erases_in.Statement.{statement}
 use Rattle.plan.proofs.places.lay_erases_in.Tie as tie
 use Rattle.plan.proofs.places.lay_erases_in.Reads as reads
 use Rattle.plan.proofs.places.lay_erases_in.Lts as lts
-use Rattle.plan.proofs.places.less.Reads as less-reads
+use Rattle.plan.proofs.places.excess.Reads as excess-reads
 use Rattle.plan.proofs.places.put_erased.Reads as put-erased-reads
 
 -- src/places.rt:172:9
-less-requires : tie.Need-less-requires
-less-requires c κs = search needs
+excess-requires : tie.Need-excess-requires
+excess-requires c κs = search needs
 
 -- src/places.rt:173:5
 put-erased-requires : tie.Need-put-erased-requires
@@ -28,8 +28,8 @@ returns c =
     let l = p .before .before in
     let k = l .before .before .before .before in
     let a = k .args in
-    erases-are (a .blocks) (a .head) (a .width) (a .need) (a .free) (l .less .result) (p .put-erased .result) (pagesOf small (a .image .now)) (a .ring .now) _
-    (k .pre .3) (k .pre .2) (l .less .ensures) (p .put-erased .ensures .1) (p .put-erased .ensures .0)
+    erases-are (a .blocks) (a .head) (a .width) (a .need) (a .free) (l .excess .result) (p .put-erased .result) (pagesOf small (a .image .now)) (a .ring .now) _
+    (k .pre .3) (k .pre .2) (l .excess .ensures) (p .put-erased .ensures .1) (p .put-erased .ensures .0)
 
 pub lay-erases-in-spec : {M : Type 1} → statement M
-lay-erases-in-spec = tie.close (tie.spec less-requires put-erased-requires same-length returns)
+lay-erases-in-spec = tie.close (tie.spec excess-requires put-erased-requires same-length returns)

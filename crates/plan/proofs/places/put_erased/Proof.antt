@@ -5,16 +5,16 @@ use native.Mathlib.Omega.{arith}
 use lib.ListN.{length, take, drop}
 use Rattle.chip.specs.Geometry.{small}
 use Rattle.chip.specs.Chip.{pagesOf}
-use Rattle.log.proofs.PlanLoops.{erasesFrom}
 use Rattle.plan.proofs.PlaceLaws.{take-at-all, erase-next, erase-done}
 use borrow.Author.Needs.{needs}
 use Rattle.plan.proofs.places.put_erased.Statement.{statement}
 use Rattle.plan.proofs.places.put_erased.Tie as tie
 use Rattle.plan.proofs.places.put_erased.Reads as reads
 use Rattle.plan.proofs.places.put_erased.Lts as lts
-use Rattle.plan.proofs.ground.push_if.Reads as push-if-reads
+use Rattle.plan.proofs.survey.push_if.Reads as push-if-reads
 use Rattle.plan.proofs.places.is_erased.Reads as is-erased-reads
-use Rattle.plan.proofs.places.less.Reads as less-reads
+use Rattle.plan.proofs.places.excess.Reads as excess-reads
+use Rattle.plan.specs.PlacesCode.{erasesFrom}
 
 abbrev Inv-loop : tie.InvT-loop
 Inv-loop image blocks head ring width reach erased₀ left₀ n₀ j₀ erased left n j =
@@ -55,8 +55,8 @@ push-if-requires : tie.Need-push-if-requires Inv-loop μ-loop
 push-if-requires c κs = search needs
 
 -- src/places.rt:150:9
-less-requires : tie.Need-less-requires Inv-loop μ-loop
-less-requires c κs = search needs
+excess-requires : tie.Need-excess-requires Inv-loop μ-loop
+excess-requires c κs = search needs
 
 -- src/places.rt:151:9
 add-j : tie.Need-add-j Inv-loop μ-loop
@@ -79,7 +79,7 @@ loop-again c =
       omega arith,
       omega (arith, u .high),
       search needs,
-      rw (c .less .ensures)
+      rw (c .excess .ensures)
           (erase-next (pagesOf small (a .image .now)) (a .width) (a .ring .now) (k .pre .2) (k .pre .1) (l .j) (l .left) (l .n) (p .push-if .result) (l .erased) _ _
           (i .loop-test .taken) (l .inv .3) (e .is-erased .result) (e .is-erased .ensures) (u .list)),
     )
@@ -108,7 +108,7 @@ put-erased-spec =
     cast-is-erased
     is-erased-requires
     push-if-requires
-    less-requires
+    excess-requires
     add-j
     loop-less
     loop-again

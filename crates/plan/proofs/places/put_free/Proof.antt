@@ -8,8 +8,8 @@ use lib.ListN.{length, take}
 use Rattle.lists.specs.Lists.{filter}
 use Rattle.chip.specs.Geometry.{small}
 use Rattle.chip.specs.Chip.{pagesOf}
-use Rattle.log.specs.Plan.{from, freeAt}
-use Rattle.plan.specs.Ground.{freePages}
+use Rattle.log.specs.Policy.{countFrom, freeAt}
+use Rattle.plan.specs.SurveyCode.{freePages}
 use Rattle.plan.proofs.PlaceLaws.{free-pages-is}
 use Rattle.plan.proofs.MarkLaws.{push-next, push-done}
 use borrow.Author.Needs.{needs}
@@ -17,13 +17,13 @@ use Rattle.plan.proofs.places.put_free.Statement.{statement}
 use Rattle.plan.proofs.places.put_free.Tie as tie
 use Rattle.plan.proofs.places.put_free.Reads as reads
 use Rattle.plan.proofs.places.put_free.Lts as lts
-use Rattle.plan.proofs.ground.push_if.Reads as push-if-reads
+use Rattle.plan.proofs.survey.push_if.Reads as push-if-reads
 use Rattle.plan.proofs.places.is_free_at.Reads as is-free-at-reads
 
 abbrev Inv-loop : tie.InvT-loop
 Inv-loop image at places₀ first end n₀ p₀ places n p =
     (at * 32 ≤ p) × (p ≤ at * 32 + 32) × (n + at * 32 ≤ p) × (length places ≡ length places₀)
-    × (take n places ++ filter (freeAt (pagesOf small image)) (from p (at * 32 + 32 - p)) ≡ freePages small (pagesOf small image) at)
+    × (take n places ++ filter (freeAt (pagesOf small image)) (countFrom p (at * 32 + 32 - p)) ≡ freePages small (pagesOf small image) at)
 
 abbrev μ-loop : tie.MeasureT-loop
 μ-loop image at places₀ first end n₀ p₀ places n p = at * 32 + 32 - p
@@ -44,7 +44,7 @@ loop-holds c =
       omega arith,
       omega arith,
       refl,
-      ap (λ (k : ℕ). filter (freeAt (pagesOf small (a .image .now))) (from (a .at * 32) k)) (add-sub-cancel-left (a .at * 32) 32)
+      ap (λ (k : ℕ). filter (freeAt (pagesOf small (a .image .now))) (countFrom (a .at * 32) k)) (add-sub-cancel-left (a .at * 32) 32)
           ∙ sym (free-pages-is small (pagesOf small (a .image .now)) (a .at)),
     )
 

@@ -1,11 +1,13 @@
 use mathlib.Core.Path.{refl, sym, ap, _∙_}
 use native.Mathlib.Omega.{arith}
+use Prim.Native.Nat.{_<_}
 use Rattle.tree.specs.Tree.{absent, found}
+use Rattle.tree.specs.Step6.{top}
 use Rattle.tree.specs.FindCode.{hitOf}
-use Rattle.store.specs.Admit.{admitNumber}
+use Rattle.store.specs.AdmitCode.{admitNumber}
 use Rattle.store.specs.Parts.{joined}
 use Rattle.store.specs.declared.answer.Look.the-variants as L
-use Rattle.store.proofs.CallLaws.{look-refused, looked}
+use Rattle.store.proofs.LookLaws.{look-refused, looked}
 use borrow.Author.Needs.{needs}
 use Rattle.store.proofs.find.look_up_lent.Statement.{statement}
 use Rattle.store.proofs.find.look_up_lent.Tie as tie
@@ -51,14 +53,14 @@ returns c =
     let m = c .before .before in
     let a = m .before .before .args in
     let s = joined (a .numbers) (a .buffer .now) (a .lens .now) (a .slots .now) in
-    look-refused (a .key) s (a .image .now) L.Off 1 refl refl (sym (ap admitNumber (c .enum-told .given .1)) ∙ m .admit .ensures .number)
+    look-refused (a .key) s (a .image .now) L.Off 1 refl refl refl (sym (ap admitNumber (c .enum-told .given .1)) ∙ m .admit .ensures .number)
 
 returns-2 : tie.Need-returns-2
 returns-2 c =
     let m = c .before .before in
     let a = m .before .before .args in
     let s = joined (a .numbers) (a .buffer .now) (a .lens .now) (a .slots .now) in
-    look-refused (a .key) s (a .image .now) L.Size 0 refl refl (sym (ap admitNumber (c .enum-told2 .given .1)) ∙ m .admit .ensures .number)
+    look-refused (a .key) s (a .image .now) L.Size 0 refl refl refl (sym (ap admitNumber (c .enum-told2 .given .1)) ∙ m .admit .ensures .number)
 
 returns-3 : tie.Need-returns-3
 returns-3 c =
@@ -67,7 +69,8 @@ returns-3 c =
     let m = k .before .before in
     let a = m .before .before .args in
     let s = joined (a .numbers) (a .buffer .now) (a .lens .now) (a .slots .now) in
-    looked (a .key) s (a .image .now) (sym (ap admitNumber (k .enum-told3 .given .1)) ∙ m .admit .ensures .number) (f .find .result) (f .find .ensures) (found _) (ap hitOf (c .before .hit .given .1))
+    let h : a .key < top = search needs in
+    looked (a .key) s (a .image .now) (sym (ap admitNumber (k .enum-told3 .given .1)) ∙ m .admit .ensures .number) (f .find .result) (f .find .ensures) h (found _) (ap hitOf (c .before .hit .given .1))
 
 returns-4 : tie.Need-returns-4
 returns-4 c =
@@ -76,7 +79,8 @@ returns-4 c =
     let m = k .before .before in
     let a = m .before .before .args in
     let s = joined (a .numbers) (a .buffer .now) (a .lens .now) (a .slots .now) in
-    looked (a .key) s (a .image .now) (sym (ap admitNumber (k .enum-told3 .given .1)) ∙ m .admit .ensures .number) (f .find .result) (f .find .ensures) absent (ap hitOf (c .enum-told4 .given .1))
+    let h : a .key < top = search needs in
+    looked (a .key) s (a .image .now) (sym (ap admitNumber (k .enum-told3 .given .1)) ∙ m .admit .ensures .number) (f .find .result) (f .find .ensures) h absent (ap hitOf (c .enum-told4 .given .1))
 
 pub look-up-lent-spec : {M : Type 1} → statement M
 look-up-lent-spec =

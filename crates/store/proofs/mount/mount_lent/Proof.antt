@@ -3,8 +3,8 @@ use Prim.Native.Nat.{ℕ, _<_}
 use native.Mathlib.Omega.{arith}
 use lib.ListN.{length, getD}
 use Rattle.store.specs.declared.answer.Answer.the-variants.{Blank, Layout, Shape}
-use Rattle.store.specs.Admit.{ChipOf}
-use Rattle.store.specs.Check.{Read}
+use Rattle.store.specs.AdmitCode.{ChipOf}
+use Rattle.store.specs.CheckCode.{Read}
 use Rattle.store.specs.Parts.{joined}
 use Rattle.store.proofs.SizeLaws.{sized-chip}
 use Rattle.store.proofs.Mounting.{size-mounts, invalid-mounts, marked-mounts}
@@ -108,7 +108,7 @@ returns-2 c buffer =
     let s = joined (a .numbers) buffer (a .lens .now) (a .slots .now) in
     let m = k .check .ensures in
     rw (c .refused .ensures)
-    (invalid-mounts (a .allowance) (a .torn .now) s (a .image .now) (bytes w) (e .before .sized .result) (sizes e .0) (sizes e .1) Blank 7 refl (omega arith)
+    (invalid-mounts (a .allowance) (a .torn .now) s (a .image .now) (bytes w) (e .before .sized .result) (sizes e .0) (sizes e .1) Blank 7 refl (omega arith) refl
     (rw (c .before .enum-told .given .1) at m))
 
 same-length-2 : tie.Need-same-length-2
@@ -123,7 +123,7 @@ returns-3 c buffer =
     let s = joined (a .numbers) buffer (a .lens .now) (a .slots .now) in
     let m = k .check .ensures in
     rw (c .refused2 .ensures)
-    (invalid-mounts (a .allowance) (a .torn .now) s (a .image .now) (bytes w) (e .before .sized .result) (sizes e .0) (sizes e .1) Layout 8 refl (omega arith)
+    (invalid-mounts (a .allowance) (a .torn .now) s (a .image .now) (bytes w) (e .before .sized .result) (sizes e .0) (sizes e .1) Layout 8 refl (omega arith) refl
     (rw (c .before .enum-told2 .given .1) at m))
 
 same-length-3 : tie.Need-same-length-3
@@ -138,7 +138,7 @@ returns-4 c buffer =
     let s = joined (a .numbers) buffer (a .lens .now) (a .slots .now) in
     let m = k .check .ensures in
     rw (c .refused3 .ensures)
-    (invalid-mounts (a .allowance) (a .torn .now) s (a .image .now) (bytes w) (e .before .sized .result) (sizes e .0) (sizes e .1) Shape 9 refl (omega arith)
+    (invalid-mounts (a .allowance) (a .torn .now) s (a .image .now) (bytes w) (e .before .sized .result) (sizes e .0) (sizes e .1) Shape 9 refl (omega arith) refl
     (rw (c .before .enum-told3 .given .1) at m))
 
 same-length-4 : tie.Need-same-length-4

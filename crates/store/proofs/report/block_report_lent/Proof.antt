@@ -2,7 +2,7 @@ use mathlib.Core.Path.{sym, ap, _∙_}
 use Prim.Native.Nat.{_+_, _*_, _-_}
 use native.Mathlib.Nat.{add-sub-cancel-left}
 use native.Mathlib.Omega.{arith}
-use Rattle.store.specs.Admit.{admitNumber}
+use Rattle.store.specs.AdmitCode.{admitNumber}
 use Rattle.store.specs.Parts.{joined}
 use Rattle.store.specs.declared.answer.Report.the-variants as R
 use Rattle.store.proofs.ReportLaws.{report-first, report-absent, report-free}

@@ -5,7 +5,7 @@ use native.Mathlib.Omega.{arith}
 use Rattle.tree.specs.Step6.{top}
 use Rattle.store.specs.declared.answer.Answer.the-variants.{Nodes}
 use Rattle.store.specs.Parts.{joined, updatedWith}
-use Rattle.store.specs.Update.{InsertsIn}
+use Rattle.store.specs.UpdateCode.{InsertsIn}
 use Rattle.store.proofs.UpdateLaws.{insert-many, insert-five, insert-accepted}
 use borrow.Author.Needs.{needs}
 use Rattle.store.proofs.update.insert_admitted.Statement.{statement}

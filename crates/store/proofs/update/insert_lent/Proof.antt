@@ -1,71 +1,68 @@
-use mathlib.Core.Path.{refl, sym, ap, _∙_}
+use mathlib.Core.Path.{_≡_, refl, ap, _∙_}
+use Prim.Native.Nat.{_<_}
 use native.Mathlib.Omega.{arith}
-use Rattle.store.specs.Admit.{admitNumber}
+use lib.ListN.{length}
+use Rattle.chip.specs.Geometry.{small}
+use Rattle.promise.specs.Plain.{admission, insertion}
+use Rattle.promise.proofs.Proper.{insert-proper}
+use Rattle.store.specs.AdmitCode.{ChipOf, updateTests}
+use Rattle.store.specs.Answers.{refusalIn}
 use Rattle.store.specs.Parts.{joined}
-use Rattle.store.proofs.CallLaws.{insert-refused, insert-full, insert-done}
+use Rattle.store.proofs.UpdateTests.{updates-refused, updates-pass, updates-done, number-for}
 use borrow.Author.Needs.{needs}
 use Rattle.store.proofs.update.insert_lent.Statement.{statement}
 use Rattle.store.proofs.update.insert_lent.Tie as tie
+use Rattle.store.proofs.update.insert_lent.Reads as reads
+use Rattle.store.proofs.update.insert_lent.Lts as lts
+use Rattle.store.proofs.admit.update_tests.Reads as update-tests-reads
+use Rattle.store.proofs.answer.number.Reads as number-reads
+use Rattle.store.proofs.update.insert_admitted.Reads as insert-admitted-reads
 
-admit-requires : tie.Need-admit-requires
-admit-requires c κs = search needs
+-- the number of the refusal is what the tests give
+told : (n : tie.After-number)
+    → (let a = n .before .before .before .args in n .number .result ≡ updateTests small (a .numbers .on) (a .numbers .blocks) (a .numbers .pending) (length (a .image .now)))
+told n = n .number .ensures ∙ ap refusalIn (n .before .update-tests .ensures) ∙ number-for _
 
-enum-told : tie.Need-enum-told
-enum-told c = search needs
+-- the tests pass
+passed : (e : tie.Else1)
+    → (let a = e .before .before .before .before .args in
+    (0 ≡ admission small (a .numbers .on) (a .numbers .blocks) (length (a .image .now))) × ChipOf (a .numbers .blocks) (length (a .image .now)) × (a .numbers .pending < 16))
+passed e =
+    let a = e .before .before .before .before .args in
+    updates-pass (a .numbers .on) (a .numbers .blocks) (a .numbers .pending) (length (a .image .now)) (omega (arith, e .if1 .left, told (e .before)))
 
-enum-told-2 : tie.Need-enum-told-2
-enum-told-2 c = search needs
+-- src/update.rt:119:9
+update-tests-requires : tie.Need-update-tests-requires
+update-tests-requires c κs = search needs
 
-enum-told-3 : tie.Need-enum-told-3
-enum-told-3 c = search needs
+-- src/update.rt:120:8
+number-requires : tie.Need-number-requires
+number-requires c κs = search needs
 
+-- src/update.rt:121:9
 returns : tie.Need-returns
 returns c =
-    let k = c .before in
-    let m = k .before .before in
-    let a = m .before .before .args in
+    let n = c .before in
+    let t = n .before in
+    let a = t .before .before .args in
     let s = joined (a .numbers) (a .buffer .now) (a .lens .now) (a .slots .now) in
-    insert-full s (a .image .now) _ (sym (ap admitNumber (k .enum-told3 .given .1)) ∙ m .admit .ensures .number) (omega (arith, c .if1 .taken)) refl refl (a .key) (a .value)
+    updates-refused (insertion (a .key) (a .value)) s (a .image .now) _ (t .update-tests .ensures) refl (omega (arith, c .if1 .taken, told n))
 
+-- src/update.rt:123:5
 insert-admitted-requires : tie.Need-insert-admitted-requires
 insert-admitted-requires c κs =
-    let e = c .before in
-    let k = e .before in
-    (k .before .before .admit .ensures .chip (k .enum-told3 .given .1), omega (arith, e .if1 .left))
+    let w = passed (c .before) in (w .1, w .2)
 
+-- src/update.rt:107:1
 returns-2 : tie.Need-returns-2
 returns-2 c =
-    let m = c .before .before in
-    let a = m .before .before .args in
-    let s = joined (a .numbers) (a .buffer .now) (a .lens .now) (a .slots .now) in
-    insert-refused s (a .image .now) _ 1 refl refl (sym (ap admitNumber (c .enum-told .given .1)) ∙ m .admit .ensures .number) (a .key) (a .value)
-
-returns-3 : tie.Need-returns-3
-returns-3 c =
-    let m = c .before .before in
-    let a = m .before .before .args in
-    let s = joined (a .numbers) (a .buffer .now) (a .lens .now) (a .slots .now) in
-    insert-refused s (a .image .now) _ 0 refl refl (sym (ap admitNumber (c .enum-told2 .given .1)) ∙ m .admit .ensures .number) (a .key) (a .value)
-
-returns-4 : tie.Need-returns-4
-returns-4 c =
     let e = c .before .before in
-    let k = e .before in
-    let m = k .before .before in
-    let a = m .before .before .args in
+    let a = e .before .before .before .before .args in
     let s = joined (a .numbers) (a .buffer .now) (a .lens .now) (a .slots .now) in
-    insert-done s (a .image .now) _ (sym (ap admitNumber (k .enum-told3 .given .1)) ∙ m .admit .ensures .number) (omega (arith, e .if1 .left)) (a .key) (a .value) (c .insert-admitted .ensures)
+    let w = passed e in
+    updates-done (insertion (a .key) (a .value)) s (a .image .now) _ (w .0) (insert-proper (a .key) (a .value)) (w .2) (c .insert-admitted .ensures)
 
 pub insert-lent-spec : {M : Type 1} → statement M
 insert-lent-spec =
     tie.close
-    (tie.spec
-    admit-requires
-    enum-told
-    enum-told-2
-    enum-told-3
-    returns
-    insert-admitted-requires
-    returns-2
-    returns-3
-    returns-4)
+    (tie.spec update-tests-requires number-requires returns insert-admitted-requires returns-2)

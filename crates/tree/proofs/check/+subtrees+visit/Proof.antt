@@ -1,10 +1,11 @@
 use mathlib.Core.Path.{_≡_, sym, _∙_}
 use native.Mathlib.Omega.{arith}
-use Rattle.tree.proofs.CheckLaws.{kids-none, kids-stop, kids-next, visit-unfit, visit-old, visit-leaf, visit-branch, level-entries, walk-as, mark-as, not-true, not-false}
+use borrow.Author.Tests.{not-true, not-false}
+use Rattle.tree.proofs.CheckLaws.{kids-none, kids-stop, kids-next, visit-unfit, visit-old, visit-leaf, visit-branch, level-entries, walk-as, mark-as}
 use Rattle.views.specs.FoldCode.{viewOf}
 use Rattle.views.specs.NodeCode.{entriesOf}
 use Rattle.tree.specs.Step6.{isLevel}
-use Rattle.tree.specs.CheckCode.{listed, obeysAt}
+use Rattle.tree.specs.CheckCode.{pagesTable, obeysAt}
 use Rattle.tree.specs.Tree as T
 use Rattle.lists.proofs.Tests.{and-left}
 use borrow.Author.Needs.{needs}
@@ -54,7 +55,7 @@ subtrees-returns : (t : ℕ) → subtrees-lts.Need-returns (
 ) (subtrees-at t) subtrees.Post
 subtrees-returns t c =
     let a = c .before .before .args in
-    kids-none (listed (a .image .now) (a .lens .now) (a .slots .now) (a .limit)) (a .level) (a .hi) (a .t7 .len) (a .i) (a .t7 .keys) (a .t7 .values) (a .seen .now) (a .seen .now) (c .if1 .taken)
+    kids-none (pagesTable (a .image .now) (a .lens .now) (a .slots .now) (a .limit)) (a .level) (a .hi) (a .t7 .len) (a .i) (a .t7 .keys) (a .t7 .values) (a .seen .now) (a .seen .now) (c .if1 .taken)
 
 -- src/check.rt:197:18
 subtrees-mul-number : (t : ℕ) → subtrees-lts.Need-mul-number (
@@ -137,7 +138,7 @@ subtrees-returns-2 t c =
     let b = d .before .before .before in
     let a = b .before .before .args in
     let e = d .end-at .ensures in
-    kids-stop (listed (a .image .now) (a .lens .now) (a .slots .now) (a .limit)) (a .level) (a .hi) (a .t7 .len) (a .i) (a .t7 .keys) (a .t7 .values) (a .seen .now) _
+    kids-stop (pagesTable (a .image .now) (a .lens .now) (a .slots .now) (a .limit)) (a .level) (a .hi) (a .t7 .len) (a .i) (a .t7 .keys) (a .t7 .values) (a .seen .now) _
     (b .if1 .left) (omega arith) (omega arith) (d .end-at .result) (e .0) (walk-as (not-true (v .visit .result) (c .if2 .taken)) (v .visit .ensures))
 
 -- src/check.rt:204:57
@@ -178,7 +179,7 @@ subtrees-returns-3 t c =
     let b = d .before .before .before in
     let a = b .before .before .args in
     let e = d .end-at .ensures in
-    kids-next (listed (a .image .now) (a .lens .now) (a .slots .now) (a .limit)) (a .level) (a .hi) (a .t7 .len) (a .i) (a .t7 .keys) (a .t7 .values) (a .seen .now) _
+    kids-next (pagesTable (a .image .now) (a .lens .now) (a .slots .now) (a .limit)) (a .level) (a .hi) (a .t7 .len) (a .i) (a .t7 .keys) (a .t7 .values) (a .seen .now) _
     (b .if1 .left) (omega arith) (omega arith) (d .end-at .result) (e .0) _ (c .subtrees .result) (walk-as (not-false (v .visit .result) (f .if2 .left)) (v .visit .ensures)) (c .subtrees .ensures)
 
 -- src/check.rt:159:9

@@ -3,7 +3,7 @@ use Prim.Native.Nat.{_-_, _≤_}
 use native.Mathlib.Omega.{arith}
 use lib.ListN.{drop}
 use Rattle.tree.specs.Tree.{there}
-use Rattle.tree.specs.CheckCode.{listed, countsFrom}
+use Rattle.tree.specs.CheckCode.{pagesTable, countsFrom}
 use Rattle.tree.proofs.CheckLaws.{listed-same, length-listed, counts-pass, counts-fail, counts-end}
 use borrow.Author.Needs.{needs}
 use Rattle.tree.proofs.check.all_once.Statement.{statement}
@@ -16,7 +16,7 @@ use Rattle.views.proofs.view.list_view.Reads as list-view-reads
 
 abbrev Inv-loop : tie.InvT-loop
 Inv-loop image lens slots limit seen n₀ n =
-    (n ≤ limit) × (countsFrom n (drop n (listed image lens slots limit)) seen ≡ countsFrom 0 (listed image lens slots limit) seen)
+    (n ≤ limit) × (countsFrom n (drop n (pagesTable image lens slots limit)) seen ≡ countsFrom 0 (pagesTable image lens slots limit) seen)
 
 abbrev μ-loop : tie.MeasureT-loop
 μ-loop image lens slots limit seen n₀ n = limit - n
@@ -45,7 +45,7 @@ returns c =
     let v = p .before in
     let s = v .before .before in
     let a = s .before .before .args in
-    let t = listed (a .image .now) (a .lens .now) (a .slots .now) (a .limit) in
+    let t = pagesTable (a .image .now) (a .lens .now) (a .slots .now) (a .limit) in
     let e = listed-same (a .image .now) (a .lens .now) (a .slots .now) (a .limit) there refl (s .loop .n) ∙ ap there (sym (v .list-view .ensures .is)) ∙ sym (p .presence .ensures) in
     let l = length-listed (a .image .now) (a .lens .now) (a .slots .now) (a .limit) in
     sym (counts-fail t (s .loop .n) (a .seen .now) (omega arith) (λ z. c .if1 .taken (q .count-at .ensures ∙ z ∙ e))) ∙ s .loop .inv .1
@@ -66,7 +66,7 @@ loop-again c =
     let v = p .before in
     let s = v .before .before in
     let a = s .before .before .args in
-    let t = listed (a .image .now) (a .lens .now) (a .slots .now) (a .limit) in
+    let t = pagesTable (a .image .now) (a .lens .now) (a .slots .now) (a .limit) in
     let e = listed-same (a .image .now) (a .lens .now) (a .slots .now) (a .limit) there refl (s .loop .n) ∙ ap there (sym (v .list-view .ensures .is)) ∙ sym (p .presence .ensures) in
     let l = length-listed (a .image .now) (a .lens .now) (a .slots .now) (a .limit) in
     (omega arith, counts-pass t (s .loop .n) (a .seen .now) (omega arith) (sym (q .count-at .ensures) ∙ c .if1 .left ∙ sym e) ∙ s .loop .inv .1)
@@ -76,7 +76,7 @@ returns-2 : tie.Need-returns-2 Inv-loop μ-loop
 returns-2 c =
     let s = c .before in
     let a = s .before .before .args in
-    let t = listed (a .image .now) (a .lens .now) (a .slots .now) (a .limit) in
+    let t = pagesTable (a .image .now) (a .lens .now) (a .slots .now) (a .limit) in
     let l = length-listed (a .image .now) (a .lens .now) (a .slots .now) (a .limit) in
     sym (counts-end t (s .loop .n) (a .seen .now) (omega arith)) ∙ s .loop .inv .1
 

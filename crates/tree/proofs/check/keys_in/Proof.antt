@@ -3,7 +3,7 @@ use Prim.Native.Nat.{_-_, _≤_}
 use native.Mathlib.Omega.{arith}
 use lib.ListN.{length}
 use Rattle.tree.specs.Step6.{keysIn}
-use Rattle.tree.specs.FindCode.{from}
+use Rattle.tree.specs.FindCode.{entriesFrom}
 use Rattle.tree.proofs.CheckLaws.{keys-low, keys-high, keys-pass, from-end}
 use borrow.Author.Needs.{needs}
 use Rattle.tree.proofs.check.keys_in.Statement.{statement}
@@ -13,7 +13,7 @@ use Rattle.tree.proofs.check.keys_in.Lts as lts
 
 abbrev Inv-loop : tie.InvT-loop
 Inv-loop lo hi n len i₀ i =
-    (i ≤ len) × (keysIn lo hi (from len i (n .keys) (n .values)) ≡ keysIn lo hi (from len 0 (n .keys) (n .values)))
+    (i ≤ len) × (keysIn lo hi (entriesFrom len i (n .keys) (n .values)) ≡ keysIn lo hi (entriesFrom len 0 (n .keys) (n .values)))
 
 abbrev μ-loop : tie.MeasureT-loop
 μ-loop lo hi n len i₀ i = len - i

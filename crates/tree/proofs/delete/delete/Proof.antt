@@ -3,6 +3,7 @@ use Prim.Native.Nat.{_<_}
 use native.Mathlib.Omega.{arith}
 use Rattle.pages.specs.declared.unit.Update.the-variants.{Delete}
 use Rattle.views.specs.Groups.{unitFor}
+use Rattle.views.proofs.BufferLaws.{pushed-one}
 use Rattle.tree.specs.Step6.{top}
 use Rattle.tree.proofs.InsertLaws.{written-one}
 use Rattle.tree.proofs.GainLaws.{delete-none, delete-made}
@@ -36,7 +37,8 @@ returns-3 c =
     let s = i .before .before .before in
     let a = s .args in
     let hk : a .key < top = search needs in
-    delete-made (a .image .now) (a .lens .now) (a .slots .now) (a .limit) (s .pre .0) (a .key) (a .count) (a .buffer .now) hk (a .leaf) _ (written-one (unitFor (a .leaf) (Delete (a .key))) (a .count) (a .buffer .now) _ (c .push-unit .ensures .0) (c .push-unit .ensures .1)) (i .before .if1 .left)
+    let u = unitFor (a .leaf) (Delete (a .key)) in
+    delete-made (a .image .now) (a .lens .now) (a .slots .now) (a .limit) (s .pre .0) (a .key) (a .count) (a .buffer .now) hk (a .leaf) _ (written-one u (a .count) (a .buffer .now) _ (pushed-one (a .buffer .now) _ (a .count) u (c .push-unit .ensures .0)) (c .push-unit .ensures .1)) (i .before .if1 .left)
 
 pub delete-spec : {M : Type 1} → statement M
 delete-spec = tie.close (tie.spec returns returns-2 push-unit-requires add-result returns-3)

@@ -3,7 +3,7 @@ use Prim.Native.Nat.{_-_, _≤_}
 use native.Mathlib.Omega.{arith}
 use lib.ListN.{length}
 use Rattle.tree.specs.Tree.{below}
-use Rattle.tree.specs.FindCode.{from}
+use Rattle.tree.specs.FindCode.{entriesFrom}
 use Rattle.tree.proofs.FindLaws.{below-pass, below-stop, below-end}
 use borrow.Author.Needs.{needs}
 use Rattle.tree.proofs.find.child.Statement.{statement}
@@ -12,7 +12,7 @@ use Rattle.tree.proofs.find.child.Reads as reads
 use Rattle.tree.proofs.find.child.Lts as lts
 
 abbrev Inv-loop : tie.InvT-loop
-Inv-loop key n len found₀ i₀ found i = (i ≤ len) × (below key found (from len i (n .keys) (n .values)) ≡ below key 0 (from len 0 (n .keys) (n .values)))
+Inv-loop key n len found₀ i₀ found i = (i ≤ len) × (below key found (entriesFrom len i (n .keys) (n .values)) ≡ below key 0 (entriesFrom len 0 (n .keys) (n .values)))
 
 abbrev μ-loop : tie.MeasureT-loop
 μ-loop key n len found₀ i₀ found i = len - i

@@ -3,7 +3,7 @@ use Prim.Native.Nat.{_-_, _≤_}
 use native.Mathlib.Omega.{arith}
 use lib.ListN.{length}
 use Rattle.tree.specs.Tree.{lookup}
-use Rattle.tree.specs.FindCode.{from}
+use Rattle.tree.specs.FindCode.{entriesFrom}
 use Rattle.tree.proofs.FindLaws.{lookup-pass, lookup-hit, lookup-end}
 use borrow.Author.Needs.{needs}
 use Rattle.tree.proofs.find.lookup.Statement.{statement}
@@ -12,7 +12,7 @@ use Rattle.tree.proofs.find.lookup.Reads as reads
 use Rattle.tree.proofs.find.lookup.Lts as lts
 
 abbrev Inv-loop : tie.InvT-loop
-Inv-loop key n len i₀ i = (i ≤ len) × (lookup key (from len i (n .keys) (n .values)) ≡ lookup key (from len 0 (n .keys) (n .values)))
+Inv-loop key n len i₀ i = (i ≤ len) × (lookup key (entriesFrom len i (n .keys) (n .values)) ≡ lookup key (entriesFrom len 0 (n .keys) (n .values)))
 
 abbrev μ-loop : tie.MeasureT-loop
 μ-loop key n len i₀ i = len - i

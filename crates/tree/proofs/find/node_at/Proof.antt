@@ -7,7 +7,7 @@ use Rattle.tree.proofs.find.node_at.Statement.{statement}
 use Rattle.tree.proofs.find.node_at.Tie as tie
 use Rattle.tree.proofs.find.node_at.Reads as reads
 use Rattle.tree.proofs.find.node_at.Lts as lts
-use Rattle.tree.proofs.find.solid.Reads as solid-reads
+use Rattle.tree.proofs.find.node_or_empty.Reads as node-or-empty-reads
 use Rattle.views.proofs.view.node_view.Reads as node-view-reads
 
 -- src/find.rt:92:9
@@ -15,8 +15,8 @@ node-view-requires : tie.Need-node-view-requires
 node-view-requires c κs = search needs
 
 -- src/find.rt:93:5
-solid-requires : tie.Need-solid-requires
-solid-requires c κs = search needs
+node-or-empty-requires : tie.Need-node-or-empty-requires
+node-or-empty-requires c κs = search needs
 
 -- src/find.rt:80:1
 returns : tie.Need-returns
@@ -24,7 +24,7 @@ returns c =
     let q = c .before in
     let a = q .before .before .args in
     holds-shown small (a .limit) (pagesOf small (a .image .now)) (a .lens .now) (a .slots .now) (a .count) (a .buffer .now) (a .number)
-    (viewOf (q .node-view .result)) (c .solid .result) (q .node-view .ensures .is) (c .solid .ensures)
+    (viewOf (q .node-view .result)) (c .node-or-empty .result) (q .node-view .ensures .is) (c .node-or-empty .ensures)
 
 pub node-at-spec : {M : Type 1} → statement M
-node-at-spec = tie.close (tie.spec node-view-requires solid-requires returns)
+node-at-spec = tie.close (tie.spec node-view-requires node-or-empty-requires returns)

@@ -13,7 +13,7 @@ use Rattle.tree.proofs.insert.insert_at.Kinds as insert-at-kinds
 use Rattle.tree.proofs.insert.+insert_at.Lts-insert_at as insert-at-lts
 use Rattle.tree.proofs.find.child.Reads as child-reads
 use Rattle.tree.proofs.find.node_at.Reads as node-at-reads
-use Rattle.tree.proofs.insert.land.Reads as land-reads
+use Rattle.tree.proofs.insert.gain_leaf.Reads as gain-leaf-reads
 use Rattle.tree.proofs.insert.needs_above.Reads as needs-above-reads
 use Rattle.tree.proofs.insert.pass_up.Reads as pass-up-reads
 use Rattle.tree.proofs.insert.+insert_at.{statement}
@@ -29,9 +29,9 @@ abbrev insert-at-below : ℕ → In 4 insert-at-kinds.ps
 insert-at-below t =
     and 4 insert-at-kinds.ps (falls 4 insert-at-kinds.ps _<_ μ-insert-at t) insert-at.Pre
 
-insert-at-land-requires : (t : ℕ) → insert-at-lts.Need-land-requires (
-  land-reads.Asked,
-  land-reads.Learnt,
+insert-at-gain-leaf-requires : (t : ℕ) → insert-at-lts.Need-gain-leaf-requires (
+  gain-leaf-reads.Asked,
+  gain-leaf-reads.Learnt,
   child-reads.Asked,
   child-reads.Learnt,
   node-at-reads.Asked,
@@ -43,11 +43,11 @@ insert-at-land-requires : (t : ℕ) → insert-at-lts.Need-land-requires (
   pass-up-reads.Asked,
   pass-up-reads.Learnt,
 ) (insert-at-at t) insert-at.Post
-insert-at-land-requires t c κs = search needs
+insert-at-gain-leaf-requires t c κs = search needs
 
 insert-at-returns : (t : ℕ) → insert-at-lts.Need-returns (
-  land-reads.Asked,
-  land-reads.Learnt,
+  gain-leaf-reads.Asked,
+  gain-leaf-reads.Learnt,
   child-reads.Asked,
   child-reads.Learnt,
   node-at-reads.Asked,
@@ -65,12 +65,12 @@ insert-at-returns t c =
     let a = s .args in
     let hk : a .key < top = search needs in
     let hv : a .value < top = search needs in
-    rises-leaf (a .image .now) (a .lens .now) (a .slots .now) (a .limit) (s .pre .1 .1) (a .next) (a .key) (a .value) (a .count) (a .buffer .now) hk hv (a .need) (a .node) _ (c .land .result)
-    (a .level) (entriesOf (a .n)) (i .if1 .taken) (s .pre .1 .5 .entries) (s .pre .1 .2) (c .land .ensures)
+    rises-leaf (a .image .now) (a .lens .now) (a .slots .now) (a .limit) (s .pre .1 .1) (a .next) (a .key) (a .value) (a .count) (a .buffer .now) hk hv (a .need) (a .node) _ (c .gain-leaf .result)
+    (a .level) (entriesOf (a .n)) (i .if1 .taken) (s .pre .1 .5 .entries) (s .pre .1 .2) (c .gain-leaf .ensures)
 
 insert-at-child-requires : (t : ℕ) → insert-at-lts.Need-child-requires (
-  land-reads.Asked,
-  land-reads.Learnt,
+  gain-leaf-reads.Asked,
+  gain-leaf-reads.Learnt,
   child-reads.Asked,
   child-reads.Learnt,
   node-at-reads.Asked,
@@ -85,8 +85,8 @@ insert-at-child-requires : (t : ℕ) → insert-at-lts.Need-child-requires (
 insert-at-child-requires t c κs = search needs
 
 insert-at-node-at-requires : (t : ℕ) → insert-at-lts.Need-node-at-requires (
-  land-reads.Asked,
-  land-reads.Learnt,
+  gain-leaf-reads.Asked,
+  gain-leaf-reads.Learnt,
   child-reads.Asked,
   child-reads.Learnt,
   node-at-reads.Asked,
@@ -101,8 +101,8 @@ insert-at-node-at-requires : (t : ℕ) → insert-at-lts.Need-node-at-requires (
 insert-at-node-at-requires t c κs = search needs
 
 insert-at-needs-above-requires : (t : ℕ) → insert-at-lts.Need-needs-above-requires (
-  land-reads.Asked,
-  land-reads.Learnt,
+  gain-leaf-reads.Asked,
+  gain-leaf-reads.Learnt,
   child-reads.Asked,
   child-reads.Learnt,
   node-at-reads.Asked,
@@ -117,8 +117,8 @@ insert-at-needs-above-requires : (t : ℕ) → insert-at-lts.Need-needs-above-re
 insert-at-needs-above-requires t c κs = search needs
 
 insert-at-sub-insert-at : (t : ℕ) → insert-at-lts.Need-sub-insert-at (
-  land-reads.Asked,
-  land-reads.Learnt,
+  gain-leaf-reads.Asked,
+  gain-leaf-reads.Learnt,
   child-reads.Asked,
   child-reads.Learnt,
   node-at-reads.Asked,
@@ -133,8 +133,8 @@ insert-at-sub-insert-at : (t : ℕ) → insert-at-lts.Need-sub-insert-at (
 insert-at-sub-insert-at t c = search needs
 
 insert-at-insert-at-requires : (t : ℕ) → insert-at-lts.Need-insert-at-requires (
-  land-reads.Asked,
-  land-reads.Learnt,
+  gain-leaf-reads.Asked,
+  gain-leaf-reads.Learnt,
   child-reads.Asked,
   child-reads.Learnt,
   node-at-reads.Asked,
@@ -166,8 +166,8 @@ insert-at-insert-at-requires t c κs =
     )
 
 insert-at-pass-up-requires : (t : ℕ) → insert-at-lts.Need-pass-up-requires (
-  land-reads.Asked,
-  land-reads.Learnt,
+  gain-leaf-reads.Asked,
+  gain-leaf-reads.Learnt,
   child-reads.Asked,
   child-reads.Learnt,
   node-at-reads.Asked,
@@ -185,8 +185,8 @@ insert-at-pass-up-requires t c κs =
     (s .pre .1 .1, s .pre .1 .5 .room, i .insert-at .ensures .keeps .room)
 
 insert-at-returns-2 : (t : ℕ) → insert-at-lts.Need-returns-2 (
-  land-reads.Asked,
-  land-reads.Learnt,
+  gain-leaf-reads.Asked,
+  gain-leaf-reads.Learnt,
   child-reads.Asked,
   child-reads.Learnt,
   node-at-reads.Asked,
@@ -213,8 +213,8 @@ insert-at-returns-2 t c =
 
 pub +insert-at-spec : {M : Type 1} → statement M
 +insert-at-spec = close μ-insert-at λ t. insert-at-lts.spec (
-  land-reads.Asked,
-  land-reads.Learnt,
+  gain-leaf-reads.Asked,
+  gain-leaf-reads.Learnt,
   child-reads.Asked,
   child-reads.Learnt,
   node-at-reads.Asked,
@@ -228,7 +228,7 @@ pub +insert-at-spec : {M : Type 1} → statement M
 )
     (insert-at-at t)
     insert-at.Post
-    (insert-at-land-requires t)
+    (insert-at-gain-leaf-requires t)
     (insert-at-returns t)
     (insert-at-child-requires t)
     (insert-at-node-at-requires t)

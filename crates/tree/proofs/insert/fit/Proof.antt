@@ -7,6 +7,7 @@ use lib.Dec.{ltb}
 use Rattle.pages.specs.declared.unit.Update.the-variants.{Insert}
 use Rattle.views.specs.Groups.{unitFor}
 use Rattle.tree.specs.InsertCode.{able}
+use Rattle.views.proofs.BufferLaws.{pushed-one}
 use Rattle.tree.proofs.InsertLaws.{fit-test, written-one, went-holds, able-holds, unable-holds}
 use borrow.Author.Needs.{needs}
 use Rattle.tree.proofs.insert.fit.Statement.{statement}
@@ -37,7 +38,7 @@ returns c =
     let f = fit-test (a .count) (a .node) e in
     able-holds (ltb (a .count) 960 && ltb (a .node) 65536) (able (unitFor (a .node) (Insert (a .key) (a .value)) ∷ []) false 0 0 (a .next)) (a .count) (a .buffer .now) _ _ e
     (went-holds (u ∷ []) false 0 0 (a .next) (a .count) (a .count + 1) (a .buffer .now) _ _
-    (written-one u (a .count) (a .buffer .now) _ (c .push-unit .ensures .0) (c .push-unit .ensures .1)) (omega (arith, f .0)) refl refl refl refl refl refl)
+    (written-one u (a .count) (a .buffer .now) _ (pushed-one (a .buffer .now) _ (a .count) u (c .push-unit .ensures .0)) (c .push-unit .ensures .1)) (omega (arith, f .0)) refl refl refl refl refl refl)
 
 returns-2 : tie.Need-returns-2
 returns-2 c =

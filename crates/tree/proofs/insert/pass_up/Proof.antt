@@ -10,8 +10,8 @@ use Rattle.tree.proofs.insert.pass_up.Tie as tie
 insert-requires : tie.Need-insert-requires
 insert-requires c κs = search needs
 
-hold-requires : tie.Need-hold-requires
-hold-requires c κs =
+fit-or-split-requires : tie.Need-fit-or-split-requires
+fit-or-split-requires c κs =
     let i = c .before in
     let s = i .before .before in
     (s .pre .2, s .pre .0, i .insert .ensures .room, ap length (i .insert .ensures .is) ∙ i .insert .ensures .len)
@@ -21,10 +21,10 @@ returns c =
     let i = c .before .before in
     let j = i .before in
     let a = j .before .args in
-    passes-gained (a .limit) (a .level) (a .node) (entriesOf (a .n)) (a .r) (a .n .level) (i .insert .result) (a .buffer .now) _ (c .hold .result) (j .if1 .taken) (i .insert .ensures) (c .hold .ensures)
+    passes-gained (a .limit) (a .level) (a .node) (entriesOf (a .n)) (a .r) (a .n .level) (i .insert .result) (a .buffer .now) _ (c .fit-or-split .result) (j .if1 .taken) (i .insert .ensures) (c .fit-or-split .ensures)
 
 returns-2 : tie.Need-returns-2
 returns-2 c = record { gained = λ e. clash e (c .if1 .left); same = λ _. (refl, refl) }
 
 pub pass-up-spec : {M : Type 1} → statement M
-pass-up-spec = tie.close (tie.spec insert-requires hold-requires returns returns-2)
+pass-up-spec = tie.close (tie.spec insert-requires fit-or-split-requires returns returns-2)

@@ -2,7 +2,7 @@ use mathlib.Core.Path.{_≡_, ap, _∙_}
 use Prim.Native.Nat.{_+_, _-_, _≤_}
 use native.Mathlib.Omega.{arith}
 use lib.ListN.{length, take}
-use Rattle.views.specs.NodeCode.{insertAt}
+use Rattle.views.specs.NodeCode.{insertIndex}
 use Rattle.views.proofs.NodeLaws.{insert-push, pushed}
 use borrow.Author.Needs.{needs}
 use Rattle.views.proofs.node.insert_at.Statement.{statement}
@@ -11,7 +11,7 @@ use Rattle.views.proofs.node.insert_at.Reads as reads
 use Rattle.views.proofs.node.insert_at.Lts as lts
 
 abbrev Inv-loop : tie.InvT-loop
-Inv-loop a₀ len p x carry₀ i₀ a carry i = (length a ≡ length a₀) × (take (len + 1) (insertAt i carry a) ≡ take (len + 1) (insertAt p x a₀))
+Inv-loop a₀ len p x carry₀ i₀ a carry i = (length a ≡ length a₀) × (take (len + 1) (insertIndex i carry a) ≡ take (len + 1) (insertIndex p x a₀))
 
 abbrev μ-loop : tie.MeasureT-loop
 μ-loop a₀ len p x carry₀ i₀ a carry i = len + 1 - i

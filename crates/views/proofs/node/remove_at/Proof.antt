@@ -2,7 +2,7 @@ use mathlib.Core.Path.{_≡_, _∙_}
 use Prim.Native.Nat.{_+_, _-_, _≤_}
 use native.Mathlib.Omega.{arith}
 use lib.ListN.{length}
-use Rattle.views.specs.NodeCode.{removeAt}
+use Rattle.views.specs.NodeCode.{removeIndex}
 use Rattle.views.proofs.NodeLaws.{remove-pull, pulled}
 use borrow.Author.Needs.{needs}
 use Rattle.views.proofs.node.remove_at.Statement.{statement}
@@ -11,7 +11,7 @@ use Rattle.views.proofs.node.remove_at.Reads as reads
 use Rattle.views.proofs.node.remove_at.Lts as lts
 
 abbrev Inv-loop : tie.InvT-loop
-Inv-loop a₀ len p i₀ a i = (length a ≡ length a₀) × (1 ≤ i) × (i ≤ len) × (removeAt (i - 1) a ≡ removeAt p a₀)
+Inv-loop a₀ len p i₀ a i = (length a ≡ length a₀) × (1 ≤ i) × (i ≤ len) × (removeIndex (i - 1) a ≡ removeIndex p a₀)
 
 abbrev μ-loop : tie.MeasureT-loop
 μ-loop a₀ len p i₀ a i = len - i

@@ -6,7 +6,7 @@ use Rattle.chip.specs.Geometry.{small}
 use Rattle.chip.specs.Chip.{pagesOf}
 use Rattle.views.specs.FoldCode.{viewIn}
 use Rattle.views.specs.Stored.{storedList, listView}
-use Rattle.views.proofs.ViewSteps.{after, slot-next, slots-done}
+use Rattle.views.proofs.ViewSteps.{afterPages, list-length, slot-next, slots-done}
 use borrow.Author.Needs.{needs}
 use Rattle.views.proofs.view.slots_view.Statement.{statement}
 use Rattle.views.proofs.view.slots_view.Tie as tie
@@ -19,7 +19,7 @@ use Rattle.views.proofs.view.used_slots.Reads as used-slots-reads
 abbrev Inv-loop : tie.InvT-loop
 Inv-loop keys₀ values₀ image lens slots node limit used s₀ i₀ keys values s i =
     (i ≤ used) × (length keys ≡ 17) × (length values ≡ 17) × (s .len ≤ 16)
-    × (after limit (pagesOf small image) node (viewIn s keys values) (drop i (storedList lens slots node))
+    × (afterPages limit (pagesOf small image) node (viewIn s keys values) (drop i (storedList lens slots node))
     ≡ listView small limit (pagesOf small image) node (storedList lens slots node))
 
 abbrev μ-loop : tie.MeasureT-loop
@@ -36,8 +36,11 @@ loop-holds c =
 slot-requires : tie.Need-slot-requires Inv-loop μ-loop
 slot-requires c κs =
     let u = c .before .before in
+    let k = u .before .before .before .before .before .before in
+    let a = k .args in
     let e = u .used-slots .ensures in
-    (u .before .before .before .before .before .before .pre .4, e .3 (omega arith), omega (arith, e .0))
+    let l = list-length (a .lens .now) (a .slots .now) (a .node) in
+    (k .pre .4, omega (arith, e .0, k .pre .4, l), omega (arith, e .1))
 
 place-view-requires : tie.Need-place-view-requires Inv-loop μ-loop
 place-view-requires c κs = search needs
@@ -62,8 +65,8 @@ loop-again c =
       p .keys,
       p .values,
       p .room,
-      slot-next (a .lens .now) (a .slots .now) (a .node) (u .used-slots .result) (e .0) (e .1) (e .2) (e .3) (k .pre .4) (a .limit)
-          (pagesOf small (a .image .now)) (l .i) (viewIn (l .s) (l .keys) (l .values)) (q .before .loop-test .taken) (l .inv .4)
+      slot-next (a .lens .now) (a .slots .now) (a .node) (a .limit) (pagesOf small (a .image .now)) (l .i)
+          (viewIn (l .s) (l .keys) (l .values)) (omega (arith, e .0, q .before .loop-test .taken)) (l .inv .4)
           (q .slot .result) (q .slot .ensures) _ (p .is),
     )
 
@@ -82,8 +85,8 @@ returns c =
     let a = k .args in
     let e = u .used-slots .ensures in
     record {
-      is = slots-done (a .lens .now) (a .slots .now) (a .node) (u .used-slots .result) (e .0) (e .1) (e .2) (e .3) (k .pre .4) (a .limit)
-          (pagesOf small (a .image .now)) (l .i) (viewIn (l .s) (l .keys) (l .values)) (c .loop-test .left) (l .inv .4);
+      is = slots-done (a .lens .now) (a .slots .now) (a .node) (a .limit) (pagesOf small (a .image .now)) (l .i)
+          (viewIn (l .s) (l .keys) (l .values)) (omega (arith, e .0, c .loop-test .left)) (l .inv .4);
       room = l .inv .3;
       keys = l .inv .1;
       values = l .inv .2;

@@ -1,6 +1,6 @@
 use mathlib.Core.Path.{sym}
 use native.Mathlib.Omega.{arith}
-use lib.ListN.{List·getD-eq-default}
+use Rattle.views.proofs.ViewSteps.{list-length, list-past}
 use borrow.Author.Needs.{needs}
 use Rattle.views.proofs.view.used_slots.Statement.{statement}
 use Rattle.views.proofs.view.used_slots.Tie as tie
@@ -18,16 +18,23 @@ cast-len c =
     record { fits = omega (arith, c .shared-slice-known .given (c .before .before .args .node)) }
 
 returns : tie.Need-returns
-returns c = search needs
+returns c =
+    let k = c .before .before .before in
+    let a = k .args in
+    let e = list-length (a .lens .now) (a .slots .now) (a .node) in
+    (omega (arith, e, k .pre .1), omega arith)
 
 returns-2 : tie.Need-returns-2
-returns-2 c = search needs
+returns-2 c =
+    let k = c .before .before .before in
+    let a = k .args in
+    let e = list-length (a .lens .now) (a .slots .now) (a .node) in
+    (omega (arith, e, k .pre .1), omega arith)
 
 returns-3 : tie.Need-returns-3
 returns-3 c =
     let a = c .before .args in
-    let e = List·getD-eq-default (a .lens .now) 0 {n = a .node} (omega arith) in
-    (omega arith, omega arith, λ h. sym e, λ h. absurd (omega arith))
+    (sym (list-past (a .lens .now) (a .slots .now) (a .node) (omega arith)), omega arith)
 
 pub used-slots-spec : {M : Type 1} → statement M
 used-slots-spec =

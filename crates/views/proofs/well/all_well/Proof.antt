@@ -5,7 +5,7 @@ use borrow.Author.Tests.{not-true, not-false}
 use Rattle.lists.specs.Lists.{allBelow}
 use Rattle.chip.specs.Geometry.{small}
 use Rattle.chip.specs.Chip.{pagesOf}
-use Rattle.views.specs.Well.{allWellStored, wellStored}
+use Rattle.views.specs.WellCode.{allWellStored, wellStored}
 use Rattle.views.proofs.WellLaws.{below-fails, below-passes, below-none}
 use borrow.Author.Needs.{needs}
 use Rattle.views.proofs.well.all_well.Statement.{statement}

@@ -1,5 +1,5 @@
 use borrow.Author.Tests.{le-leb, lt-leb}
-use Rattle.views.specs.Well.{wellStored}
+use Rattle.views.specs.WellCode.{wellStored}
 use borrow.Author.Needs.{needs}
 use Rattle.views.proofs.well.is_well.Statement.{statement}
 use Rattle.views.proofs.well.is_well.Tie as tie

@@ -1,0 +1,116 @@
+-- A list of exported calls is a list on lent arrays, and so one of the promise: what each call ensures is one step of it. Assumes nothing.
+use mathlib.Core.Path.{_≡_, refl, sym, ap, subst, _∙_}
+use mathlib.Core.List.{List, [], _∷_, map}
+use Prim.Native.Nat.{ℕ}
+use native.Mathlib.Omega.{arith}
+use lib.ListN.{getD}
+use Rattle.chip.specs.Geometry.{small}
+use Rattle.tree.specs.Tree.{Table}
+use Rattle.promise.specs.Plain.{Plain}
+use Rattle.promise.specs.Steps.{Step, Hands, Only, Started, Uncut, starts, next, Agrees}
+use Rattle.store.specs.declared.state.Numbers.{Numbers}
+use Rattle.store.specs.declared.state.State.{State}
+use Rattle.store.specs.declared.step.Call.{Call}
+use Rattle.store.specs.declared.step.Call.the-variants.{Format, Insert, Delete, LookUp, Commit, Mount}
+use Rattle.store.specs.Answers.{answerOf, refusalIn}
+use Rattle.store.specs.Contracts.{index, Formats, Mounts, Inserts, Deletes, Commits}
+use Rattle.store.specs.Parts.{joined}
+use Rattle.store.specs.Step.{ofLook}
+use Rattle.store.specs.Lent.{stateFrom, Meets, lentStep, RunsLent}
+use Rattle.store.proofs.StepLaws.{look-answer}
+use Rattle.store.proofs.LentLists.{lent-promise}
+use Rattle.exports.specs.Told.{valueIn}
+use Rattle.exports.specs.Words.{numbersIn}
+use Rattle.exports.specs.Exported.{Memory, partsIn, Ensures, Exported, answerBy, opsBy, exportedStep, promiseStep, RunsExported, TellsAnswer, AgreesTold}
+
+-- the state that memory holds is the one of these numbers, where its words read back as them
+state-is : (m : Memory) (n : Numbers) (buffer lens slots : List ℕ) → numbersIn (m .words) ≡ n → m .buffer ≡ buffer → m .lens ≡ lens → m .slots ≡ slots
+    → stateFrom (partsIn m) ≡ joined n buffer lens slots
+state-is m n buffer lens slots e b l s = cc
+
+-- ---- a list
+module _ (x : Exported) where
+  meets : (c : Call) (h : Ensures (x .torn) (x .given) (x .lent) (x .refusal) (x .told) (x .after) (x .left) c)
+      → Meets c (record {
+        call = x .call;
+        torn = x .torn;
+        given = partsIn (x .given);
+        lent = x .lent;
+        left = x .left;
+        answer = answerBy (x .torn) (x .given) (x .lent) (x .refusal) (x .told) (x .after) (x .left) c h;
+        ops = opsBy (x .torn) (x .given) (x .lent) (x .refusal) (x .told) (x .after) (x .left) c h;
+        after = partsIn (x .after);
+        image = x .image;
+      })
+  meets (Format n) h =
+      subst (λ (s : State). Formats n (x .torn) (stateFrom (partsIn (x .given))) (x .lent) (record { answer = h .0 .result .answer; ops = h .0 .result .ops; state = s }) (x .left))
+      (sym (state-is (x .after) (h .0 .result .numbers) (x .given .buffer) (x .after .lens) (x .after .slots) (h .0 .exact) (h .1) refl refl)) (h .0 .says (x .given .buffer))
+  meets (Mount n) h =
+      subst (λ (s : State). Mounts n (x .torn) (stateFrom (partsIn (x .given))) (x .lent) (record { answer = h .0 .result .answer; ops = h .0 .result .ops; state = s }) (x .left))
+      (sym (state-is (x .after) (h .0 .result .numbers) (x .given .buffer) (x .after .lens) (x .after .slots) (h .0 .exact) (h .1) refl refl)) (h .0 .says (x .given .buffer))
+  meets (Commit n) h =
+      subst (λ (s : State). Commits n (x .torn) (stateFrom (partsIn (x .given))) (x .lent) (record { answer = h .0 .result .answer; ops = h .0 .result .ops; state = s }) (x .left))
+      (sym (state-is (x .after) (h .0 .result .numbers) (x .given .buffer) (x .after .lens) (x .after .slots) (h .0 .exact) (h .1) refl refl)) (h .0 .says)
+  meets (Insert k v) h =
+      record {
+        says =
+            subst (λ (s : State). Inserts k v (stateFrom (partsIn (x .given))) (x .lent) (record { answer = h .0 .result .answer; state = s }))
+            (sym (state-is (x .after) (h .0 .result .numbers) (x .after .buffer) (x .given .lens) (x .given .slots) (h .0 .exact) refl (h .1) (h .2))) (h .0 .says);
+        ops = refl;
+        image = h .3;
+      }
+  meets (Delete k) h =
+      record {
+        says =
+            subst (λ (s : State). Deletes k (stateFrom (partsIn (x .given))) (x .lent) (record { answer = h .0 .result .answer; state = s }))
+            (sym (state-is (x .after) (h .0 .result .numbers) (x .after .buffer) (x .given .lens) (x .given .slots) (h .0 .exact) refl (h .1) (h .2))) (h .0 .says);
+        ops = refl;
+        image = h .3;
+      }
+  meets (LookUp k) h = record { look = h .0 .look; says = h .0 .says; is = ap (λ (m : Memory). ofLook (h .0 .look) (stateFrom (partsIn m))) (h .1); image = h .2 }
+
+  -- what a call tells is its answer
+  tells-by : (c : Call) (h : Ensures (x .torn) (x .given) (x .lent) (x .refusal) (x .told) (x .after) (x .left) c) → x .refusal ≡ refusalIn (answerOf (answerBy (x .torn) (x .given) (x .lent) (x .refusal) (x .told) (x .after) (x .left) c h))
+  tells-by (Format n) h = h .0 .tells .refusal
+  tells-by (Mount n) h = h .0 .tells .refusal
+  tells-by (Commit n) h = h .0 .tells .refusal
+  tells-by (Insert k v) h = h .0 .refusal
+  tells-by (Delete k) h = h .0 .refusal
+  tells-by (LookUp k) h = h .0 .refusal ∙ ap refusalIn (sym (look-answer (h .0 .look)))
+
+  value-by : (c : Call) (h : Ensures (x .torn) (x .given) (x .lent) (x .refusal) (x .told) (x .after) (x .left) c) (k : ℕ) → c ≡ LookUp k
+      → getD (x .told) 0 0 ≡ valueIn (answerOf (answerBy (x .torn) (x .given) (x .lent) (x .refusal) (x .told) (x .after) (x .left) c h))
+  value-by (Format n) h k e = let z : _≡_ {A = ℕ} 0 1 = cc in absurd (omega arith)
+  value-by (Mount n) h k e = let z : _≡_ {A = ℕ} 0 1 = cc in absurd (omega arith)
+  value-by (Commit n) h k e = let z : _≡_ {A = ℕ} 0 1 = cc in absurd (omega arith)
+  value-by (Insert j v) h k e = let z : _≡_ {A = ℕ} 0 1 = cc in absurd (omega arith)
+  value-by (Delete j) h k e = let z : _≡_ {A = ℕ} 0 1 = cc in absurd (omega arith)
+  value-by (LookUp j) h k e = ap (λ (ns : List ℕ). getD ns 0 0) (h .0 .tells) ∙ ap valueIn (sym (look-answer (h .0 .look)))
+
+  pub tells-own : TellsAnswer x (answerOf (answerBy (x .torn) (x .given) (x .lent) (x .refusal) (x .told) (x .after) (x .left) (x .call) (x .ensures)))
+  tells-own = record { refusal = tells-by (x .call) (x .ensures); value = value-by (x .call) (x .ensures) }
+
+pub exported-runs : (H : State → Type 0) (i : List ℕ) (xs : List Exported) → RunsExported H i xs → RunsLent H i (map exportedStep xs)
+exported-runs H i [] h = tt
+exported-runs H i (x ∷ xs) h = (
+  record { meets = meets x (x .call) (x .ensures); lends = h .0 .lends; handed = h .0 .handed },
+  exported-runs (Hands (index small) H (promiseStep x)) (x .image) xs (h .1),
+)
+
+-- what holds of a list's answers holds of what is told
+agrees-told : (p : Plain) (i : List ℕ) (xs : List Exported) → Agrees small (index small) p i (map lentStep (map exportedStep xs)) → AgreesTold p i xs
+agrees-told p i [] h = tt
+agrees-told p i (x ∷ xs) h = (subst (TellsAnswer x) (h .0) (tells-own x), h .1, agrees-told (next small (index small) p i (promiseStep x)) (x .image) xs (h .2))
+
+-- an exported call as a step, at once or by way of the lent arrays
+steps-same : (xs : List Exported) → map promiseStep xs ≡ map lentStep (map exportedStep xs)
+steps-same [] = refl
+steps-same (x ∷ xs) = ap (λ (ys : List (Step (index small))). promiseStep x ∷ ys) (steps-same xs)
+
+-- the promise: from a start, with no format cut, the refusals and the values told are the plain store's, and after each call the image means its K and G
+pub exported-promise : (K : Table) (G : ℕ) (m : Memory) (i : List ℕ) (xs : List Exported) → Started small (index small) K G (stateFrom (partsIn m)) i
+    → RunsExported (Only (index small) (stateFrom (partsIn m))) i xs → Uncut (index small) (map promiseStep xs)
+    → AgreesTold (starts small (index small) K G i) i xs
+exported-promise K G m i xs s r u =
+    agrees-told (starts small (index small) K G i) i xs
+    (lent-promise K G (partsIn m) i (map exportedStep xs) s (exported-runs (Only (index small) (stateFrom (partsIn m))) i xs r) (subst (Uncut (index small)) (steps-same xs) u))

@@ -1,0 +1,125 @@
+-- The survey of blocks: what the marks leave is the list of unused blocks, and that list is the one of the plan. Assumes nothing.
+use mathlib.Core.Path.{_≡_, refl, sym, ap, ap₂, _∙_}
+use mathlib.Core.Bool.{Bool, true, false, _||_, not}
+use mathlib.Core.List.{List, [], _∷_, _++_, reverse, reverseAux}
+use Prim.Native.Nat.{ℕ, suc, _+_, _-_, _*_, _<_, _≤_}
+use native.Mathlib.Numerals.{add-one}
+use native.Mathlib.Omega.{arith}
+use lib.ListN.{length, take, getD}
+use lib.Seq.{take-take}
+use Rattle.lists.specs.Lists.{filter, any}
+use Rattle.lists.proofs.Alls.{All-map, All-take, All-filter}
+use Rattle.lists.proofs.Filters.{filter-append}
+use Rattle.chip.specs.Geometry.{Geometry, small}
+use Rattle.chip.specs.Page.{Page}
+use Rattle.chip.specs.Chip.{inBlock, pagesOf}
+use Rattle.chip.proofs.ImageLaws.{length-pages}
+use Rattle.pages.specs.Steps.{Live, liveFrom}
+use Rattle.views.specs.Table.{Node, fresh}
+use Rattle.views.specs.Stored.{storedList, Stores}
+use Rattle.log.specs.Policy.{isListed, holdsCommit, isUsed, unused, countFrom, ring, headBlock, nodeAt}
+use Rattle.lists.proofs.Sets.{diff-filter, diff-take, filter-same}
+use Rattle.log.proofs.PlanBlocks.{ring-range, ring-diff}
+use Rattle.plan.specs.SurveyCode.{listedIn, usedIn, unusedIn, isUnmarked, Surveys, Marked, KeepsUnmarked}
+use Rattle.plan.specs.declared.survey.Surveyed.{Surveyed}
+use Rattle.plan.proofs.LastLaws.{head-on}
+use Rattle.plan.specs.PlacesCode.{Spare}
+
+-- ---- the order of a list is of no account to any
+any-reversed : {A : Type 0} (p : A → Bool) (xs ys : List A) → any p (reverseAux xs ys) ≡ (any p xs || any p ys)
+any-reversed p [] ys = refl
+any-reversed p (x ∷ xs) ys = any-reversed p xs (x ∷ ys) ∙ swap (p x) (any p xs) (any p ys)
+  where
+    swap : (a b d : Bool) → (b || (a || d)) ≡ ((a || b) || d)
+    swap true true d = refl
+    swap true false d = refl
+    swap false b d = refl
+
+pub any-reverse : {A : Type 0} (p : A → Bool) (xs : List A) → any p (reverse xs) ≡ any p xs
+any-reverse p xs = any-reversed p xs [] ∙ none (any p xs)
+  where
+    none : (a : Bool) → (a || false) ≡ a
+    none true = refl
+    none false = refl
+
+-- a test of the elements, by index
+any-from : {A : Type 0} (f : ℕ → Bool) (p : A → Bool) (d : A) (xs : List A) (k : ℕ)
+    → ((i : ℕ) → i < length xs → f (k + i) ≡ p (getD xs i d)) → any f (countFrom k (length xs)) ≡ any p xs
+any-from f p d [] k h = refl
+any-from f p d (x ∷ xs) k h =
+    let a : f k ≡ p x = ap f (let e : k ≡ k + 0 = omega arith in e) ∙ h 0 (omega arith) in
+    ap₂ _||_ a (any-from f p d xs (suc k) (λ i l. ap f (let e : suc k + i ≡ k + suc i = omega arith in e) ∙ h (suc i) (omega arith)))
+
+-- ---- the arrays hold the lists of the table tb
+module _ (g : Geometry) (limit : ℕ) (lens slots : List ℕ) (c : ℕ) (xs : List Live) (tb : List Node) (size : length tb ≡ limit)
+    (stores : (n : ℕ) → n < limit → Stores lens slots n (nodeAt tb n .pages)) (short : (n : ℕ) → n < limit → length (nodeAt tb n .pages) ≤ 4) where
+  listed-is : (b : ℕ) → listedIn g limit lens slots b ≡ isListed g tb b
+  listed-is b =
+      ap (λ (n : ℕ). any (λ (i : ℕ). any (inBlock g b) (storedList lens slots i)) (countFrom 0 n)) (sym size)
+      ∙ any-from (λ (i : ℕ). any (inBlock g b) (storedList lens slots i)) (λ (s : Node). any (inBlock g b) (s .pages)) fresh tb 0
+      (λ i l. let on : i < limit = omega arith in
+      let z : 0 + i ≡ i = omega arith in
+      ap (λ (j : ℕ). any (inBlock g b) (storedList lens slots j)) z
+      ∙ ap (any (inBlock g b)) (stores i on .pages (short i on)) ∙ any-reverse (inBlock g b) (nodeAt tb i .pages))
+
+  -- a block is used by the arrays where it is by the table
+  pub used-is : (b : ℕ) → usedIn g limit lens slots c xs b ≡ isUsed g tb c xs b
+  unfolding usedIn isUsed
+  used-is b = ap (λ (t : Bool). t || holdsCommit g c xs b) (listed-is b)
+
+  pub unused-is : (B head : ℕ) → unusedIn g B limit lens slots c xs head ≡ unused g B tb c xs head
+  unfolding unusedIn unused
+  unused-is B head = all-same (ring B head)
+    where
+      all-same : (bs : List ℕ) → filter (λ (b : ℕ). not (usedIn g limit lens slots c xs b)) bs ≡ filter (λ (b : ℕ). not (isUsed g tb c xs b)) bs
+      all-same [] = refl
+      all-same (b ∷ bs) = rw (used-is b, all-same bs)
+
+-- ---- the unused blocks are on the chip, no one is the head, no one stands twice
+pub unused-spare : (g : Geometry) (B limit : ℕ) (lens slots : List ℕ) (c : ℕ) (xs : List Live) (head : ℕ) → head < B
+    → Spare B head (unusedIn g B limit lens slots c xs head)
+unfolding unusedIn
+unused-spare g B limit lens slots c xs head h =
+    record {
+      range = All-filter (λ (b : ℕ). not (usedIn g limit lens slots c xs b)) (ring-range B head h);
+      differ = diff-filter (λ (b : ℕ). not (usedIn g limit lens slots c xs b)) (ring B head) (ring-diff B head);
+    }
+
+-- so are the first n
+pub spare-take : (B head n : ℕ) (bs : List ℕ) → Spare B head bs → Spare B head (take n bs)
+spare-take B head n bs s = record { range = All-take n (s .range); differ = diff-take n bs (s .differ) }
+
+-- ---- the survey
+-- the head of an image of B blocks
+pub survey-on : (B : ℕ) (image : List ℕ) → length image ≡ B * 16896 → 3 ≤ B → headBlock small (pagesOf small image) < B
+survey-on B image e h =
+    let l : length (pagesOf small image) ≡ B * 32 = length-pages small image ∙ omega arith in
+    head-on small B (pagesOf small image) (omega arith) (omega arith) l (omega (arith, l))
+
+-- the unmarked blocks are the unused ones
+pub unmarked-unused : (B limit : ℕ) (lens slots : List ℕ) (c : ℕ) (ps : List Page) (m : List ℕ) (head : ℕ) → head < B → B ≤ 32
+    → Marked limit lens slots c ps m → filter (isUnmarked m) (ring B head) ≡ unusedIn small B limit lens slots c (liveFrom small 0 ps) head
+unfolding unusedIn
+unmarked-unused B limit lens slots c ps m head h k a =
+    filter-same (isUnmarked m) (λ (b : ℕ). not (usedIn small limit lens slots c (liveFrom small 0 ps) b))
+    (All-map (λ b r. a .are b (omega (arith, r .0))) (ring-range B head h))
+
+-- the two halves of the ring
+pub ring-halves : (m : List ℕ) (B head : ℕ) (r₀ r₁ r₂ : List ℕ) (n k : ℕ) → KeepsUnmarked m (head + 1) (B - (head + 1)) r₀ r₁ 0 n → KeepsUnmarked m 0 (head - 0) r₁ r₂ n k
+    → take k r₂ ≡ filter (isUnmarked m) (ring B head)
+ring-halves m B head r₀ r₁ r₂ n k a b =
+    let z : head - 0 ≡ head = omega arith in
+    b .list
+    ∙ ap₂ (λ (l : List ℕ) (i : ℕ). l ++ filter (isUnmarked m) (countFrom 0 i))
+    (a .list ∙ ap (λ (i : ℕ). filter (isUnmarked m) (countFrom i (B - i))) (add-one head)) z
+    ∙ sym (filter-append (isUnmarked m) (countFrom (suc head) (B - suc head)) (countFrom 0 head))
+
+-- ---- what a survey tells of the first w blocks that it wrote
+module _ {B limit : ℕ} {lens slots : List ℕ} {c : ℕ} {ps : List Page} {blocks : List ℕ} {r : Surveyed} (s : Surveys B limit lens slots c ps blocks r) (w : ℕ) (h : w ≤ r .unused) where
+  pub survey-take : take w blocks ≡ take w (unusedIn small B limit lens slots c (liveFrom small 0 ps) (r .head))
+  survey-take = sym (take-take w (r .unused) blocks h) ∙ ap (take w) (s .list)
+
+  pub survey-spare : Spare B (r .head) (take w blocks)
+  survey-spare =
+      let us : List ℕ = unusedIn small B limit lens slots c (liveFrom small 0 ps) (r .head) in
+      rw survey-take (spare-take B (r .head) w us (unused-spare small B limit lens slots c (liveFrom small 0 ps) (r .head) (s .on)))

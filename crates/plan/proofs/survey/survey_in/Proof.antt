@@ -1,0 +1,81 @@
+use mathlib.Core.Path.{sym, ap, _∙_}
+use Prim.Native.Nat.{_<_}
+use native.Mathlib.Omega.{arith}
+use lib.ListN.{length}
+use lib.Seq.{length-take-le}
+use Rattle.chip.specs.Geometry.{small}
+use Rattle.chip.specs.Chip.{pagesOf}
+use Rattle.plan.proofs.SurveyLaws.{survey-on, unmarked-unused}
+use borrow.Author.Needs.{needs}
+use Rattle.plan.proofs.survey.survey_in.Statement.{statement}
+use Rattle.plan.proofs.survey.survey_in.Tie as tie
+use Rattle.plan.proofs.survey.survey_in.Reads as reads
+use Rattle.plan.proofs.survey.survey_in.Lts as lts
+use Rattle.plan.proofs.survey.free_of.Reads as free-of-reads
+use Rattle.plan.proofs.survey.list_unused.Reads as list-unused-reads
+use Rattle.plan.proofs.survey.mark_used.Reads as mark-used-reads
+
+-- src/survey.rt:235:61
+slice-aggregate-mark-used : tie.Need-slice-aggregate-mark-used
+slice-aggregate-mark-used c = search needs
+
+-- src/survey.rt:235:9
+mark-used-requires : tie.Need-mark-used-requires
+mark-used-requires c κs = search needs
+
+-- src/survey.rt:236:30
+slice-aggregate-list-unused : tie.Need-slice-aggregate-list-unused
+slice-aggregate-list-unused c = search needs
+
+-- src/survey.rt:236:9
+list-unused-requires : tie.Need-list-unused-requires
+list-unused-requires c κs =
+    let u = c .before .before .before in
+    let k = u .before .before .before .before .before .before in
+    let on : u .mark-used .result < k .args .blocks = rw (u .mark-used .ensures .0) (survey-on (k .args .blocks) (k .args .image .now) (k .pre .0) (k .pre .1)) in
+    (search needs, search needs, on, search needs)
+
+-- src/survey.rt:237:9
+free-of-requires : tie.Need-free-of-requires
+free-of-requires c κs =
+    let u = c .before .before .before .before .before .before in
+    let k = u .before .before .before .before .before .before in
+    let on : u .mark-used .result < k .args .blocks = rw (u .mark-used .ensures .0) (survey-on (k .args .blocks) (k .args .image .now) (k .pre .0) (k .pre .1)) in
+    (omega (arith, k .pre .0), omega (arith, k .pre .0))
+
+-- src/survey.rt:221:1
+same-length : tie.Need-same-length
+same-length c = search needs
+
+-- src/survey.rt:221:1
+returns : tie.Need-returns
+returns c =
+    let l = c .before .before .before in
+    let u = l .before .before .before .before in
+    let k = u .before .before .before .before .before .before in
+    let a = k .args in
+    let ps = pagesOf small (a .image .now) in
+    let head = u .mark-used .result in
+    let on : head < a .blocks = rw (u .mark-used .ensures .0) (survey-on (a .blocks) (a .image .now) (k .pre .0) (k .pre .1)) in
+    let list = l .list-unused .ensures .0 ∙ unmarked-unused (a .blocks) (a .limit) (a .lens .now) (a .slots .now) (a .commit) ps _ head on (k .pre .2) (u .mark-used .ensures .1) in
+    record {
+      head = u .mark-used .ensures .0;
+      on = on;
+      list = list;
+      size = sym (ap length list) ∙ length-take-le (l .list-unused .result) _ (omega (arith, l .list-unused .ensures .1, l .list-unused .ensures .2, k .pre .2));
+      few = l .list-unused .ensures .1;
+      free = c .free-of .ensures .0;
+      most = c .free-of .ensures .1;
+    }
+
+pub survey-in-spec : {M : Type 1} → statement M
+survey-in-spec =
+    tie.close
+    (tie.spec
+    slice-aggregate-mark-used
+    mark-used-requires
+    slice-aggregate-list-unused
+    list-unused-requires
+    free-of-requires
+    same-length
+    returns)

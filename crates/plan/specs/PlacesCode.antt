@@ -1,0 +1,42 @@
+-- How the code of places.rt lists the places of a commit's pages, and the blocks to erase before they are written.
+use mathlib.Core.Path.{_≡_}
+use mathlib.Core.Bool.{cond, _&&_, not}
+use mathlib.Core.List.{List, [], _∷_}
+use Prim.Native.Nat.{ℕ, _-_, _*_, _<_, _≤_}
+use lib.Dec.{ltb}
+use lib.ListN.{take}
+use Rattle.lists.specs.Lists.{all, All, Diff}
+use Rattle.chip.specs.Geometry.{Geometry, small}
+use Rattle.chip.specs.Page.{Page}
+use Rattle.log.specs.Policy.{freeAt, pagesIn, places, erases}
+
+-- ---- parts of a plan under names that stay closed in contracts
+-- the first n places on the head and on the blocks bs
+unfoldable pub firstPlaces : Geometry → List Page → ℕ → List ℕ → ℕ → List ℕ
+firstPlaces g ps head bs n = take n (places g ps head bs)
+
+-- the blocks of bs to erase before the first n places are written
+unfoldable pub firstErases : Geometry → List Page → ℕ → List ℕ → ℕ → List ℕ
+firstErases g ps head bs n = erases g ps (take n (places g ps head bs)) bs
+
+-- the erases of a plan in one walk over the blocks; left: places still to be reached
+abbrev pub erasesFrom : Geometry → List Page → ℕ → List ℕ → List ℕ
+erasesFrom g ps left [] = []
+erasesFrom g ps left (b ∷ bs) =
+    cond (ltb 0 left && not (all (freeAt ps) (pagesIn g b))) (b ∷ erasesFrom g ps (left - g .pages) bs) (erasesFrom g ps (left - g .pages) bs)
+
+-- ---- blocks that a commit may write: on the chip, not the head, no one twice
+pub record Spare (B head : ℕ) (bs : List ℕ) : Type 0 where
+  pub range : All (λ (b : ℕ). (b < B) × (b ≡ head → ⊥)) bs
+  pub differ : Diff bs
+
+-- the first n places on the head and on the first w blocks, written
+pub record Lays (B head w n : ℕ) (ps : List Page) (blocks after : List ℕ) : Type 0 where
+  pub list : take n after ≡ firstPlaces small ps head (take w blocks) n
+  pub on : All (λ (p : ℕ). p < B * 32) (take n after)
+
+-- the blocks to erase before those places are written
+pub record LaysErases (B head w n : ℕ) (ps : List Page) (blocks after : List ℕ) (r : ℕ) : Type 0 where
+  pub most : r ≤ w
+  pub list : take r after ≡ firstErases small ps head (take w blocks) n
+  pub on : All (λ (b : ℕ). b < B) (take r after)

@@ -1,0 +1,52 @@
+-- Lists in parts, and what holds at a place of a list. Assumes nothing.
+use mathlib.Core.Path.{_≡_, refl}
+use mathlib.Core.Bool.{true}
+use mathlib.Core.List.{List, [], _∷_, _++_}
+use Prim.Native.Nat.{ℕ}
+use Rattle.lists.proofs.Tests.{clash}
+use Rattle.chip.specs.Geometry.{Geometry}
+use Rattle.tree.specs.Tree.{Table}
+use Rattle.promise.specs.Plain.{Plain}
+use Rattle.promise.specs.Calls.{Store}
+use Rattle.promise.specs.Steps.{Step, Only, Hands, lastHands, lastImage, Uncut, Takes, Runs, starts, next, lastPlain, answerTo, Agrees}
+use Rattle.promise.specs.History.{History, nextHistory, lastHistory, AllLawful}
+use Rattle.promise.specs.Promise.{Course}
+use Rattle.promise.proofs.Promise.{Carried, one-call, started, agrees}
+
+module _ (g : Geometry) (S : Store) where
+  pub agrees-split : (xs ys : List (Step S)) (p : Plain) (i : S .Image) → Agrees g S p i (xs ++ ys)
+      → Agrees g S p i xs × Agrees g S (lastPlain g S p i xs) (lastImage S i xs) ys
+  agrees-split [] ys p i h = (tt, h)
+  agrees-split (x ∷ xs) ys p i h = let r = agrees-split xs ys (next g S p i x) (x .image) (h .2) in ((h .0, h .1, r .0), r .1)
+
+  pub history-split : (xs ys : List (Step S)) (p : Plain) (i : S .Image) (l : History)
+      → lastHistory g S p i (xs ++ ys) l ≡ lastHistory g S (lastPlain g S p i xs) (lastImage S i xs) ys (lastHistory g S p i xs l)
+  history-split [] ys p i l = refl
+  history-split (x ∷ xs) ys p i l = history-split xs ys (next g S p i x) (x .image) (nextHistory g S p i x l)
+
+  pub lawful-split : (xs ys : List (Step S)) → AllLawful S (xs ++ ys) → AllLawful S xs × AllLawful S ys
+  lawful-split [] ys h = (tt, h)
+  lawful-split (x ∷ xs) ys h = let r = lawful-split xs ys (h .1) in ((h .0, r .0), r .1)
+
+  -- a place of a list: the plain store there is carried by a state at hand, and the step is taken from it
+  pub record Place (p : Plain) (H : S .State → Type 0) (i : S .Image) (x : Step S) : Type 0 where
+    pub carried : Carried g S true p H i
+    pub takes : Takes g S H i x
+
+  place-by : (xs ys : List (Step S)) (x : Step S) (p : Plain) (H : S .State → Type 0) (i : S .Image) → Carried g S true p H i → Runs g S H i (xs ++ (x ∷ ys))
+      → Uncut S (xs ++ (x ∷ ys)) → Place (lastPlain g S p i xs) (lastHands S H xs) (lastImage S i xs) x
+  place-by [] ys x p H i v r u = record { carried = v; takes = r .0 }
+  place-by (y ∷ xs) ys x p H i v r u =
+      place-by xs ys x (next g S p i y) (Hands S H y) (y .image) (one-call g S true p H i y v (r .0) (u .0) (λ b. clash refl b) .inv) (r .1) (u .1)
+
+  module _ (K : Table) (G : ℕ) (s : S .State) (i : S .Image) where
+    -- the promise
+    pub promise : (xs : List (Step S)) → Course g S K G s i xs → Agrees g S (starts g S K G i) i xs
+    promise xs c = agrees g S true xs (starts g S K G i) (Only S s) i (started g S K G s i (c .started)) (c .runs) (c .uncut) (λ b. clash refl b)
+
+    module _ (xs ys : List (Step S)) (x : Step S) (c : Course g S K G s i (xs ++ (x ∷ ys))) where
+      pub place : Place (lastPlain g S (starts g S K G i) i xs) (lastHands S (Only S s) xs) (lastImage S i xs) x
+      place = place-by xs ys x (starts g S K G i) (Only S s) i (started g S K G s i (c .started)) (c .runs) (c .uncut)
+
+      pub answer-at : x .answer ≡ answerTo g S (lastPlain g S (starts g S K G i) i xs) x
+      answer-at = agrees-split xs (x ∷ ys) (starts g S K G i) i (promise (xs ++ (x ∷ ys)) c) .1 .0

@@ -1,0 +1,148 @@
+-- The promise about lists of calls: what it says of every store whose calls meet their contracts. The proofs are in proofs/.
+use mathlib.Core.Path.{_≡_}
+use mathlib.Core.Logic.{_⊎_}
+use mathlib.Core.Bool.{true, false, cond}
+use mathlib.Core.List.{List, [], _∷_, _++_, map}
+use Prim.Native.Nat.{ℕ, _<_, _≤_}
+use lib.ListN.{length}
+use Rattle.chip.specs.Geometry.{Geometry, blocksOf}
+use Rattle.tree.specs.Tree.{Table, find}
+use Rattle.tree.specs.Step6.{top}
+use Rattle.promise.specs.Plain.{Answer, refuses, accepted, lookedUp, Plain, lastNumber, plainRun, cuts, enoughWrites, enoughMarks}
+use Rattle.promise.specs.Calls.{Store, stateOf}
+use Rattle.promise.specs.Steps.{format, commit, mount, lookUp, Step, Only, lastImage, counts, feeds, choices, seen, expected, boots, Uncut, NoFormat, Unstuck, Runs, Started, Mounted, starts, next, lastPlain, Agrees, promised, AgreesAny}
+use Rattle.promise.specs.History.{TreeOf, valueOf, Silent, History, begun, dropped, lastHistory, since, AllLawful}
+
+-- ---- which refusals a call of a list can have, where the plain store before it is p
+pub data FormatRefusal (n : ℕ) : ℕ → Type 0 where
+  format1 : FormatRefusal n 1
+  format10 : n < enoughWrites → FormatRefusal n 10
+
+pub data MountRefusal (n : ℕ) : ℕ → Type 0 where
+  mount1 : MountRefusal n 1
+  mount10 : n < enoughMarks → MountRefusal n 10
+
+pub data CommitRefusal (p : Plain) (n : ℕ) : ℕ → Type 0 where
+  commit2 : p .on ≡ false → CommitRefusal p n 2
+  commit1 : CommitRefusal p n 1
+  commit6 : 0 < p .pending → p .number ≡ lastNumber → CommitRefusal p n 6
+  commit10 : 0 < p .pending → n < enoughWrites → CommitRefusal p n 10
+
+module _ (g : Geometry) (S : Store) where
+  -- ---- a list of the promise: from a start, with no format cut
+  pub record Course (K : Table) (G : ℕ) (s : S .State) (i : S .Image) (xs : List (Step S)) : Type 0 where
+    pub started : Started g S K G s i
+    pub runs : Runs g S (Only S s) i xs
+    pub uncut : Uncut S xs
+
+  -- every answer is the plain store's, and after each call the image means its K and G
+  abbrev pub Promise : Type 0
+  Promise = (K : Table) (G : ℕ) (s : S .State) (i : S .Image) (xs : List (Step S)) → Course K G s i xs → Agrees g S (starts g S K G i) i xs
+
+  -- in one claim: with one choice for each cut commit, read off the image at the cut, all answers and meanings are the plain store's
+  abbrev pub OneClaim : Type 0
+  OneClaim = (K : Table) (G : ℕ) (s : S .State) (i : S .Image) (xs : List (Step S)) → Course K G s i xs
+      → (length (choices S i xs) ≡ cuts (feeds S xs)) × (map (seen S) xs ≡ map expected (plainRun g (starts g S K G i) (choices S i xs) (feeds S xs)))
+
+  -- a choice depends on nothing that comes later
+  abbrev pub ChosenThen : Type 0
+  ChosenThen = (xs ys : List (Step S)) (i : S .Image) → choices S i (xs ++ ys) ≡ choices S i xs ++ choices S (lastImage S i xs) ys
+
+  -- formats may be cut: nothing is promised from there to the next finished one
+  abbrev pub PromiseAny : Type 0
+  PromiseAny = (K : Table) (G : ℕ) (s : S .State) (i : S .Image) (xs : List (Step S)) → Started g S K G s i → Runs g S (Only S s) i xs
+      → AgreesAny g S (promised (starts g S K G i)) i xs
+
+  -- from any mounted chip, room or not: the same, as long as no commit answers 6 before the last number
+  abbrev pub PromiseForeign : Type 0
+  PromiseForeign = (K : Table) (G : ℕ) (s : S .State) (i : S .Image) (xs : List (Step S)) → Mounted g S K G s i → Runs g S (Only S s) i xs → Uncut S xs → Unstuck S xs
+      → Agrees g S (starts g S K G i) i xs
+
+  -- ---- at any place x of a list
+  module _ (K : Table) (G : ℕ) (i : S .Image) (xs : List (Step S)) where
+    -- the plain store and the history before it
+    abbrev pub plainAt : Plain
+    plainAt = lastPlain g S (starts g S K G i) i xs
+
+    abbrev pub historyAt : History
+    historyAt = lastHistory g S (starts g S K G i) i xs (begun K)
+
+  -- where the store is on, the state that a call gets is one that calls gave for the one image, which has room, and means the plain store
+  abbrev pub GoodAt : Type 0
+  GoodAt = (K : Table) (G : ℕ) (s : S .State) (i : S .Image) (xs ys : List (Step S)) (x : Step S) → Course K G s i (xs ++ (x ∷ ys)) → boots (x .act) ≡ false
+      → plainAt K G i xs .on ≡ true → (stateOf S (x .given) (lastImage S i xs) ≡ plainAt K G i xs) × S .Good (x .given) (lastImage S i xs) × S .Room (lastImage S i xs)
+
+  -- a commit is refused with 2, 1, 6 or 10 only, and 10 means too small an allowance; a mount never with 7, 8 or 9
+  abbrev pub CommitRefused : Type 0
+  CommitRefused = (K : Table) (G : ℕ) (s : S .State) (i : S .Image) (xs ys : List (Step S)) (x : Step S) → Course K G s i (xs ++ (x ∷ ys))
+      → (n m : ℕ) (torn : List ℕ) → x .act ≡ commit n torn → x .answer ≡ refuses m → CommitRefusal (plainAt K G i xs) n m
+
+  abbrev pub MountRefused : Type 0
+  MountRefused = (K : Table) (G : ℕ) (s : S .State) (i : S .Image) (xs ys : List (Step S)) (x : Step S) → Course K G s i (xs ++ (x ∷ ys))
+      → (n m : ℕ) (torn : List ℕ) → x .act ≡ mount n torn → x .answer ≡ refuses m → MountRefusal n m
+
+  abbrev pub FormatRefused : Type 0
+  FormatRefused = (K : Table) (G : ℕ) (s : S .State) (i : S .Image) (xs ys : List (Step S)) (x : Step S) → Course K G s i (xs ++ (x ∷ ys))
+      → (n m : ℕ) (torn : List ℕ) → x .act ≡ format n torn → x .answer ≡ refuses m → FormatRefusal n m
+
+  -- the operations of a commit that is accepted or cut: never more than the most, which is 2,000 or less, and never cut for want of room
+  pub record CommitPower (n : ℕ) (s : S .State) (i : S .Image) (a : Answer) (ops : ℕ) : Type 0 where
+    pub few : S .commitCount s i ≤ S .most
+    pub finished : a ≡ accepted → (S .commitCount s i ≤ n) × (ops ≡ S .commitCount s i)
+    pub short : a ≡ refuses 10 → (n < S .commitCount s i) × (ops ≡ n)
+
+  abbrev pub CommitPowered : Type 0
+  CommitPowered = (K : Table) (G : ℕ) (s : S .State) (i : S .Image) (xs ys : List (Step S)) (x : Step S) → Course K G s i (xs ++ (x ∷ ys))
+      → (n : ℕ) (torn : List ℕ) → x .act ≡ commit n torn → (x .answer ≡ accepted) ⊎ (x .answer ≡ refuses 10) → CommitPower n (x .given) (lastImage S i xs) (x .answer) (x .ops)
+
+  -- ---- what is kept. A finished commit keeps P; a cut one P or K, by its choice
+  pub record CommitGives (a : Answer) (x : Step S) : Type 0 where
+    pub allowance : ℕ
+    pub torn : List ℕ
+    pub act : x .act ≡ commit allowance torn
+    pub answer : x .answer ≡ a
+
+  pub record FinishedMount (x : Step S) : Type 0 where
+    pub allowance : ℕ
+    pub torn : List ℕ
+    pub act : x .act ≡ mount allowance torn
+    pub answer : x .answer ≡ accepted
+
+  pub record LooksUp (k : ℕ) (x : Step S) : Type 0 where
+    pub act : x .act ≡ lookUp k
+    pub lent : x .answer ≡ refuses 1 → ⊥
+
+  -- a look up, refused with neither 2 nor 1, tells what the newest accepted update that speaks of its key says, kept or pending
+  abbrev pub LookUpTells : Type 0
+  LookUpTells = (K : Table) (G : ℕ) (s : S .State) (i : S .Image) (xs ys : List (Step S)) (x : Step S) → Course K G s i (xs ++ (x ∷ ys))
+      → TreeOf (blocksOf g (S .size i)) K → AllLawful S (xs ++ (x ∷ ys)) → (k : ℕ) → k < top → LooksUp k x → (x .answer ≡ refuses 2 → ⊥)
+      → x .answer ≡ lookedUp (valueOf k (historyAt K G i xs .base) (historyAt K G i xs .pending ++ historyAt K G i xs .kept))
+
+  -- a commit x, calls ys without a finished format, a look up w on a store that is on: no update speaks of the key that commits of ys kept,
+  -- or that is pending then. Refused updates do not count, nor do those that a mount or a cut dropped (`MountDrops`)
+  pub record Later (K : Table) (G : ℕ) (s : S .State) (i : S .Image) (xs ys vs : List (Step S)) (x w : Step S) (k : ℕ) : Type 0 where
+    pub course : Course K G s i (xs ++ (x ∷ (ys ++ (w ∷ vs))))
+    pub tree : TreeOf (blocksOf g (S .size i)) K
+    pub lawful : AllLawful S (xs ++ (x ∷ (ys ++ (w ∷ vs))))
+    pub unformatted : NoFormat S ys
+    pub key : k < top
+    pub looks : LooksUp k w
+    pub on : w .answer ≡ refuses 2 → ⊥
+    pub keptSince : Silent k (since g S (next g S (plainAt K G i xs) (lastImage S i xs) x) (x .image) ys .kept)
+    pub pendingSince : Silent k (since g S (next g S (plainAt K G i xs) (lastImage S i xs) x) (x .image) ys .pending)
+
+  -- what a finished commit kept is found until a finished format
+  abbrev pub Durable : Type 0
+  Durable = (K : Table) (G : ℕ) (s : S .State) (i : S .Image) (xs ys vs : List (Step S)) (x w : Step S) (k : ℕ)
+      → Later K G s i xs ys vs x w k → CommitGives accepted x → w .answer ≡ lookedUp (find k (plainAt K G i xs .present))
+
+  -- and so is what a cut commit kept: its choice holds
+  abbrev pub ChoiceHolds : Type 0
+  ChoiceHolds = (K : Table) (G : ℕ) (s : S .State) (i : S .Image) (xs ys vs : List (Step S)) (x w : Step S) (k : ℕ)
+      → Later K G s i xs ys vs x w k → CommitGives (refuses 10) x
+      → w .answer ≡ lookedUp (find k (cond (counts S (lastImage S i xs) (x .image)) (plainAt K G i xs .present) (plainAt K G i xs .kept)))
+
+  -- a finished mount z drops what is pending: only what commits kept counts
+  abbrev pub MountDrops : Type 0
+  MountDrops = (p : Plain) (i : S .Image) (ys : List (Step S)) (z : Step S) → Agrees g S p i (ys ++ (z ∷ [])) → FinishedMount z
+      → since g S p i (ys ++ (z ∷ [])) ≡ dropped (since g S p i ys)

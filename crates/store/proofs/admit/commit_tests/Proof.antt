@@ -1,0 +1,92 @@
+use mathlib.Core.Path.{refl, sym, ap, _∙_}
+use native.Mathlib.Omega.{arith}
+use Rattle.store.specs.AdmitCode.{admitNumber}
+use Rattle.store.proofs.CommitTests.{commit-first, commit-torn, commit-idles, commit-last, commit-passes}
+use borrow.Author.Needs.{needs}
+use Rattle.store.proofs.admit.commit_tests.Statement.{statement}
+use Rattle.store.proofs.admit.commit_tests.Tie as tie
+use Rattle.store.proofs.admit.commit_tests.Reads as reads
+use Rattle.store.proofs.admit.commit_tests.Lts as lts
+use Rattle.store.proofs.admit.admit.Reads as admit-reads
+
+-- src/admit.rt:66:11
+admit-requires : tie.Need-admit-requires
+admit-requires c κs = search needs
+
+-- src/admit.rt:67:27
+enum-told : tie.Need-enum-told
+enum-told c = search needs
+
+-- src/admit.rt:68:28
+enum-told-2 : tie.Need-enum-told-2
+enum-told-2 c = search needs
+
+-- src/admit.rt:70:16
+enum-told-3 : tie.Need-enum-told-3
+enum-told-3 c = search needs
+
+-- src/admit.rt:71:17
+returns : tie.Need-returns
+returns c =
+    let k = c .before in
+    let m = k .before .before in
+    let a = m .before .args in
+    commit-torn (a .numbers .on) (a .numbers .blocks) (a .numbers .pending) (a .numbers .commit) (a .len) (a .torn) 0 (sym (ap admitNumber (k .enum-told3 .given .1)) ∙ m .admit .ensures .number) refl (c .if1 .taken)
+
+-- src/admit.rt:74:17
+returns-2 : tie.Need-returns-2
+returns-2 c =
+    let o = c .before .before in
+    let k = o .before in
+    let m = k .before .before in
+    let a = m .before .args in
+    commit-idles (a .numbers .on) (a .numbers .blocks) (a .numbers .pending) (a .numbers .commit) (a .len) (a .torn) 0 (sym (ap admitNumber (k .enum-told3 .given .1)) ∙ m .admit .ensures .number) refl (omega (arith, o .if1 .left)) (omega (arith, c .if2 .taken))
+
+-- src/admit.rt:63:1
+returns-3 : tie.Need-returns-3
+returns-3 c =
+    let m = c .before .before in
+    let a = m .before .args in
+    commit-first (a .numbers .on) (a .numbers .blocks) (a .numbers .pending) (a .numbers .commit) (a .len) (a .torn) 2 (sym (ap admitNumber (c .enum-told .given .1)) ∙ m .admit .ensures .number) (omega arith)
+
+-- src/admit.rt:63:1
+returns-4 : tie.Need-returns-4
+returns-4 c =
+    let m = c .before .before in
+    let a = m .before .args in
+    commit-first (a .numbers .on) (a .numbers .blocks) (a .numbers .pending) (a .numbers .commit) (a .len) (a .torn) 1 (sym (ap admitNumber (c .enum-told2 .given .1)) ∙ m .admit .ensures .number) (omega arith)
+
+-- src/admit.rt:63:1
+returns-5 : tie.Need-returns-5
+returns-5 c =
+    let j = c .before .before in
+    let o = j .before .before in
+    let k = o .before in
+    let m = k .before .before in
+    let a = m .before .args in
+    commit-last (a .numbers .on) (a .numbers .blocks) (a .numbers .pending) (a .numbers .commit) (a .len) (a .torn) 0 (sym (ap admitNumber (k .enum-told3 .given .1)) ∙ m .admit .ensures .number) refl (omega (arith, o .if1 .left)) (omega (arith, j .if2 .left)) (omega (arith, c .if3 .taken)) (search needs)
+
+-- src/admit.rt:63:1
+returns-6 : tie.Need-returns-6
+returns-6 c =
+    let j = c .before .before in
+    let o = j .before .before in
+    let k = o .before in
+    let m = k .before .before in
+    let a = m .before .args in
+    commit-passes (a .numbers .on) (a .numbers .blocks) (a .numbers .pending) (a .numbers .commit) (a .len) (a .torn) 0 (sym (ap admitNumber (k .enum-told3 .given .1)) ∙ m .admit .ensures .number) refl (omega (arith, o .if1 .left)) (omega (arith, j .if2 .left)) (omega (arith, c .if3 .left))
+
+pub commit-tests-spec : {M : Type 1} → statement M
+commit-tests-spec =
+    tie.close
+    (tie.spec
+    admit-requires
+    enum-told
+    enum-told-2
+    enum-told-3
+    returns
+    returns-2
+    returns-3
+    returns-4
+    returns-5
+    returns-6)

@@ -1,0 +1,47 @@
+-- The first tests of the calls: what the functions that do them answer.
+use mathlib.Core.Path.{_≡_}
+use mathlib.Core.Bool.{Bool, cond}
+use Prim.Native.Nat.{ℕ, zero, suc, _*_, _≤_, _<_}
+use lib.Dec.{leb}
+use Rattle.chip.specs.Geometry.{Geometry, small, blocksOf}
+use Rattle.promise.specs.Plain.{Answer, refuses, accepted, orElse, when, admission, commits, firstRefusal, numbersRefusal, isTornSize}
+use Rattle.store.specs.declared.admit.Admission.{Admission}
+use Rattle.store.specs.declared.admit.Admission.the-variants.{Passes, Off, Size}
+
+-- the number of the refusal, 0 for none
+abbrev pub admitNumber : Admission → ℕ
+admitNumber Passes = 0
+admitNumber Off = 2
+admitNumber Size = 1
+
+-- an image of a chip with b blocks
+pub record ChipOf (b len : ℕ) : Type 0 where
+  pub blocks : b ≡ blocksOf small len
+  pub least : 3 ≤ b
+  pub most : b ≤ 32
+  pub size : len ≡ b * 16896
+
+-- of a call on a state with this `on` and these blocks, and an image of this length
+pub record Admitted (on : Bool) (b len : ℕ) (r : Admission) : Type 0 where
+  pub number : admitNumber r ≡ admission small on b len
+  pub chip : r ≡ Passes → ChipOf b len
+
+-- ---- the tests on the state's numbers: the refusal, 0 for none
+-- of insert and delete, 2, 1 and 3
+abbrev pub updateTests : Geometry → Bool → (B pending len : ℕ) → ℕ
+updateTests g on B pending len = orElse (admission g on B len) (when 3 (leb 16 pending))
+
+-- of commit, 2, 1 and 6
+abbrev pub commitTests : Geometry → Bool → (B pending number len torn : ℕ) → ℕ
+commitTests g on B pending number len torn = orElse (firstRefusal g on B (commits 0 len torn)) (numbersRefusal pending number (commits 0 len torn))
+
+-- a refusal's number as an answer, 0 as accepted
+abbrev pub answerFor : ℕ → Answer
+answerFor zero = accepted
+answerFor (suc n) = refuses (suc n)
+
+-- of an image and a torn slice of these lengths
+pub record Sized (len slice b : ℕ) : Type 0 where
+  pub is : b ≡ cond (isTornSize small slice) (blocksOf small len) 0
+  pub torn : 0 < b → slice ≡ 528
+  pub chip : 0 < b → ChipOf b len

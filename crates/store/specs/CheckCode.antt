@@ -1,0 +1,91 @@
+-- What the code that checks an image answers.
+use mathlib.Core.Path.{_≡_}
+use mathlib.Core.Bool.{Bool, true, false, cond, _&&_}
+use mathlib.Core.List.{List, [], map}
+use Prim.Native.Nat.{ℕ, _*_, _-_, _/_, _<_}
+use lib.Dec.{eqb}
+use lib.ListN.{length, getD}
+use Rattle.lists.specs.Lists.{all}
+use Rattle.chip.specs.Geometry.{small, blocksOf}
+use Rattle.chip.specs.Page.{Page}
+use Rattle.chip.specs.Chip.{Op, pagesOf}
+use Rattle.pages.specs.Steps.{Live, stand, steps}
+use Rattle.pages.specs.KeyCode.{keyOf}
+use Rattle.views.specs.Table as Views
+use Rattle.views.specs.Table.{Node, events, table, nodeOf, isSound, isWell}
+use Rattle.views.specs.Stored.{Stores}
+use Rattle.log.specs.Mount.{mountOps}
+use Rattle.log.specs.Policy.{nodeAt}
+use Rattle.promise.specs.Calls.{invalid}
+use Rattle.promise.specs.Image.{viewsOf, imageMeaning}
+use Rattle.tree.specs.Step6.{step6}
+use Rattle.log.specs.MountCode.{retireOps}
+use Rattle.store.specs.declared.check.Judged.{Judged}
+use Rattle.store.specs.declared.check.Judged.the-variants as J
+use Rattle.store.specs.declared.check.Checked.{Checked}
+use Rattle.store.specs.declared.check.Checked.the-variants.{Blank, Layout, Shape, Means}
+
+-- ---- steps 4 to 6 on the standing pages xs
+-- steps 4 and 5 pass
+abbrev pub isRead : ℕ → List Live → Bool
+isRead limit xs = all isSound (events limit xs) && all isWell (table limit (events limit xs))
+
+-- step 6 passes
+abbrev pub isTree : ℕ → List Live → Bool
+isTree limit xs = step6 (viewsOf (table limit (events limit xs)))
+
+-- all pass, and the arrays hold the list of every node
+pub record Passed (limit : ℕ) (xs : List Live) (lens slots : List ℕ) : Type 0 where
+  pub read : isRead limit xs ≡ true
+  pub tree : isTree limit xs ≡ true
+  pub lists : (n : ℕ) → n < 256 → Stores lens slots n (nodeOf n (events limit xs) .pages)
+
+-- the answer says what they say
+abbrev pub Judges : ℕ → List Live → List ℕ → List ℕ → Judged → Type 0
+Judges limit xs lens slots J.Layout = isRead limit xs ≡ false
+Judges limit xs lens slots J.Shape = (isRead limit xs ≡ true) × (isTree limit xs ≡ false)
+Judges limit xs lens slots J.Tree = Passed limit xs lens slots
+
+-- for keys that are those of the standing pages of the image
+abbrev pub JudgesKeys : List ℕ → List ℕ → ℕ → List ℕ → List ℕ → Judged → Type 0
+JudgesKeys image keys limit lens slots r =
+    (v xs : List Live) → steps small (pagesOf small image) ≡ stand v xs → keys ≡ map keyOf xs → Judges limit xs lens slots r
+
+-- ---- the commit numbers of keys in order, of which the last `voids` are those of the void pages
+-- the commit number of the key at index j
+abbrev pub commitAt : List ℕ → ℕ → ℕ
+commitAt order j = getD order j 0 / 67108864
+
+-- of the last standing page and of the last void page, 0 where there is none
+abbrev pub meansBy : List ℕ → ℕ → Checked
+meansBy order voids = Means (commitAt order (1023 - voids)) (cond (eqb voids 0) 0 (commitAt order 1023))
+
+-- a page stands, and both are commit numbers of 32 bits
+pub record Numbered (order : List ℕ) (voids : ℕ) : Type 0 where
+  pub few : voids < 1024
+  pub last : commitAt order (1023 - voids) < 4294967296
+  pub end : commitAt order 1023 < 4294967296
+
+-- ---- steps 1 to 6
+-- what steps 1 to 3 refuse, with 7 or 8
+abbrev pub refusedBy : ℕ → Checked
+refusedBy n = cond (eqb n 7) Blank Layout
+
+-- the marks of a mount where the void pages are those of commit v, none for 0
+abbrev pub marksOf : ℕ → List Page → List Op
+marksOf v ps = cond (eqb v 0) [] (retireOps small v ps)
+
+-- the image means these nodes and this number; the arrays hold their lists; the void pages are those of commit v, none for 0
+pub record Read (image lens slots : List ℕ) (G v : ℕ) : Type 0 where
+  pub nodes : List Node
+  pub means : Views.meaning small (8 * blocksOf small (length image)) (pagesOf small image) ≡ Views.means nodes G
+  pub tree : step6 (viewsOf nodes) ≡ true
+  pub lists : (n : ℕ) → n < 8 * blocksOf small (length image) → Stores lens slots n (nodeAt nodes n .pages)
+  pub marks : mountOps small (pagesOf small image) ≡ marksOf v (pagesOf small image)
+
+-- the answer says what the image means
+abbrev pub Checks : List ℕ → List ℕ → List ℕ → Checked → Type 0
+Checks image lens slots Blank = imageMeaning small image ≡ invalid 7
+Checks image lens slots Layout = imageMeaning small image ≡ invalid 8
+Checks image lens slots Shape = imageMeaning small image ≡ invalid 9
+Checks image lens slots (Means G v) = Read image lens slots G v
