@@ -8,6 +8,7 @@ mod lmdb;
 mod others;
 mod profile;
 mod random;
+mod reference;
 mod report;
 mod sqlite;
 mod svg;
@@ -47,6 +48,7 @@ fn wear(events: usize, keep: bool) {
     let lines = wear::lines(events);
     let parts = [
         ("flash", wear::flash_table(&lines)),
+        ("commits", wear::commit_table(&lines)),
         ("stores", report::stores(&lines)),
         ("handed", wear::others_table(&lines, &|o| o.wchar)),
         ("sent", wear::others_table(&lines, &|o| o.write_bytes)),

@@ -86,6 +86,30 @@ pub fn flash_table(lines: &[Line]) -> String {
     out
 }
 
+/// The table of the commits: pages of one, erases for 1,000, the erases of the blocks, and the pages of the references.
+pub fn commit_table(lines: &[Line]) -> String {
+    let mut out = String::from(
+        "| Work | B | Pages a commit | Erases for 1,000 commits | Erases of a block, least and most | BFTL, pages a commit | A page for each changed node |\n\
+         |---|---|---|---|---|---|---|\n",
+    );
+    for l in lines {
+        let w = &l.wear;
+        let commits = w.commits as f64;
+        out += &format!(
+            "| {} | {} | {:.2} | {:.0} | {} to {} | {:.2} | {:.2} |\n",
+            w.work,
+            w.blocks,
+            w.pages as f64 / commits,
+            w.erases as f64 * 1000.0 / commits,
+            w.worn.iter().min().unwrap(),
+            w.worn.iter().max().unwrap(),
+            w.reference.bftl as f64 / commits,
+            w.reference.nodes as f64 / commits
+        );
+    }
+    out
+}
+
 /// Bytes for 1,000 events in thousands, and as pages of 512 bytes.
 fn told(bytes: f64) -> String {
     format!("{:.0} ({:.0})", bytes / 1000.0, bytes / SECTOR)

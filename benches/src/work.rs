@@ -1,7 +1,8 @@
 //! Workloads: lists of events that the index accepts, and what they wear off the flash.
 
-use crate::both::{Both, PENDING};
+use crate::both::{Both, BLOCK, DATA, PAGE, PENDING};
 use crate::random::Random;
+use crate::reference::Reference;
 
 /// An event; a format empties the store; `Measured` says that the tree is filled and that what follows is counted.
 #[derive(Clone, Copy, PartialEq, Eq, Debug)]
@@ -12,7 +13,8 @@ pub enum Event {
     Measured,
 }
 
-/// What a workload did: its events, and the pages programmed and blocks erased by those that count.
+/// What a workload did: its events; of those that count the pages programmed, the blocks erased, how often each block was, and the pages
+/// that the two references would write.
 pub struct Wear {
     pub work: &'static str,
     pub blocks: usize,
@@ -22,12 +24,20 @@ pub struct Wear {
     pub commits: usize,
     pub pages: u64,
     pub erases: u64,
+    pub worn: Vec<u64>,
+    pub reference: Reference,
 }
 
 pub const WORKS: [&str; 4] = ["rising keys, the oldest deleted", "random keys, full tree", "hot set of 10 keys", "mix with deletes"];
 
 /// How many keys stay with rising keys.
 const KEPT: u32 = 64;
+
+/// Whether a block was erased: a page of it that was used is not, or has other data.
+fn was_erased(before: &[u8], after: &[u8], block: usize) -> bool {
+    let pages = |image: &'_ [u8]| image[block * BLOCK..(block + 1) * BLOCK].chunks(PAGE).map(<[u8]>::to_vec).collect::<Vec<_>>();
+    pages(before).iter().zip(pages(after)).any(|(x, y)| x[DATA] == 0 && (y[DATA] != 0 || x[..DATA] != y[..DATA]))
+}
 
 /// A run of a workload: both stores, the keys in the tree, and what was done so far.
 struct Run {
@@ -43,11 +53,17 @@ impl Run {
         if self.both.pending == 0 {
             return;
         }
+        self.wear.reference.commit(self.both.twin.buffered());
+        let before = self.both.image.clone();
         let told = self.both.commit();
         let pages = self.both.last_pages();
+        let erases = told.ops - 3 * pages;
+        let erased: Vec<usize> = (0..self.wear.blocks).filter(|&b| was_erased(&before, &self.both.image, b)).collect();
+        assert_eq!(erased.len(), erases as usize, "the blocks erased");
+        erased.iter().for_each(|&b| self.wear.worn[b] += 1);
         self.wear.commits += 1;
         self.wear.pages += u64::from(pages);
-        self.wear.erases += u64::from(told.ops - 3 * pages);
+        self.wear.erases += u64::from(erases);
     }
 
     /// An event on both stores; true where it is accepted, and then it is kept, and the 16th is followed by a commit.
@@ -74,6 +90,7 @@ impl Run {
         self.both = Both::formatted(self.wear.blocks);
         self.wear.pages += 1;
         self.wear.erases += self.wear.blocks as u64;
+        self.wear.reference.format();
         self.wear.events.push(Event::Format);
         self.keys.clear();
     }
@@ -132,7 +149,10 @@ impl Run {
     fn measure(&mut self) {
         self.commit();
         self.wear.events.push(Event::Measured);
-        self.wear = Wear { counted: 0, commits: 0, pages: 0, erases: 0, events: std::mem::take(&mut self.wear.events), ..self.wear };
+        let events = std::mem::take(&mut self.wear.events);
+        let reference = self.wear.reference.counted_anew();
+        let worn = vec![0; self.wear.blocks];
+        self.wear = Wear { counted: 0, commits: 0, pages: 0, erases: 0, worn, reference, events, ..self.wear };
     }
 }
 
@@ -144,7 +164,8 @@ pub fn run(work: &'static str, blocks: usize, events: usize) -> Wear {
     let (both, keys) = if rising { (Both::formatted(blocks), Vec::new()) } else { Both::filled(blocks, usize::MAX, &mut random) };
     let list: Vec<Event> = keys.iter().map(|&k| Event::Insert(k, 0)).collect();
     let count = if rising { KEPT as usize } else { keys.len() };
-    let wear = Wear { work, blocks, keys: count, events: list, counted: 0, commits: 0, pages: 0, erases: 0 };
+    let (worn, reference) = (vec![0; blocks], Reference::new());
+    let wear = Wear { work, blocks, keys: count, events: list, counted: 0, commits: 0, pages: 0, erases: 0, worn, reference };
     let mut run = Run { both, keys, random, wear };
     let mut next = 0;
     while !rising && run.wear.erases == 0 {

@@ -1,8 +1,2 @@
-pub mod ClearLaws
-pub mod PlanCode
-pub mod PlanClear
-pub mod WriteLaws
-pub mod NoteLaws
-pub mod GoingLaws
-pub mod PageLaws
+pub mod HeldLaws
 pub mod ExecuteLaws

@@ -16,7 +16,8 @@ use Rattle.pages.specs.Steps.{liveFrom, ordered, stand, steps}
 use Rattle.views.specs.Table.{Node, events, isWhole, meaning, means, turn}
 use Rattle.views.specs.Groups.{present}
 use Rattle.views.specs.Stored.{Stores}
-use Rattle.log.specs.Policy.{Plan, isEmpty, planOf, opsOf, newsOf, nodeAt}
+use Rattle.log.specs.Plan.{Plan, isEmpty, opsOf, newsOf, nodeAt}
+use Rattle.log.specs.Policy.{planOf}
 use Rattle.commits.specs.declared.execute.Ended.{Ended}
 
 -- the image means the table tb and the commit number c, with no void page; the arrays hold the lists of tb, and the buffer holds the units us

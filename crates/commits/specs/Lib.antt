@@ -1,3 +1,1 @@
-pub mod WriteCode
-pub mod ExecuteCode
 pub mod Execute

@@ -1,4 +1,2 @@
-// The execution of a commit: its erases, its pages, and the node table that it leaves.
-pub mod erase;
+// A commit: its plan made, and carried out.
 pub mod execute;
-pub mod write;

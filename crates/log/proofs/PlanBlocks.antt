@@ -6,15 +6,14 @@ use Prim.Native.Nat.{ℕ, zero, suc, _+_, _-_, _*_, _/_, _≤_, _<_}
 use native.Mathlib.Nat.{div-mul-le-self, lt-div-mul-add, mul-le-mul-right}
 use native.Mathlib.Omega.{arith}
 use lib.Dec.{eqb, ltb}
-use lib.ListN.{length, length-append}
+use lib.ListN.{length}
 use borrow.Author.Tests.{not-true, eq-eqb, eqb-false, eqb-true, ltb-false, ltb-true, le-leb, leb-true}
 use Rattle.lists.specs.Lists.{All, any, filter, tab, Diff}
 use Rattle.lists.proofs.Alls.{All-append, All-filter, All-head, All-map, All-right, All-zip, any-false, false-any}
 use Rattle.lists.proofs.Filters.{filter-is}
-use Rattle.lists.proofs.Flats.{length-tab}
-use Rattle.lists.proofs.Sets.{Mem, at-most, diff-append, diff-filter, length-filter, mem-filter, mem-left, mem-right, tab-diff, tab-mem, tab-range}
+use Rattle.lists.proofs.Sets.{Mem, at-most, diff-append, diff-filter, mem-filter, mem-left, mem-right, tab-diff, tab-mem, tab-range}
 use Rattle.lists.proofs.Sorts.{All-sort}
-use Rattle.lists.proofs.Tests.{cases, clash, neither-left, neither-right}
+use Rattle.lists.proofs.Tests.{cases, clash, neither-left, neither-right, or-right}
 use Rattle.chip.specs.Geometry.{Geometry}
 use Rattle.chip.specs.Page.{Page}
 use Rattle.chip.specs.Chip.{inBlock}
@@ -24,7 +23,7 @@ use Rattle.pages.proofs.Settle.{last-snoc}
 use Rattle.views.specs.Table.{Node}
 use Rattle.views.proofs.Meanings.{Kept, inOrder, nodeIn, opened}
 use Rattle.views.proofs.Rooms.{Outside, Unlisted}
-use Rattle.log.specs.Policy.{countFrom, hasRoom, headBlock, holdsCommit, isUsed, lastPlace, isListed, ring, unused}
+use Rattle.log.specs.Plan.{countFrom, hasRoom, headBlock, holdsCommit, isUsed, lastPlace, isListed, ring, unused}
 use Rattle.log.proofs.PlanPlaces.{In, in-block}
 
 -- ---- all blocks but the head
@@ -46,9 +45,6 @@ ring-mem B head b l d =
   where
     other : head ≤ b → head < b
     other h = cases (eqb b head) (λ t. absurd (d (eqb-true b head t))) (λ t. omega (arith, eqb-false b head t))
-
-pub length-ring : (B head : ℕ) → head < B → length (ring B head) < B
-length-ring B head l = omega (arith, length-append (countFrom (suc head) (B - suc head)) (countFrom 0 head), length-tab (λ (i : ℕ). i) (suc head) (B - suc head), length-tab (λ (i : ℕ). i) 0 head)
 
 -- ---- used and unused blocks
 any-tab : {A : Type 0} (p : A → Bool) (f : ℕ → A) (k m n : ℕ) → any p (tab k m f) ≡ false → k ≤ n → n < k + m → p (f n) ≡ false
@@ -93,6 +89,11 @@ module _ (g : Geometry) (limit : ℕ) (T : ℕ → Node) (G : ℕ) (xs : List Li
   pub is-unused : Unlisted g limit T b → Outside g G xs b → isUsed g (tab 0 limit T) G xs b ≡ false
   is-unused u o =
       unused-by g (tab 0 limit T) G xs b (tab-any (λ (s : Node). any (inBlock g b) (s .pages)) T 0 limit (λ n l. u n (omega arith))) o
+
+-- a block with a page of commit G is used
+pub is-used : (g : Geometry) (tb : List Node) (G : ℕ) (xs : List Live) (b : ℕ) → holdsCommit g G xs b ≡ true → isUsed g tb G xs b ≡ true
+unfolding isUsed
+is-used g tb G xs b h = or-right (isListed g tb b) (holdsCommit g G xs b) h
 
 -- ---- at least h blocks below B are unused
 pub record Room (g : Geometry) (B h : ℕ) (tb : List Node) (G : ℕ) (xs : List Live) : Type 0 where
@@ -144,10 +145,6 @@ module _ (g : Geometry) (B : ℕ) (tb : List Node) (G : ℕ) (xs : List Live) (h
   pub unused-diff : Diff (unused g B tb G xs head)
   unfolding unused
   unused-diff = diff-filter (λ (b : ℕ). not (isUsed g tb G xs b)) (ring B head) (ring-diff B head)
-
-  pub unused-few : length (unused g B tb G xs head) < B
-  unfolding unused
-  unused-few = omega (arith, length-filter (λ (b : ℕ). not (isUsed g tb G xs b)) (ring B head), length-ring B head hb)
 
   -- with room, the list has h blocks
   pub unused-many : (h : ℕ) → isUsed g tb G xs head ≡ true → Room g B h tb G xs → h ≤ length (unused g B tb G xs head)

@@ -17,7 +17,7 @@ use Rattle.chip.specs.Chip.{inBlock, run}
 use Rattle.chip.proofs.Runs.{DataSized, Sized, run-sized, with-power}
 use Rattle.pages.specs.Steps.{Live}
 use Rattle.log.specs.Commit.{commitOps}
-use Rattle.log.specs.Policy.{erases, freeAt, pagesIn, places}
+use Rattle.log.specs.Plan.{erases, freeAt, pagesIn, places}
 use Rattle.log.proofs.PlanPlaces.{In, Origin, block-in, new, old, one-block, places-from}
 
 take-append : {A : Type 0} {P : A → Type 0} (n m : ℕ) (xs ys : List A) → length xs ≡ m → All P xs → All P (take (n - m) ys) → All P (take n (xs ++ ys))

@@ -14,8 +14,8 @@ use Rattle.pages.specs.Units.{Valid}
 use Rattle.views.specs.Table.{fresh, Node, isWhole}
 use Rattle.views.specs.Groups.{present}
 use Rattle.views.proofs.Meanings.{Kept, nodeIn, kept-node}
-use Rattle.log.specs.Policy.{spareBlocks, nodeAt}
-use Rattle.log.proofs.PlanChoice.{Chip, Committable}
+use Rattle.log.specs.Plan.{spareBlocks, nodeAt}
+use Rattle.log.proofs.AssignedChoice.{Chip, Committable}
 use Rattle.log.proofs.PlanFair.{Bytes, fair-kept}
 use Rattle.log.proofs.PlanNodes.{fair-present}
 

@@ -11,6 +11,7 @@ use Rattle.lists.specs.Lists.{All, At, flat, mapFrom, modify, more}
 use Rattle.lists.proofs.Alls.{All-filter, All-head, All-tail, All-zip}
 use Rattle.lists.proofs.Places.{At-other, At-same}
 use Rattle.lists.proofs.Tests.{cases, clash}
+use Rattle.lists.proofs.Sets.{Mem, here, there}
 use Rattle.chip.specs.declared.page.Mark.the-variants.{Used, Valid}
 use Rattle.chip.specs.Geometry.{Geometry}
 use Rattle.chip.specs.Page.{Page, blank, isLive, marked, programmed, tornPage}
@@ -27,6 +28,14 @@ pub wrote-other : (g : Geometry) (x : Live) (p : ℕ) (y : Page) (ps : List Page
 wrote-other g x p y ps d a =
     At-other (marked g Valid 0) (x .place) p y (put g x ps) d
     (At-other (programmed g (x .bytes)) (x .place) p y (used g x ps) d (At-other (marked g Used 0) (x .place) p y ps d a))
+
+-- a page that stands and is live is among the live pages
+pub live-mem : (g : Geometry) (i p q : ℕ) (y : Page) (ps : List Page) → q ≡ i + p → At p y ps → isLive g y ≡ true → Mem (live g q y) (liveFrom g i ps)
+live-mem g i p q y [] e a h = absurd a
+live-mem g i zero q y (x ∷ ps) e a h = let w : q ≡ i = omega arith in rw (← a, h, w) here
+live-mem g i (suc p) q y (x ∷ ps) e a h =
+    let r = live-mem g (suc i) p q y ps (omega arith) a h in
+    cases (isLive g x) (λ t. rw t (there r)) (λ t. rw t r)
 
 module _ (g : Geometry) (P : Live → Type 0) where
   rest-of : (b : Bool) (z : Live) (r : List Live) → All P (cond b (z ∷ r) r) → All P r

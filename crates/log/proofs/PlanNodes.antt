@@ -1,25 +1,39 @@
--- What a commit writes of each node: views stay fair, a group has at most 17 valid updates, and shows the view after the buffer. Assumes nothing.
+-- What a commit writes of each node, anew or in its own units: views stay fair, at most 17 valid updates, and they show the view after the buffer. Assumes nothing.
 use mathlib.Core.Path.{_≡_, refl, sym, ap, _∙_}
-use mathlib.Core.Bool.{Bool, true, false, cond}
+use mathlib.Core.Bool.{Bool, true, false, cond, _||_}
 use mathlib.Core.List.{List, [], _∷_, map, foldl}
 use Prim.Native.Nat.{ℕ, _^_, _≤_, _<_}
 use native.Mathlib.Omega.{arith}
 use lib.Dec.{eqb, leb, ltb}
 use lib.ListN.{length, length-map}
-use borrow.Author.Tests.{leb-false}
+use borrow.Author.Tests.{eq-eqb, leb-false}
 use Rattle.lists.specs.Lists.{All, any, more, none}
 use Rattle.lists.proofs.Alls.{any-false}
-use Rattle.lists.proofs.Tests.{cases, clash}
+use Rattle.lists.proofs.Tests.{cases, clash, neither-left, neither-right}
+use Rattle.chip.specs.Geometry.{Geometry}
+use Rattle.chip.specs.Page.{Page}
+use Rattle.pages.specs.declared.unit.Decoded.{Decoded}
+use Rattle.pages.specs.declared.unit.Decoded.the-variants.{Bad, Good}
 use Rattle.pages.specs.declared.unit.Unit as U
 use Rattle.pages.specs.declared.unit.Update.{Update}
 use Rattle.pages.specs.declared.unit.Update.the-variants.{Delete, Insert, Reset}
 use Rattle.pages.specs.Units.{Valid, ValidUpdate}
 use Rattle.views.specs.Nodes.{Entry, Rising, View, apply, broken, deleteEntry, insertEntry, inserted, untouched, view}
-use Rattle.views.specs.Table.{Node, isWhole}
+use Rattle.views.specs.Table.{Event, Node, events, fresh, isWhole, nodeOf, turn, turnUnit}
 use Rattle.views.specs.Groups.{isReset, own, present}
 use Rattle.views.proofs.Entries.{FewView, RisingView, rebuilt, updates-few, updates-rising}
 use Rattle.views.proofs.Groups.{Short, alone, joined}
-use Rattle.log.specs.Policy.{delta, rewrite, smaller, snapshot}
+use Rattle.views.proofs.Meanings.{inOrder, nodeIn}
+use Rattle.log.specs.Plan.{rewrite}
+
+-- ---- lists
+-- a list with an element is not empty, and one that is not empty has an element
+pub cons-some : {A : Type 0} {Q : Type 0} (x : A) (xs : List A) → x ∷ xs ≡ [] → Q
+cons-some x xs e = let y : _≡_ {A = ℕ} 0 1 = cc in absurd (omega arith)
+
+pub nil-short : {A : Type 0} (xs : List A) → (xs ≡ [] → ⊥) → 0 < length xs
+nil-short [] h = absurd (h refl)
+nil-short (x ∷ xs) h = omega arith
 
 -- ---- fair views: the tree's invariant, and what fits the fields of a unit
 abbrev pub Small : Entry → Type 0
@@ -84,7 +98,7 @@ small-updates : (v : View) {us : List Update} → All ValidUpdate us → SmallVi
 small-updates v none h = h
 small-updates v (more {x = u} w ws) h = small-updates (apply v u) ws (small-apply v u w h)
 
-own-valid : (limit n : ℕ) {us : List U.Unit} → All (Valid limit) us → All ValidUpdate (own n us)
+pub own-valid : (limit n : ℕ) {us : List U.Unit} → All (Valid limit) us → All ValidUpdate (own n us)
 own-valid limit n none = none
 own-valid limit n (more {x = u} h hs) =
     cases (eqb (u .node) n) (λ t. rw t (more (h .update) (own-valid limit n hs))) (λ t. rw t (own-valid limit n hs))
@@ -125,8 +139,28 @@ untouched-own : (us : List Update) (w : View) → foldl apply w us ≡ untouched
 untouched-own [] w e = refl
 untouched-own (u ∷ us) w e = clash (some-touched u us w) (ap touched e)
 
+-- a unit is one of its node
+pub some-own : (us : List U.Unit) (u : U.Unit) → own (u .node) (u ∷ us) ≡ [] → ⊥
+some-own us u e = cons-some (u .update) (own (u .node) us) (rw (eq-eqb (u .node) (u .node) refl) at e)
+
+-- a node that is untouched has no list
+bare : (n : ℕ) (es : List Event) (s : Node) → (s .now ≡ untouched → s .pages ≡ []) → foldl (turn n) s es .now ≡ untouched → foldl (turn n) s es .pages ≡ []
+bare n [] s h e = h e
+bare n (x ∷ es) s h e = bare n es (turn n s x) (one (x .unit)) e
+  where
+    one : (d : Decoded) → turnUnit n (x .place) d s .now ≡ untouched → turnUnit n (x .place) d s .pages ≡ []
+    one Bad k = h k
+    one (Good u) k =
+        cases (eqb (u .node) n)
+        (λ t. let m : apply (s .now) (u .update) ≡ untouched = (rw t at k) in clash (apply-touched (s .now) (u .update)) (ap touched m))
+        (λ t. let m : s .now ≡ untouched = (rw t at k) in rw t (h m))
+
+pub bare-node : (g : Geometry) (limit : ℕ) (ps : List Page) (n : ℕ) → nodeIn g limit ps n .now ≡ untouched → nodeIn g limit ps n .pages ≡ []
+unfolding nodeIn nodeOf
+bare-node g limit ps n e = bare n (events limit (inOrder g ps)) fresh (λ z. refl) e
+
 -- ---- a node written anew
-length-rewrite : {w : View} → Fair w → length (rewrite w) ≤ 17
+pub length-rewrite : {w : View} → Fair w → length (rewrite w) ≤ 17
 length-rewrite nothing = omega arith
 length-rewrite (some {es = es} a b c d) = omega (arith, length-map es inserted)
 
@@ -138,82 +172,58 @@ valid-rewrite (some a b c d) = more a (go d)
     go none = none
     go (more h hs) = more h (go hs)
 
--- what a choice f of updates owes for node n
-pub record CommitsNode (T : ℕ → Node) (us : List U.Unit) (f : ℕ → List Update) (n : ℕ) : Type 0 where
+-- it begins with its reset, and of a node that was touched there is something to write
+pub reset-first : {v : View} → Fair v → (us : List Update) → us ≡ rewrite v → 0 < length us → (l : ℕ) × (vs : List Update) × (us ≡ Reset l ∷ vs)
+reset-first nothing us e h = absurd (omega (arith, ap length e))
+reset-first (some {l = l} {es = es} a b c d) us e h = (l, map inserted es, e)
+
+pub rewrite-none : {v : View} → Fair v → rewrite v ≡ [] → v ≡ untouched
+rewrite-none nothing e = refl
+rewrite-none (some {l = l} {es = es} a b c d) e = cons-some (Reset l) (map inserted es) e
+
+-- ---- what is owed for node n where f n is written of it
+pub record Suits (T : ℕ → Node) (us : List U.Unit) (f : ℕ → List Update) (n : ℕ) : Type 0 where
   pub now : foldl apply (T n .now) (f n) ≡ present n (T n .now) us
   pub covers : f n ≡ [] → own n us ≡ []
-  pub few : length (f n) ≤ 17
   pub valid : All ValidUpdate (f n)
   pub short : (p : ℕ) → 0 < length (f n) → Short (T n) (record { place = p; node = n; updates = f n })
 
--- the fold of a node written anew, from the view it then has
-now-anew : (w : View) (us : List Update) {v : View} → Fair v → v ≡ foldl apply w us → touched v ≡ true → foldl apply w (rewrite v) ≡ foldl apply w us
-now-anew w us nothing e t = clash t refl
-now-anew w us (some {l = l} {es = es} a b c d) e t = rebuilt w l es b c ∙ e
-
-some-rewrite : {v : View} → Fair v → touched v ≡ true → any isReset (rewrite v) ≡ true
-some-rewrite nothing t = t
-some-rewrite (some a b c d) t = refl
-
--- a list with an element is not empty
-pub cons-some : {A : Type 0} {Q : Type 0} (x : A) (xs : List A) → x ∷ xs ≡ [] → Q
-cons-some x xs e = let y : _≡_ {A = ℕ} 0 1 = cc in absurd (omega arith)
-
-module _ (T : ℕ → Node) (us : List U.Unit) (limit : ℕ) (valids : All (Valid limit) us) (n : ℕ) (fair : Fair (present n (T n .now) us)) where
-  -- by cases of the node's own units and of its view
-  delta-fits-at : (os : List Update) (v : View) → own n us ≡ os → v ≡ present n (T n .now) us → Fair v → (f : ℕ → List Update)
-      → f n ≡ smaller (length (T n .pages)) os (rewrite v) → CommitsNode T us f n
-  delta-fits-at [] v e i a f q =
-      record {
-        now = ap (foldl apply (T n .now)) (q ∙ sym e);
-        covers = λ z. e;
-        few = rw q (omega arith);
-        valid = rw q none;
-        short = λ p l. absurd (omega (arith, ap length q));
-      }
-  delta-fits-at (u ∷ os) v e i a f q =
-      let t : touched v ≡ true = ap touched i ∙ ap (λ l. touched (foldl apply (T n .now) l)) e ∙ some-touched u os (T n .now) in
-      let fresh-one : f n ≡ rewrite v → CommitsNode T us f n = λ r.
-      record {
-        now = rw r (now-anew (T n .now) (own n us) a i t);
-        covers = λ z. clash (ap (any isReset) r ∙ some-rewrite a t) (ap (any isReset) z);
-        few = rw r (length-rewrite a);
-        valid = rw r (valid-rewrite a);
-        short = λ p l. alone (rw r (some-rewrite a t));
-      } in
-      cases (any isReset (u ∷ os)) (λ b. fresh-one (q ∙ rw b))
-      (λ b. cases (leb (length (rewrite v)) (length (u ∷ os))) (λ c. fresh-one (q ∙ rw (b, c)))
-      (λ c. cases (leb 4 (length (T n .pages))) (λ d. fresh-one (q ∙ rw (b, c, d)))
-      (λ d. let r : f n ≡ u ∷ os = q ∙ rw (b, c, d) in
-      record {
-        now = ap (foldl apply (T n .now)) (r ∙ sym e);
-        covers = λ z. cons-some u os (sym r ∙ z);
-        few = rw r (omega (arith, length-rewrite a, leb-false (length (rewrite v)) (length (u ∷ os)) c));
-        valid = rw (r ∙ sym e) (own-valid limit n valids);
-        short = λ p l. joined u os r (any-false isReset (u ∷ os) b) (omega (arith, leb-false 4 (length (T n .pages)) d));
-      })))
-
-  pub delta-fits : CommitsNode T us (delta T us) n
-  delta-fits = delta-fits-at (own n us) (present n (T n .now) us) refl refl fair (delta T us) refl
-
-  snapshot-fits-at : (v : View) → v ≡ present n (T n .now) us → Fair v → (f : ℕ → List Update) → f n ≡ rewrite v → CommitsNode T us f n
-  snapshot-fits-at v i nothing f q =
+module _ (T : ℕ → Node) (us : List U.Unit) (n : ℕ) (f : ℕ → List Update) where
+  suits-view : (v : View) → v ≡ present n (T n .now) us → Fair v → f n ≡ rewrite v → Suits T us f n
+  suits-view v i nothing q =
       let o : own n us ≡ [] = untouched-own (own n us) (T n .now) (sym i) in
       record {
         now = ap (foldl apply (T n .now)) (q ∙ sym o);
         covers = λ z. o;
-        few = rw q (omega arith);
         valid = rw q none;
         short = λ p l. absurd (omega (arith, ap length q));
       }
-  snapshot-fits-at v i (some {l = l} {es = es} a b c d) f q =
+  suits-view v i (some {l = l} {es = es} a b c d) q =
       record {
-        now = rw q (now-anew (T n .now) (own n us) (some a b c d) i refl);
+        now = rw q (rebuilt (T n .now) l es b c ∙ i);
         covers = λ z. cons-some (Reset l) (map inserted es) (sym q ∙ z);
-        few = rw q (length-rewrite (some a b c d));
         valid = rw q (valid-rewrite (some a b c d));
         short = λ p m. alone (rw q);
       }
 
-  pub snapshot-fits : CommitsNode T us (snapshot T us) n
-  snapshot-fits = snapshot-fits-at (present n (T n .now) us) refl fair (snapshot T us) refl
+  -- the node anew
+  pub suits-anew : Fair (present n (T n .now) us) → f n ≡ rewrite (present n (T n .now) us) → Suits T us f n
+  suits-anew fair e = suits-view (present n (T n .now) us) refl fair e
+
+  short-own : (os : List Update) → f n ≡ os → any isReset os ≡ false → length (T n .pages) ≤ 3
+      → (p : ℕ) → 0 < length (f n) → Short (T n) (record { place = p; node = n; updates = f n })
+  short-own [] e r k p l = absurd (omega (arith, ap length e))
+  short-own (u ∷ os) e r k p l = joined u os e (any-false isReset (u ∷ os) r) k
+
+  -- its own units, without a reset and on a list that is not full
+  pub suits-own : {limit : ℕ} → All (Valid limit) us → f n ≡ own n us → (0 < length (own n us) → (any isReset (own n us) || leb 4 (length (T n .pages))) ≡ false) → Suits T us f n
+  suits-own {limit} valids e r =
+      record {
+        now = ap (foldl apply (T n .now)) e;
+        covers = λ z. sym e ∙ z;
+        valid = rw e (own-valid limit n valids);
+        short = λ p l.
+            let d = r (rw e at l) in
+            let k : length (T n .pages) ≤ 3 = omega (arith, leb-false 4 (length (T n .pages)) (neither-right (any isReset (own n us)) (leb 4 (length (T n .pages))) d)) in
+            short-own (own n us) e (neither-left (any isReset (own n us)) (leb 4 (length (T n .pages))) d) k p l;
+      }

@@ -21,7 +21,7 @@ use Rattle.chip.specs.Chip.{erase, filled, inBlock, whole}
 use Rattle.chip.proofs.PageLaws.{free-blank}
 use Rattle.chip.proofs.Runs.{Sized}
 use Rattle.log.specs.Commit.{cleared}
-use Rattle.log.specs.Policy.{erases, freeAt, pagesIn, places}
+use Rattle.log.specs.Plan.{erases, freeAt, pagesIn, places}
 
 -- ---- a page is in one block
 abbrev pub In : Geometry → ℕ → ℕ → Type 0

@@ -23,9 +23,8 @@ use Rattle.views.proofs.Meanings.{Kept, inOrder, nodeIn, opened}
 use Rattle.views.proofs.Rooms.{still-unlisted}
 use Rattle.views.proofs.ViewLaws.{Apart}
 use Rattle.log.proofs.PlanBlocks.{Room, room-moved, is-unused}
-use Rattle.log.proofs.PlanLive.{live-modify}
+use Rattle.log.proofs.PlanLive.{live-mem, live-modify}
 use Rattle.log.proofs.PlanPlaces.{out-block}
-use Rattle.log.proofs.PlanRest.{live-mem}
 
 -- ---- mount: obsolete marks on live pages, cut anywhere; no page becomes live
 -- a live page stands at the place of x

@@ -2,4 +2,8 @@ pub mod Mount
 pub mod MountCode
 pub mod Format
 pub mod Commit
+pub mod Plan
+pub mod Admissible
+pub mod Packing
 pub mod Policy
+pub mod PlanCode

@@ -1,167 +1,73 @@
--- The commit policy: which units a commit writes, in which pages, where, and what it erases first.
-use mathlib.Core.Bool.{Bool, true, false, cond, _&&_, _||_, not}
-use mathlib.Core.List.{List, [], _∷_, _++_}
-use Prim.Native.Nat.{ℕ, zero, suc, _+_, _-_, _*_, _/_}
-use lib.Dec.{leb, eqb}
-use lib.ListN.{length, take, getD}
-use Rattle.lists.specs.Lists.{filter, all, any, tab, flat}
+-- The commit policy: which nodes a commit writes anew, which in their own units, into which pages and on which places.
+use mathlib.Core.Bool.{Bool, false, cond, _&&_, _||_}
+use mathlib.Core.List.{List, [], _∷_}
+use Prim.Native.Nat.{ℕ, suc, _-_}
+use lib.Dec.{leb, ltb}
+use lib.ListN.{length, take}
+use Rattle.lists.specs.Lists.{filter, any}
 use Rattle.chip.specs.Geometry.{Geometry}
-use Rattle.chip.specs.Page.{Page, isFree}
-use Rattle.chip.specs.Chip.{Op, inBlock}
-use Rattle.pages.specs.declared.unit.Update.{Update}
+use Rattle.chip.specs.Page.{Page}
+use Rattle.chip.specs.Chip.{inBlock}
 use Rattle.pages.specs.declared.unit.Unit as U
-use Rattle.pages.specs.Steps.{Live, liveFrom, commit, lastFrom, ordered}
-use Rattle.views.specs.Nodes.{View, untouched, broken, view, anew}
-use Rattle.views.specs.Table.{Node, fresh}
-use Rattle.views.specs.Groups.{own, present, isReset}
-use Rattle.log.specs.Commit.{Pack, Sheet, unitsOfPacks, newPages, commitOps}
+use Rattle.pages.specs.Steps.{liveFrom}
+use Rattle.views.specs.Table.{Node}
+use Rattle.views.specs.Groups.{isReset}
+use Rattle.log.specs.Plan.{Plan, rewrite, ring, isUsed, places, headBlock, spareBlocks, nodeAt, stuck}
+use Rattle.log.specs.Admissible.{Contents, contentsOf, Assignment, unusedBlocks, planFrom}
+use Rattle.log.specs.Packing.{Packing, Sizes, deltaPacking, snapshotPacking}
 
--- ---- what a commit writes of a node: nothing, its own buffered units, or the node anew
-abbrev pub rewrite : View → List Update
-rewrite untouched = []
-rewrite broken = []
-rewrite (view l es) = anew l es
+-- ---- what the packing reads of the nodes
+abbrev pub sizesOf : Geometry → Contents → Sizes
+sizesOf g N = record { units = g .units; whole = λ (n : ℕ). length (rewrite (N .after n)); part = λ (n : ℕ). length (N .buffered n) }
 
--- the node's own units os, or fs, the node anew: where os has a reset, or fs is no more, or the node's list has 4 pages already
-abbrev pub smaller : ℕ → List Update → List Update → List Update
-smaller pages [] fs = []
-smaller pages (u ∷ os) fs =
-    cond (any isReset (u ∷ os)) fs (cond (leb (length fs) (length (u ∷ os))) fs (cond (leb 4 pages) fs (u ∷ os)))
+-- buffered units, and among them a reset, or no more units anew, or a list of 4 pages
+abbrev pub isForced : Contents → ℕ → Bool
+isForced N n =
+    ltb 0 (length (N .buffered n))
+    && (any isReset (N .buffered n) || (leb (length (rewrite (N .after n))) (length (N .buffered n)) || leb 4 (length (N .listed n))))
 
--- a delta: the nodes with buffered units
-abbrev pub delta : (ℕ → Node) → List U.Unit → ℕ → List Update
-delta T us n = smaller (length (T n .pages)) (own n us) (rewrite (present n (T n .now) us))
+-- its list has a page in the first of these blocks
+abbrev pub inFirst : Geometry → Contents → List ℕ → ℕ → Bool
+inFirst g N [] n = false
+inFirst g N (b ∷ bs) n = any (inBlock g b) (N .listed n)
 
--- a snapshot: every node anew
-abbrev pub snapshot : (ℕ → Node) → List U.Unit → ℕ → List Update
-snapshot T us n = rewrite (present n (T n .now) us)
+-- the used blocks in circular order after the head, the oldest first
+abbrev pub usedBlocks : Geometry → ℕ → List Page → List Node → ℕ → List ℕ
+usedBlocks g B ps tb G = filter (isUsed g tb G (liveFrom g 0 ps)) (ring B (headBlock g ps))
 
--- ---- the groups of the nodes below n, the highest first, and their pages: a loop over the nodes from 0 up
-abbrev pub keep : ℕ → List Update → List Pack → List Pack
-keep n [] ks = ks
-keep n (u ∷ us) ks = record { node = n; updates = u ∷ us } ∷ ks
+-- ---- the two ways to pack
+abbrev pub assignmentOf : Packing → Assignment
+assignmentOf S = record { count = length (S .rooms); target = S .target; isAnew = S .isAnew }
 
-abbrev pub groups : (ℕ → List Update) → ℕ → List Pack
-groups f zero = []
-groups f (suc n) = keep n (f n) (groups f n)
+-- a delta; us are the used blocks, the oldest first
+abbrev pub deltaAssignment : Geometry → ℕ → List ℕ → Contents → Assignment
+deltaAssignment g limit us N = assignmentOf (deltaPacking (sizesOf g N) (isForced N) (λ (n : ℕ). length (N .listed n)) (inFirst g N us) limit)
 
--- into the page begun last if it fits, else into a new one
-abbrev pub add : ℕ → Pack → List (List Pack) → List (List Pack)
-add room k [] = (k ∷ []) ∷ []
-add room k (p ∷ ps) = cond (leb (length (unitsOfPacks (k ∷ p))) room) ((k ∷ p) ∷ ps) ((k ∷ []) ∷ p ∷ ps)
+abbrev pub snapshotAssignment : Geometry → ℕ → Contents → Assignment
+snapshotAssignment g limit N = assignmentOf (snapshotPacking (sizesOf g N) limit)
 
-abbrev pub pack : ℕ → List Pack → List (List Pack)
-pack room [] = []
-pack room (k ∷ ks) = add room k (pack room ks)
+-- ---- the decision: a delta if it leaves the last h unused blocks, else a snapshot into the first h, else nothing
+-- the pages of A and one more have places on the head and on the blocks bs
+abbrev pub hasPlaces : Geometry → List Page → ℕ → List ℕ → Assignment → Bool
+hasPlaces g ps head bs A = leb (suc (A .count)) (length (places g ps head bs))
 
--- ---- blocks
--- a list of the table names a page of block b
-abbrev pub isListed : Geometry → List Node → ℕ → Bool
-isListed g tb b = any (λ (s : Node). any (inBlock g b) (s .pages)) tb
+pub data Decision : Type 0 where
+  nothing : Decision
+  follow : Assignment → Decision
 
--- a page of commit c stands in block b
-abbrev pub holdsCommit : Geometry → ℕ → List Live → ℕ → Bool
-holdsCommit g c xs b = any (λ (x : Live). eqb (commit x) c && inBlock g b (x .place)) xs
+-- unused blocks un, used blocks us, both in circular order after the head
+abbrev pub decideOn : Geometry → ℕ → ℕ → List Page → ℕ → List ℕ → List ℕ → Contents → Decision
+decideOn g limit h ps head un us N =
+    cond (hasPlaces g ps head (take (length un - h) un) (deltaAssignment g limit us N)) (follow (deltaAssignment g limit us N))
+    (cond (hasPlaces g ps head (take h un) (snapshotAssignment g limit N)) (follow (snapshotAssignment g limit N)) nothing)
 
--- used: it holds a page of some node's list, or of commit c
-unfoldable pub isUsed : Geometry → List Node → ℕ → List Live → ℕ → Bool
-isUsed g tb c xs b = isListed g tb b || holdsCommit g c xs b
+abbrev pub decide : Geometry → ℕ → ℕ → List Page → List Node → ℕ → Contents → Decision
+decide g limit B ps tb G N = decideOn g limit (spareBlocks g B) ps (headBlock g ps) (unusedBlocks g B ps tb G) (usedBlocks g B ps tb G) N
 
--- b, b + 1, .., n of them
-abbrev pub countFrom : ℕ → ℕ → List ℕ
-countFrom b n = tab b n (λ (i : ℕ). i)
+-- ---- the plan of a commit: the image ps of B blocks means the table tb of limit nodes and the number G; us is the buffer
+abbrev pub planBy : Geometry → ℕ → ℕ → List Page → List Node → ℕ → Contents → Decision → Plan
+planBy g limit B ps tb G N nothing = stuck
+planBy g limit B ps tb G N (follow A) = planFrom g limit B ps tb G N A
 
--- all B blocks but the head, in circular order after it
-abbrev pub ring : ℕ → ℕ → List ℕ
-ring B head = countFrom (suc head) (B - suc head) ++ countFrom 0 head
-
-unfoldable pub unused : Geometry → ℕ → List Node → ℕ → List Live → ℕ → List ℕ
-unused g B tb c xs head = filter (λ (b : ℕ). not (isUsed g tb c xs b)) (ring B head)
-
--- room: at least h of the B blocks are unused
-abbrev pub hasRoom : Geometry → ℕ → ℕ → List Node → ℕ → List Live → Bool
-hasRoom g B h tb c xs = leb h (length (filter (λ (b : ℕ). not (isUsed g tb c xs b)) (countFrom 0 B)))
-
--- ---- places
--- page p is on the chip and free
-abbrev pub freeAt : List Page → ℕ → Bool
-freeAt ps p = isFree (getD ps p (0 ∷ []))
-
-abbrev pub pagesIn : Geometry → ℕ → List ℕ
-pagesIn g b = countFrom (b * g .pages) (g .pages)
-
--- the free pages of the head, then all pages of the blocks bs
-abbrev pub places : Geometry → List Page → ℕ → List ℕ → List ℕ
-places g ps head bs = filter (freeAt ps) (pagesIn g head) ++ flat (pagesIn g) bs
-
--- the blocks of bs that the places ws reach and that are not wholly free
-abbrev pub erases : Geometry → List Page → List ℕ → List ℕ → List ℕ
-erases g ps ws bs = filter (λ (b : ℕ). any (inBlock g b) ws && not (all (freeAt ps) (pagesIn g b))) bs
-
--- each page with its place
-abbrev pub sheets : List ℕ → List (List Pack) → List Sheet
-sheets [] ks = []
-sheets (p ∷ ws) [] = []
-sheets (p ∷ ws) (k ∷ ks) = record { place = p; packs = k } ∷ sheets ws ks
-
--- ---- the head: the block of the last page of the greatest commit
-abbrev pub lastPlace : List Live → ℕ
-lastPlace [] = 0
-lastPlace (x ∷ xs) = lastFrom x xs .place
-
-abbrev pub headBlock : Geometry → List Page → ℕ
-headBlock g ps = lastPlace (ordered (liveFrom g 0 ps)) / g .pages
-
--- blocks that a snapshot needs: 4 B pages and one more
-abbrev pub spareBlocks : Geometry → ℕ → ℕ
-spareBlocks g B = 4 * B / g .pages + 1
-
--- ---- the plan: the blocks to erase, the pages to write
-pub record Plan : Type 0 where
-  pub erased : List ℕ
-  pub written : List Sheet
-
--- pages ks, to places of the head and of the blocks bs
-abbrev pub planOn : Geometry → List Page → ℕ → List ℕ → List (List Pack) → Plan
-planOn g ps head bs ks =
-    record {
-      erased = erases g ps (take (suc (length ks)) (places g ps head bs)) bs;
-      written = sheets (take (suc (length ks)) (places g ps head bs)) ks;
-    }
-
--- nothing: on a chip that no format began there may be no room
-abbrev pub stuck : Plan
-stuck = record { erased = []; written = [] }
-
--- no page is written
-abbrev pub isEmpty : List Sheet → Bool
-isEmpty [] = true
-isEmpty (t ∷ ts) = false
-
--- ks if their pages and one more have places, else the other
-abbrev pub planElse : Geometry → List Page → ℕ → List ℕ → List (List Pack) → Plan → Plan
-planElse g ps head bs ks other = cond (leb (suc (length ks)) (length (places g ps head bs))) (planOn g ps head bs ks) other
-
--- a delta ds if it leaves the last h unused blocks, else a snapshot ss into the first h
-abbrev pub planFor : Geometry → ℕ → List Page → ℕ → List ℕ → List (List Pack) → List (List Pack) → Plan
-planFor g h ps head bs ds ss = planElse g ps head (take (length bs - h) bs) ds (planElse g ps head (take h bs) ss stuck)
-
--- the plan for the nodes T of the table
-abbrev pub planBy : Geometry → ℕ → ℕ → List Page → List Node → ℕ → (ℕ → Node) → List U.Unit → Plan
-planBy g limit B ps tb c T us =
-    planFor g (spareBlocks g B) ps (headBlock g ps) (unused g B tb c (liveFrom g 0 ps) (headBlock g ps))
-    (pack (g .units) (groups (delta T us) limit)) (pack (g .units) (groups (snapshot T us) limit))
-
-abbrev pub nodeAt : List Node → ℕ → Node
-nodeAt tb n = getD tb n fresh
-
--- the plan of a commit: the image ps of B blocks means the table tb of limit nodes and the number c; us is the buffer
 abbrev pub planOf : Geometry → ℕ → ℕ → List Page → List Node → ℕ → List U.Unit → Plan
-planOf g limit B ps tb c us = planBy g limit B ps tb c (nodeAt tb) us
-
--- the pages of a plan for commit c + 1, and its operations
-abbrev pub newsOf : Geometry → ℕ → Plan → List Live
-newsOf g c q = newPages g (suc c) (q .written)
-
-abbrev pub opsOf : Geometry → ℕ → Plan → List Op
-opsOf g c q = commitOps (q .erased) (newsOf g c q)
+planOf g limit B ps tb G us = planBy g limit B ps tb G (contentsOf (nodeAt tb) us) (decide g limit B ps tb G (contentsOf (nodeAt tb) us))

@@ -15,7 +15,7 @@ use Rattle.lists.proofs.Sets.{filter-same, tab-range, take-over}
 use Rattle.chip.specs.Geometry.{Geometry}
 use Rattle.chip.specs.Page.{Page}
 use Rattle.chip.specs.Chip.{inBlock}
-use Rattle.log.specs.Policy.{erases, freeAt, countFrom, pagesIn, places}
+use Rattle.log.specs.Plan.{erases, freeAt, countFrom, pagesIn, places}
 use Rattle.log.proofs.PlanPlaces.{in-block, length-flat, out-block}
 use Rattle.plan.specs.PlacesCode.{erasesFrom}
 

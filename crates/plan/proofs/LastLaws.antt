@@ -23,7 +23,7 @@ use Rattle.log.proofs.MountCode.{word-front}
 use Rattle.pages.specs.Steps.{Live, live, liveFrom, commit, index, before, ordered, lastFrom}
 use Rattle.pages.proofs.Order.{asym, trans}
 use Rattle.pages.proofs.LivePages.{places-below}
-use Rattle.log.specs.Policy.{lastPlace, headBlock}
+use Rattle.log.specs.Plan.{lastPlace, headBlock}
 use Rattle.log.specs.MountCode.{isOf}
 use Rattle.plan.specs.declared.survey.Newest.{Newest}
 use Rattle.plan.specs.SurveyCode.{mark, markHeld, noted, lastIn, isBehind, later, LooksAtPage}

@@ -3,7 +3,6 @@ pub mod MarkLaws
 pub mod SurveyLaws
 pub mod EraseLaws
 pub mod PlaceLaws
-pub mod GroupLaws
-pub mod GroupSteps
-pub mod PackLaws
-pub mod BuildLaws
+pub mod FewLaws
+pub mod ChooseLaws
+pub mod MakeLaws

@@ -19,7 +19,7 @@ use Rattle.chip.specs.Chip.{inBlock}
 use Rattle.chip.specs.Page.{Page}
 use Rattle.pages.specs.Steps.{Live, commit, liveFrom}
 use Rattle.views.specs.Stored.{storedList}
-use Rattle.log.specs.Policy.{holdsCommit, countFrom}
+use Rattle.log.specs.Plan.{holdsCommit, countFrom}
 use Rattle.log.proofs.PlanPlaces.{in-block, out-block}
 use Rattle.plan.specs.SurveyCode.{listedIn, usedIn, mark, markHeld, Marked}
 

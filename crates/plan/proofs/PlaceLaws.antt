@@ -21,7 +21,7 @@ use Rattle.chip.specs.Geometry.{Geometry, small}
 use Rattle.chip.specs.Page.{Page, isFree}
 use Rattle.chip.specs.Chip.{pagesOf}
 use Rattle.chip.proofs.ImageLaws.{length-pages, page-at}
-use Rattle.log.specs.Policy.{countFrom, freeAt, pagesIn, places, erases}
+use Rattle.log.specs.Plan.{countFrom, freeAt, pagesIn, places, erases}
 use Rattle.lists.proofs.Sets.{mem-at, length-filter}
 use Rattle.log.proofs.PlanPlaces.{Origin, old, new, places-from, length-flat}
 use Rattle.plan.proofs.EraseLaws.{places-count, erases-walk}

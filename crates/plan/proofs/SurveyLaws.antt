@@ -2,13 +2,14 @@
 use mathlib.Core.Path.{_≡_, refl, sym, ap, ap₂, _∙_}
 use mathlib.Core.Bool.{Bool, true, false, _||_, not}
 use mathlib.Core.List.{List, [], _∷_, _++_, reverse, reverseAux}
-use Prim.Native.Nat.{ℕ, suc, _+_, _-_, _*_, _<_, _≤_}
+use Prim.Native.Nat.{ℕ, zero, suc, _+_, _-_, _*_, _<_, _≤_}
 use native.Mathlib.Numerals.{add-one}
 use native.Mathlib.Omega.{arith}
 use lib.ListN.{length, take, getD}
+use borrow.Author.Tests.{lt-leb}
 use lib.Seq.{take-take}
-use Rattle.lists.specs.Lists.{filter, any}
-use Rattle.lists.proofs.Alls.{All-map, All-take, All-filter}
+use Rattle.lists.specs.Lists.{All, filter, any, more}
+use Rattle.lists.proofs.Alls.{All-drop, All-map, All-take, All-filter, false-any}
 use Rattle.lists.proofs.Filters.{filter-append}
 use Rattle.chip.specs.Geometry.{Geometry, small}
 use Rattle.chip.specs.Page.{Page}
@@ -17,10 +18,10 @@ use Rattle.chip.proofs.ImageLaws.{length-pages}
 use Rattle.pages.specs.Steps.{Live, liveFrom}
 use Rattle.views.specs.Table.{Node, fresh}
 use Rattle.views.specs.Stored.{storedList, Stores}
-use Rattle.log.specs.Policy.{isListed, holdsCommit, isUsed, unused, countFrom, ring, headBlock, nodeAt}
+use Rattle.log.specs.Plan.{isListed, holdsCommit, isUsed, unused, countFrom, ring, headBlock, nodeAt}
 use Rattle.lists.proofs.Sets.{diff-filter, diff-take, filter-same}
 use Rattle.log.proofs.PlanBlocks.{ring-range, ring-diff}
-use Rattle.plan.specs.SurveyCode.{listedIn, usedIn, unusedIn, isUnmarked, Surveys, Marked, KeepsUnmarked}
+use Rattle.plan.specs.SurveyCode.{listedIn, usedIn, usedAround, unusedIn, firstOr, isHeld, isUnmarked, Surveys, Marked, KeepsUnmarked}
 use Rattle.plan.specs.declared.survey.Surveyed.{Surveyed}
 use Rattle.plan.proofs.LastLaws.{head-on}
 use Rattle.plan.specs.PlacesCode.{Spare}
@@ -67,6 +68,14 @@ module _ (g : Geometry) (limit : ℕ) (lens slots : List ℕ) (c : ℕ) (xs : Li
   unfolding usedIn isUsed
   used-is b = ap (λ (t : Bool). t || holdsCommit g c xs b) (listed-is b)
 
+  pub around-is : (B head : ℕ) → usedAround g B limit lens slots c xs head ≡ filter (isUsed g tb c xs) (ring B head)
+  unfolding usedAround
+  around-is B head = all-same (ring B head)
+    where
+      all-same : (bs : List ℕ) → filter (usedIn g limit lens slots c xs) bs ≡ filter (isUsed g tb c xs) bs
+      all-same [] = refl
+      all-same (b ∷ bs) = rw (used-is b, all-same bs)
+
   pub unused-is : (B head : ℕ) → unusedIn g B limit lens slots c xs head ≡ unused g B tb c xs head
   unfolding unusedIn unused
   unused-is B head = all-same (ring B head)
@@ -89,6 +98,20 @@ unused-spare g B limit lens slots c xs head h =
 pub spare-take : (B head n : ℕ) (bs : List ℕ) → Spare B head bs → Spare B head (take n bs)
 spare-take B head n bs s = record { range = All-take n (s .range); differ = diff-take n bs (s .differ) }
 
+-- ---- a block number that no page has
+all-below : (m : ℕ) (xs : List ℕ) → ((j : ℕ) → getD xs j 0 < m) → All (λ (x : ℕ). x < m) xs
+all-below m [] h = All.none
+all-below m (x ∷ xs) h = more (h 0) (all-below m xs (λ j. h (suc j)))
+
+out-of : (p : ℕ) → p < 4294967296 → inBlock small 4294967295 p ≡ false
+unfolding inBlock
+out-of p l = rw (lt-leb (4294967295 * 32) p (omega arith))
+
+pub no-block : (slots : List ℕ) → ((j : ℕ) → getD slots j 0 < 4294967296) → (lens : List ℕ) (n : ℕ) → any (inBlock small 4294967295) (storedList lens slots n) ≡ false
+no-block slots h lens n =
+    false-any (inBlock small 4294967295)
+    (All-map (λ p l. out-of p l) (All-take (getD lens n 0) (All-take 4 (All-drop (4 * n) (all-below 4294967296 slots h)))))
+
 -- ---- the survey
 -- the head of an image of B blocks
 pub survey-on : (B : ℕ) (image : List ℕ) → length image ≡ B * 16896 → 3 ≤ B → headBlock small (pagesOf small image) < B
@@ -103,6 +126,50 @@ unfolding unusedIn
 unmarked-unused B limit lens slots c ps m head h k a =
     filter-same (isUnmarked m) (λ (b : ℕ). not (usedIn small limit lens slots c (liveFrom small 0 ps) b))
     (All-map (λ b r. a .are b (omega (arith, r .0))) (ring-range B head h))
+
+-- the marked blocks are the used ones
+pub marked-used : (B limit : ℕ) (lens slots : List ℕ) (c : ℕ) (ps : List Page) (m : List ℕ) (head : ℕ) → head < B → B ≤ 32
+    → Marked limit lens slots c ps m → filter (isHeld m) (ring B head) ≡ usedAround small B limit lens slots c (liveFrom small 0 ps) head
+unfolding usedAround
+marked-used B limit lens slots c ps m head h k a =
+    filter-same (isHeld m) (usedIn small limit lens slots c (liveFrom small 0 ps))
+    (All-map (λ b r. ap not (a .are b (omega (arith, r .0))) ∙ twice (usedIn small limit lens slots c (liveFrom small 0 ps) b)) (ring-range B head h))
+  where
+    twice : (t : Bool) → not (not t) ≡ t
+    twice true = refl
+    twice false = refl
+
+-- ---- the first of two lists, one behind the other
+pub first-append : (d : ℕ) (xs ys : List ℕ) → firstOr d (xs ++ ys) ≡ firstOr (firstOr d ys) xs
+first-append d [] ys = refl
+first-append d (x ∷ xs) ys = refl
+
+-- ---- a search from i to e, with x as its answer: the first number passes, or the search goes on, or it is over
+module _ (q : ℕ → Bool) (d i e x : ℕ) (h : firstOr d (filter q (countFrom i (e - i))) ≡ x) where
+  pub search-here : i < e → q i ≡ true → i ≡ x
+  search-here l t = sym (go (e - i) (omega arith)) ∙ h
+    where
+      go : (n : ℕ) → 0 < n → firstOr d (filter q (countFrom i n)) ≡ i
+      go zero k = absurd (omega arith)
+      go (suc n) k = rw t
+
+  pub search-on : i < e → q i ≡ false → firstOr d (filter q (countFrom (i + 1) (e - (i + 1)))) ≡ x
+  search-on l t = ap (firstOr d) (sym (go (e - i) (e - (i + 1)) (omega arith))) ∙ h
+    where
+      go : (n m : ℕ) → n ≡ m + 1 → filter q (countFrom i n) ≡ filter q (countFrom (i + 1) m)
+      go zero m k = absurd (omega arith)
+      go (suc n) m k = rw (t, let z : n ≡ m = omega arith in z, add-one i)
+
+  pub search-over : e ≤ i → d ≡ x
+  search-over l = sym (ap (λ (n : ℕ). firstOr d (filter q (countFrom i n))) (let z : e - i ≡ 0 = omega arith in z)) ∙ h
+
+-- the first marked block of the ring, by its halves
+pub first-around : (m : List ℕ) (B head d : ℕ) → firstOr (firstOr d (filter (isHeld m) (countFrom 0 (head - 0)))) (filter (isHeld m) (countFrom (head + 1) (B - (head + 1))))
+    ≡ firstOr d (filter (isHeld m) (ring B head))
+first-around m B head d =
+    ap₂ (λ (i j : ℕ). firstOr (firstOr d (filter (isHeld m) (countFrom 0 i))) (filter (isHeld m) (countFrom j (B - j)))) (let z : head - 0 ≡ head = omega arith in z) (add-one head)
+    ∙ sym (ap (firstOr d) (filter-append (isHeld m) (countFrom (suc head) (B - suc head)) (countFrom 0 head))
+    ∙ first-append d (filter (isHeld m) (countFrom (suc head) (B - suc head))) (filter (isHeld m) (countFrom 0 head)))
 
 -- the two halves of the ring
 pub ring-halves : (m : List ℕ) (B head : ℕ) (r₀ r₁ r₂ : List ℕ) (n k : ℕ) → KeepsUnmarked m (head + 1) (B - (head + 1)) r₀ r₁ 0 n → KeepsUnmarked m 0 (head - 0) r₁ r₂ n k

@@ -1,5 +1,3 @@
 pub mod SurveyCode
 pub mod PlacesCode
-pub mod GroupCode
-pub mod PackCode
-pub mod BuildCode
+pub mod MakeCode

@@ -8,7 +8,7 @@ use lib.ListN.{take}
 use Rattle.lists.specs.Lists.{all, All, Diff}
 use Rattle.chip.specs.Geometry.{Geometry, small}
 use Rattle.chip.specs.Page.{Page}
-use Rattle.log.specs.Policy.{freeAt, pagesIn, places, erases}
+use Rattle.log.specs.Plan.{freeAt, pagesIn, places, erases}
 
 -- ---- parts of a plan under names that stay closed in contracts
 -- the first n places on the head and on the blocks bs

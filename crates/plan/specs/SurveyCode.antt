@@ -11,7 +11,7 @@ use Rattle.chip.specs.Page.{Page, isLive}
 use Rattle.chip.specs.Chip.{inBlock}
 use Rattle.pages.specs.Steps.{Live, live, liveFrom, commit, index, lastFrom, ordered}
 use Rattle.views.specs.Stored.{storedList}
-use Rattle.log.specs.Policy.{holdsCommit, countFrom, ring, headBlock, freeAt, pagesIn}
+use Rattle.log.specs.Plan.{holdsCommit, countFrom, ring, headBlock, freeAt, pagesIn}
 use Rattle.log.specs.MountCode.{isOf}
 use Rattle.plan.specs.declared.survey.Surveyed.{Surveyed}
 use Rattle.plan.specs.declared.survey.Newest.{Newest}
@@ -28,11 +28,20 @@ usedIn g limit lens slots c xs b = listedIn g limit lens slots b || holdsCommit 
 unfoldable pub unusedIn : Geometry → ℕ → ℕ → List ℕ → List ℕ → ℕ → List Live → ℕ → List ℕ
 unusedIn g B limit lens slots c xs head = filter (λ (b : ℕ). not (usedIn g limit lens slots c xs b)) (ring B head)
 
+-- the used blocks of B but the head, in circular order after it
+unfoldable pub usedAround : Geometry → ℕ → ℕ → List ℕ → List ℕ → ℕ → List Live → ℕ → List ℕ
+usedAround g B limit lens slots c xs head = filter (usedIn g limit lens slots c xs) (ring B head)
+
+-- the first of a list, d where there is none
+abbrev pub firstOr : ℕ → List ℕ → ℕ
+firstOr d [] = d
+firstOr d (b ∷ bs) = b
+
 -- the free pages of block b
 unfoldable pub freePages : Geometry → List Page → ℕ → List ℕ
 freePages g ps b = filter (freeAt ps) (pagesIn g b)
 
--- ---- what a survey tells: the head, how many blocks are unused and which, the free pages of the head
+-- ---- what a survey tells: the head, how many blocks are unused and which, the free pages of the head, the oldest block
 pub record Surveys (B limit : ℕ) (lens slots : List ℕ) (c : ℕ) (ps : List Page) (blocks : List ℕ) (r : Surveyed) : Type 0 where
   pub head : r .head ≡ headBlock small ps
   pub on : r .head < B
@@ -41,6 +50,8 @@ pub record Surveys (B limit : ℕ) (lens slots : List ℕ) (c : ℕ) (ps : List 
   pub few : r .unused < B
   pub free : r .free ≡ length (freePages small ps (r .head))
   pub most : r .free ≤ 32
+  pub nowhere : (n : ℕ) → any (inBlock small 4294967295) (storedList lens slots n) ≡ false
+  pub oldest : r .oldest ≡ firstOr 4294967295 (usedAround small B limit lens slots c (liveFrom small 0 ps) (r .head))
 
 -- ---- marks, one number a block
 -- the block of page p marked
@@ -54,6 +65,9 @@ markHeld g c (x ∷ xs) m = cond (eqb (commit x) c) (mark g (markHeld g c xs m) 
 
 abbrev pub isUnmarked : List ℕ → ℕ → Bool
 isUnmarked m b = eqb (getD m b 0) 0
+
+abbrev pub isHeld : List ℕ → ℕ → Bool
+isHeld m b = not (isUnmarked m b)
 
 -- ---- the last page in order
 abbrev pub nothing : Newest

@@ -1,6 +1,5 @@
-// The plan of a commit, computed from the image and the arrays of a state: blocks and places, groups of units, their pages.
-pub mod build;
-pub mod group;
-pub mod pack;
+// The plan of a commit, made from the image and the arrays of a state: the blocks, the choice of a delta or a snapshot, the places.
+pub mod choose;
+pub mod make;
 pub mod places;
 pub mod survey;

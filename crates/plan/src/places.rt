@@ -8,7 +8,7 @@ ghost use lib.ListN.{length, take, getD};
 ghost use Rattle.lists.specs.Lists.{all, flat};
 ghost use Rattle.chip.specs.Geometry.{small};
 ghost use Rattle.chip.specs.Chip.{pagesOf};
-ghost use Rattle.log.specs.Policy.{freeAt, pagesIn};
+ghost use Rattle.log.specs.Plan.{freeAt, pagesIn};
 ghost use Rattle.plan.specs.SurveyCode.{freePages};
 ghost use Rattle.plan.specs.PlacesCode.{Spare, Lays, LaysErases, erasesFrom};
 use crate::survey;
@@ -52,7 +52,7 @@ fn page_of(ring: &[u32], j: usize) -> u32
     b * 32 + (j % PAGES) as u32
 }
 
-// Places from `n` to `need` putGroup with the pages of the first `width` blocks of the ring.
+// Places from `n` to `need` filled with the pages of the first `width` blocks of the ring.
 fn put_rest(
     ring: &[u32],
     blocks: usize,

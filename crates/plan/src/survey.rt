@@ -8,8 +8,8 @@ ghost use Rattle.lists.specs.Lists.{filter, flat};
 ghost use Rattle.chip.specs.Geometry.{small};
 ghost use Rattle.chip.specs.Chip.{pagesOf};
 ghost use Rattle.views.specs.Stored.{storedList};
-ghost use Rattle.log.specs.Policy.{countFrom, ring as around, headBlock};
-ghost use Rattle.plan.specs.SurveyCode.{freePages, isUnmarked, Surveys, mark, nothing, later, LooksAtPage, LooksAtAll, Marked, KeepsUnmarked, Pushes};
+ghost use Rattle.log.specs.Plan.{countFrom, ring as around, headBlock};
+ghost use Rattle.plan.specs.SurveyCode.{freePages, firstOr, isHeld, isUnmarked, Surveys, mark, nothing, later, LooksAtPage, LooksAtAll, Marked, KeepsUnmarked, Pushes};
 use chip::block;
 use chip::geometry::BLOCK;
 use chip::geometry::PAGE;
@@ -18,12 +18,16 @@ use chip::page;
 use pages::unit;
 use views::view;
 
-// The head block, how many blocks are unused, and how many pages of the head are free.
+// The head block, how many blocks are unused, how many pages of the head are free, and the oldest block.
 pub struct Surveyed {
     pub head: usize,
     pub unused: usize,
     pub free: usize,
+    pub oldest: usize,
 }
+
+// Stands for the oldest block where no block but the head is used: no page has it.
+const NO_BLOCK: usize = 4294967295;
 
 // The last page in order of those seen so far: is there one, its commit number, index and place.
 struct Newest {
@@ -196,6 +200,30 @@ fn list_unused(marks: &[u32], head: usize, blocks: usize, ring: &mut [u32]) -> u
     keep_unmarked(marks, 0, head, ring, first)
 }
 
+// The first marked block from `b` to `e`, `other` where there is none.
+fn first_marked(marks: &[u32], b: usize, e: usize, other: usize) -> usize
+    requires { ⌜ (length (now marks) ≡ 32) × (b ≤ e) × (e ≤ 32) ⌝ }
+    ensures { λ r. ⌜ r ≡ firstOr other (filter (isHeld (now (marks .entry))) (countFrom b (e - b))) ⌝ }
+{
+    let mut i = b;
+    while i < e {
+        if marks[i] != 0 {
+            return i;
+        }
+        i += 1;
+    }
+    other
+}
+
+// The first marked block after the head in circular order.
+fn oldest_of(marks: &[u32], head: usize, blocks: usize) -> usize
+    requires { ⌜ (length (now marks) ≡ 32) × (head < blocks) × (blocks ≤ 32) ⌝ }
+    ensures { λ r. ⌜ r ≡ firstOr 4294967295 (filter (isHeld (now (marks .entry))) (around blocks head)) ⌝ }
+{
+    let wrapped = first_marked(marks, 0, head, NO_BLOCK);
+    first_marked(marks, head + 1, blocks, wrapped)
+}
+
 // How many pages of a block are free.
 pub fn free_of(image: &[u8], at: usize) -> usize
     requires { ⌜ (at * 16896 + 16896 ≤ length (now image)) × (length (now image) % 528 ≡ 0) ⌝ }
@@ -225,10 +253,16 @@ fn survey_in(
     let head = mark_used(image, lens, slots, limit, commit, &mut marks);
     let unused = list_unused(&marks, head, blocks, ring);
     let free = free_of(image, head);
-    Surveyed { head, unused, free }
+    let oldest = oldest_of(&marks, head, blocks);
+    Surveyed {
+        head,
+        unused,
+        free,
+        oldest,
+    }
 }
 
-// The head block, its free pages, and the unused blocks in circular order after it, written to `ring`.
+// The head block, its free pages, the oldest block, and the unused blocks in circular order after the head, written to `ring`.
 pub fn survey(
     image: &[u8],
     lens: &[u32; 256],

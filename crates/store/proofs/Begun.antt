@@ -21,7 +21,7 @@ use Rattle.views.proofs.ViewLaws.{view-stored}
 use Rattle.tree.specs.Tree.{Table, there, at, next}
 use Rattle.tree.specs.Shown.{shown}
 use Rattle.tree.specs.Step6.{step6}
-use Rattle.log.specs.Policy.{nodeAt}
+use Rattle.log.specs.Plan.{nodeAt}
 use Rattle.log.proofs.PlanFair.{fair-kept}
 use Rattle.log.proofs.PlanNodes.{Fair, nothing}
 use Rattle.promise.specs.Image.{viewsOf, bySix, imageMeaning}

@@ -34,7 +34,7 @@ use Rattle.tree.specs.Step6.{step6}
 use Rattle.tree.specs.Shown.{shown}
 use Rattle.tree.specs.CheckCode.{pagesTable}
 use Rattle.log.specs.Mount.{lowerPlace, mountOps, retire}
-use Rattle.log.specs.Policy.{nodeAt}
+use Rattle.log.specs.Plan.{nodeAt}
 use Rattle.log.proofs.Voids.{Found, found}
 use Rattle.log.proofs.MountLaws.{void-pages, void-scan}
 use Rattle.promise.specs.Calls.{invalid}

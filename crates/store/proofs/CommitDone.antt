@@ -4,10 +4,13 @@ use mathlib.Core.Bool.{Bool, true, false, cond}
 use mathlib.Core.List.{List, foldl}
 use Prim.Native.Nat.{ℕ, suc, _+_, _*_, _≤_, _<_, min}
 use native.Mathlib.Omega.{arith}
-use lib.Dec.{ltb}
+use lib.Dec.{eqb, ltb}
 use lib.ListN.{length, getD}
-use Rattle.lists.specs.Lists.{tab}
+use Rattle.lists.specs.Lists.{All, any, tab}
+use Rattle.lists.proofs.Alls.{All-map}
 use Rattle.lists.proofs.Flats.{tab-same, getD-tab}
+use Rattle.lists.proofs.Sets.{Mem, eqb-mem}
+use Rattle.lists.proofs.Tests.{cases}
 use Rattle.chip.specs.declared.power.Power.{Power}
 use Rattle.chip.specs.declared.power.Power.the-variants.{Left}
 use Rattle.chip.specs.Geometry.{small, blocksOf}
@@ -15,6 +18,7 @@ use Rattle.chip.specs.Power.{done, isGone, takesEffect}
 use Rattle.chip.specs.Page.{Page}
 use Rattle.chip.specs.Chip.{Machine, pagesOf}
 use Rattle.chip.proofs.Runs.{run-gone, run-done}
+use Rattle.pages.specs.declared.unit.Unit as U
 use Rattle.views.specs.Groups.{present}
 use Rattle.views.specs.Stored.{Stores}
 use Rattle.views.specs.Table as Views
@@ -22,8 +26,10 @@ use Rattle.views.specs.Table.{Node, events, fresh, turn}
 use Rattle.views.proofs.Meanings.{Kept, nodeIn, kept-node}
 use Rattle.tree.specs.Tree.{Table, next}
 use Rattle.tree.specs.Step6.{step6}
-use Rattle.log.specs.Policy.{newsOf, nodeAt, spareBlocks}
-use Rattle.log.proofs.PlanLaws.{Safe, imageAfter, nodeAfter}
+use Rattle.log.specs.Plan.{Plan, freeAt, newsOf, nodeAt, spareBlocks}
+use Rattle.log.specs.Policy.{planOf}
+use Rattle.log.proofs.AdmissibleLaws.{Safe, imageAfter, nodeAfter}
+use Rattle.log.proofs.PolicyLaws.{rests-next}
 use Rattle.promise.specs.Image.{viewsOf, bySix, imageMeaning}
 use Rattle.promise.specs.Calls as P
 use Rattle.commits.specs.Execute.{Executed}
@@ -34,6 +40,22 @@ use Rattle.store.specs.Contracts.{thePlan, theOps}
 use Rattle.store.proofs.BegunViews.{map-tab}
 use Rattle.store.proofs.Begun.{Settled}
 use Rattle.store.proofs.CommitGood.{good-chip, good-kept, good-present, good-room, room-by}
+
+-- ---- what the plan of the next commit is made of
+same-nodes : {tb nx : List Node} {G H : ℕ} → Views.means tb G ≡ Views.means nx H → tb ≡ nx
+same-nodes e = cc
+
+same-number : {tb nx : List Node} {G H : ℕ} → Views.means tb G ≡ Views.means nx H → G ≡ H
+same-number e = cc
+
+same-plan : {B C : ℕ} {ps qs : List Page} {tb nx : List Node} {G H : ℕ} (us : List U.Unit) → B ≡ C → ps ≡ qs → tb ≡ nx → G ≡ H
+    → planOf small (8 * B) B ps tb G us ≡ planOf small (8 * C) C qs nx H us
+same-plan {B = B} {C = C} {ps = ps} {qs = qs} {tb = tb} {nx = nx} {G = G} us b p t g =
+    ap (λ (x : ℕ). planOf small (8 * x) x ps tb G us) b ∙ ap (λ (x : List Page). planOf small (8 * C) C x tb G us) p
+    ∙ ap (λ (x : List Node). planOf small (8 * C) C qs x G us) t ∙ ap (λ (x : ℕ). planOf small (8 * C) C qs nx x us) g
+
+not-member : (b : ℕ) (xs : List ℕ) → (Mem b xs → ⊥) → any (eqb b) xs ≡ false
+not-member b xs h = cases (any (eqb b) xs) (λ t. absurd (h (eqb-mem b xs t))) (λ t. t)
 
 module _ (n : ℕ) (torn : List ℕ) (s : State) (i i' lens slots : List ℕ) (left : Power) (g : Good small s i)
     (x : Executed (limitOf s) (s .commit) (nodesOf small s i) (thePlan s i) torn (Left n) i i' lens slots left) where
@@ -120,12 +142,30 @@ module _ (n : ℕ) (torn : List ℕ) (s : State) (i i' lens slots : List ℕ) (l
         go false q = room-by i' (s .blocks) tb (s .commit) after-blocks q (rw after-pages (sf .room-cut (good-room s i g r) n))
 
     -- ---- finished
-    module _ (enough : length (theOps s i) ≤ n) (bytes : (j : ℕ) → getD i' j 0 < 256) where
+    module _ (enough : length (theOps s i) ≤ n) where
       finished : Kept small (limitOf s) (pagesOf small i') nextNodes (suc (s .commit))
       finished = rw after-pages (sf .kept n enough)
 
-      pub after-settled : Settled (committedState s lens slots) i' nextNodes
-      after-settled =
+      pub after-free : (p : ℕ) × (freeAt (pagesOf small i') p ≡ true)
+      after-free = let r = sf .page-free n enough in (r .0, ap (λ (qs : List Page). freeAt qs (r .0)) after-pages ∙ r .1)
+
+      -- a state that is good for the image has the nodes and the number of the commit
+      next-plan : (t : State) → Good small t i'
+          → thePlan t i' ≡ planOf small (limitOf s) (s .blocks) (imageAfter small torn ps (s .commit) (thePlan s i) n) nextNodes (suc (s .commit)) (unitsOf t)
+      next-plan t h =
+          let b : t .blocks ≡ s .blocks = h .blocks ∙ sym after-blocks in
+          let m : Views.means (nodesOf small t i') (t .commit) ≡ Views.means nextNodes (suc (s .commit)) =
+          sym (h .means) ∙ ap (λ (B : ℕ). Views.meaning small (8 * B) (pagesOf small i')) b ∙ finished .is in
+          same-plan (unitsOf t) b after-pages (same-nodes m) (same-number m)
+
+      pub after-rests : (t : State) → Good small t i' → All (λ (b : ℕ). any (eqb b) (thePlan t i' .erased) ≡ false) (thePlan s i .erased)
+      after-rests t h =
+          All-map
+          (λ b m. not-member b (thePlan t i' .erased) (λ k. m (subst (λ (q : Plan). Mem b (q .erased)) (next-plan t h) k)))
+          (rests-next small (limitOf s) (s .blocks) (spareBlocks small (s .blocks)) torn ps tb (s .commit) (unitsOf s) (thePlan s i) sf n enough (unitsOf t))
+
+      pub after-settled : ((j : ℕ) → getD i' j 0 < 256) → Settled (committedState s lens slots) i' nextNodes
+      after-settled bytes =
           let c = good-chip s i g in
           record {
             chip = record { blocks = after-blocks; least = c .least; most = c .most; size = x .ran .size ∙ c .size };

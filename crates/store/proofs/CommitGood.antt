@@ -25,11 +25,11 @@ use Rattle.views.specs.Stored.{storedList, nodeView, Stores}
 use Rattle.views.proofs.Meanings.{Kept}
 use Rattle.tree.specs.Shown.{shown}
 use Rattle.views.proofs.NodeViews.{buffer-good}
-use Rattle.log.specs.Policy.{nodeAt, spareBlocks}
+use Rattle.log.specs.Plan.{nodeAt, spareBlocks}
 use Rattle.log.proofs.MountLaws.{image-sized}
 use Rattle.log.proofs.PlanBlocks.{has-room, room-has}
 use Rattle.log.proofs.PlanBlocks as Log
-use Rattle.log.proofs.PlanChoice.{Committable}
+use Rattle.log.proofs.AssignedChoice.{Committable}
 use Rattle.log.proofs.PlanKept.{Buffer, ready}
 use Rattle.commits.specs.Execute.{Plannable}
 use Rattle.store.specs.declared.state.State.{State}

@@ -1,34 +1,32 @@
--- The plan of a commit: it is stuck or has a page, and it has few operations whatever the table says. Assumes nothing.
+-- The plan of a commit: what it costs, and that it is stuck or has a page. Assumes nothing.
 use mathlib.Core.Path.{_≡_, refl, sym, ap, subst, _∙_}
 use mathlib.Core.Logic.{_⊎_, inl, inr, ⊎-elim}
-use mathlib.Core.Bool.{Bool, true, false, cond, _&&_, not}
+use mathlib.Core.Bool.{Bool, false}
 use mathlib.Core.List.{List, [], _∷_, map}
-use Prim.Native.Nat.{ℕ, zero, suc, _+_, _-_, _*_, _≤_, _<_}
+use Prim.Native.Nat.{ℕ, suc, _+_, _*_, _≤_, _<_}
 use native.Mathlib.Omega.{arith}
-use lib.Dec.{leb}
-use lib.ListN.{length, take, length-append, length-map}
-use borrow.Author.Tests.{leb-true}
-use Rattle.lists.specs.Lists.{all, any, flat, tab}
+use lib.ListN.{length, length-append, length-map}
+use Rattle.lists.specs.Lists.{All, flat, tab}
+use Rattle.lists.proofs.Alls.{All-head}
 use Rattle.lists.proofs.Tests.{cases}
 use Rattle.chip.specs.Geometry.{Geometry}
 use Rattle.chip.specs.Page.{Page}
-use Rattle.chip.specs.Chip.{Machine, erase, inBlock}
+use Rattle.chip.specs.Chip.{Machine, erase}
 use Rattle.chip.proofs.Runs.{run-parts}
 use Rattle.pages.specs.declared.unit.Unit as U
-use Rattle.pages.specs.declared.unit.Update.{Update}
-use Rattle.pages.specs.Steps.{liveFrom}
-use Rattle.views.specs.Table.{Node, meaning, means}
-use Rattle.views.proofs.Meanings.{nodeIn}
-use Rattle.log.specs.Commit.{Pack, unitsOfPacks, writesOf, pagesFrom, Sheet}
-use Rattle.log.specs.Policy.{Plan, add, delta, freeAt, groups, headBlock, newsOf, opsOf, planElse, pack, pagesIn, places, planBy, planOf, planOn, sheets, snapshot, spareBlocks, stuck, unused, isEmpty}
-use Rattle.log.proofs.PlanBlocks.{unused-few}
-use Rattle.log.proofs.PlanChoice.{Committable, length-writes}
-use Rattle.log.proofs.PlanLaws.{Safe, imageAfter, nodeAfter, plan-nodes, any-group}
-use Rattle.log.proofs.PlanNodes.{CommitsNode, delta-fits, snapshot-fits}
-use Rattle.log.proofs.PlanPacks.{length-groups, pack-some}
-use Rattle.lists.proofs.Sets.{length-filter}
+use Rattle.pages.specs.Units.{Valid}
+use Rattle.views.specs.Groups.{own}
+use Rattle.views.specs.Table.{Node, fresh, meaning, means}
+use Rattle.views.proofs.Meanings.{kept-node, nodeIn}
+use Rattle.log.specs.Commit.{writesOf, pagesFrom, Sheet}
+use Rattle.log.specs.Plan.{Plan, newsOf, nodeAt, opsOf, spareBlocks, stuck, isEmpty}
+use Rattle.log.specs.Admissible.{Admissible, Assigned, Assignment, Target, contentsOf, inPage, planFrom, unwritten, writtenOf}
+use Rattle.log.specs.Policy.{Decision, decide, planOf, planBy}
+use Rattle.log.proofs.AssignedChoice.{Chip, Committable, length-writes}
+use Rattle.log.proofs.PlanNodes.{nil-short, some-own}
+use Rattle.log.proofs.AdmissibleLaws.{Safe, imageAfter, nodeAfter, admissible-same, plan-same, written-count}
+use Rattle.log.proofs.PolicyLaws.{Decided, by-plan, decided, fits, no-plan}
 
--- ---- how many operations
 -- an erase for each block, three operations for each page
 pub length-plan : (g : Geometry) (c : ℕ) (q : Plan) → length (opsOf g c q) ≡ length (q .erased) + 3 * length (q .written)
 length-plan g c q =
@@ -39,98 +37,55 @@ length-plan g c q =
     length-pages d n k [] = refl
     length-pages d n k (t ∷ ts) = ap suc (length-pages d n (suc k) ts)
 
-add-few : (room : ℕ) (k : Pack) (ps : List (List Pack)) → length (add room k ps) ≤ suc (length ps)
-add-few room k [] = omega arith
-add-few room k (p ∷ ps) = cases (leb (length (unitsOfPacks (k ∷ p))) room) (λ t. rw t (omega arith)) (λ t. rw t (omega arith))
+-- ---- with a unit there is something to write, so a plan that is not stuck has a page
+page-some : (ts : List Sheet) → 0 < length ts → isEmpty ts ≡ false
+page-some [] h = absurd (omega arith)
+page-some (t ∷ ts) h = refl
 
-pack-few : (room : ℕ) (ks : List Pack) → length (pack room ks) ≤ length ks
-pack-few room [] = omega arith
-pack-few room (k ∷ ks) = omega (arith, add-few room k (pack room ks), pack-few room ks)
+assigned-some : (c : ℕ) (t : Target) → Assigned c t → 0 < c
+assigned-some c unwritten x = absurd x
+assigned-some c (inPage q) x = omega arith
 
-sheets-few : (ws : List ℕ) (ks : List (List Pack)) → length (sheets ws ks) ≤ length ks
-sheets-few [] ks = omega arith
-sheets-few (p ∷ ws) [] = omega arith
-sheets-few (p ∷ ws) (k ∷ ks) = omega (arith, sheets-few ws ks)
+module _ (g : Geometry) (limit B : ℕ) (torn : List ℕ) (ch : Chip g limit B torn) (ps : List Page) (tb : List Node) (G : ℕ) (us : List U.Unit)
+    (rd : Committable g limit B ps tb G us) (pending : 0 < length us) (wide : 2 * spareBlocks g B + 1 ≤ B) where
+  -- something is written of a node with buffered units
+  written-some : (a : ℕ → Bool) (n : ℕ) → n < limit → (own n us ≡ [] → ⊥) → 0 < length (writtenOf (contentsOf (nodeAt tb) us) a n)
+  written-some a n l h =
+      nil-short (writtenOf (contentsOf (nodeAt tb) us) a n)
+      (λ z. cases (a n) (λ t. h (fits ch rd n l .covers (rw t at z))) (λ t. h (rw t at z)))
 
-take-few : {A : Type 0} (n : ℕ) (xs : List A) → length (take n xs) ≤ length xs
-take-few zero xs = omega arith
-take-few (suc n) [] = omega arith
-take-few (suc n) (x ∷ xs) = omega (arith, take-few n xs)
+  count-some : (A : Assignment) → Admissible g limit B ps tb G (contentsOf (nodeAt tb) us) A → 0 < A .count
+  count-some A ad = go us refl
+    where
+      go : (vs : List U.Unit) → us ≡ vs → 0 < A .count
+      go [] e = absurd (omega (arith, ap length e))
+      go (v ∷ vs) e =
+          let b : v .node < limit = All-head (subst (All (Valid limit)) e (rd .valid)) .node in
+          let o : own (v .node) us ≡ [] → ⊥ = λ z. some-own vs v (ap (own (v .node)) (sym e) ∙ z) in
+          assigned-some (A .count) (A .target (v .node)) (ad .assigned (v .node) b (written-some (A .isAnew) (v .node) b o))
 
--- at most e blocks and w pages
-pub record Few (e w : ℕ) (q : Plan) : Type 0 where
-  pub erased : length (q .erased) ≤ e
-  pub written : length (q .written) ≤ w
+  from-some : (A : Assignment) → Admissible g limit B ps tb G (contentsOf (nodeAt tb) us) A
+      → isEmpty (planFrom g limit B ps tb G (contentsOf (nodeAt tb) us) A .written) ≡ false
+  from-some A ad =
+      let e : (n : ℕ) → n < limit → nodeAt tb n ≡ nodeIn g limit ps n = λ n l. kept-node g limit ps tb G (rd .kept) n fresh l in
+      let q = planFrom g limit B ps tb G (contentsOf (nodeAt tb) us) A in
+      let w = written-count ch rd pending A (admissible-same g limit B ps tb G (nodeAt tb) (nodeIn g limit ps) us A e ad) in
+      let p : length (q .written) ≡ length (planFrom g limit B ps tb G (contentsOf (nodeIn g limit ps) us) A .written) =
+      ap (λ (x : Plan). length (x .written)) (plan-same g limit B ps tb G (nodeAt tb) (nodeIn g limit ps) us A e) in
+      page-some (q .written) (omega (arith, p, w, count-some A ad))
 
-cond-few : (e w : ℕ) (b : Bool) (p q : Plan) → Few e w p → Few e w q → Few e w (cond b p q)
-cond-few e w true p q h k = h
-cond-few e w false p q h k = k
-
--- by the number of the unused blocks and of the groups
-pub plan-few : (g : Geometry) (limit B : ℕ) (ps : List Page) (tb : List Node) (c : ℕ) (T : ℕ → Node) (us : List U.Unit) → headBlock g ps < B
-    → Few B limit (planBy g limit B ps tb c T us)
-plan-few g limit B ps tb c T us hb =
-    let un = unused g B tb c (liveFrom g 0 ps) (headBlock g ps) in
-    let h = spareBlocks g B in
-    let ds = pack (g .units) (groups (delta T us) limit) in
-    let ss = pack (g .units) (groups (snapshot T us) limit) in
-    cond-few B limit (leb (suc (length ds)) (length (places g ps (headBlock g ps) (take (length un - h) un)))) _ _
-    (on (delta T us) (take (length un - h) un) (omega (arith, take-few (length un - h) un, few)))
-    (cond-few B limit (leb (suc (length ss)) (length (places g ps (headBlock g ps) (take h un)))) _ _
-    (on (snapshot T us) (take h un) (omega (arith, take-few h un, few)))
-    (record { erased = omega arith; written = omega arith }))
-  where
-    few : length (unused g B tb c (liveFrom g 0 ps) (headBlock g ps)) < B
-    few = unused-few g B tb c (liveFrom g 0 ps) (headBlock g ps) hb
-
-    on : (f : ℕ → List Update) (bs : List ℕ) → length bs ≤ B → Few B limit (planOn g ps (headBlock g ps) bs (pack (g .units) (groups f limit)))
-    on f bs l =
-        let ks = pack (g .units) (groups f limit) in
-        let ws = take (suc (length ks)) (places g ps (headBlock g ps) bs) in
-        record {
-          erased = omega (arith, length-filter (λ (b : ℕ). any (inBlock g b) ws && not (all (freeAt ps) (pagesIn g b))) bs);
-          written = omega (arith, sheets-few ws ks, pack-few (g .units) (groups f limit), length-groups f limit);
-        }
-
--- ---- with a unit there is a group, so a plan that is not stuck has a page
--- a page and a place for it
-sheet-some : (ws : List ℕ) (ks : List (List Pack)) → 0 < length ks → suc (length ks) ≤ length ws → isEmpty (sheets (take (suc (length ks)) ws) ks) ≡ false
-sheet-some ws [] h l = absurd (omega arith)
-sheet-some [] (k ∷ ks) h l = absurd (omega arith)
-sheet-some (w ∷ ws) (k ∷ ks) h l = refl
-
-module _ (g : Geometry) (limit B : ℕ) (ps : List Page) (tb : List Node) (G : ℕ) (us : List U.Unit) (rd : Committable g limit B ps tb G us)
-    (pending : 0 < length us) where
-  abbrev T : ℕ → Node
-  T = nodeIn g limit ps
-
-  abbrev un : List ℕ
-  un = unused g B tb G (liveFrom g 0 ps) (headBlock g ps)
-
-  on-some : (f : ℕ → List Update) → ((n : ℕ) → n < limit → CommitsNode T us f n) → (bs : List ℕ) (other : Plan)
-      → (other ≡ stuck) ⊎ (isEmpty (other .written) ≡ false)
-      → (planElse g ps (headBlock g ps) bs (pack (g .units) (groups f limit)) other ≡ stuck)
-      ⊎ (isEmpty (planElse g ps (headBlock g ps) bs (pack (g .units) (groups f limit)) other .written) ≡ false)
-  on-some f k bs other h =
-      let ks = pack (g .units) (groups f limit) in
-      let ws = places g ps (headBlock g ps) bs in
-      cases (leb (suc (length ks)) (length ws))
-      (λ t. inr (rw t (sheet-some ws ks (pack-some (g .units) (groups f limit) (any-group T us limit f (rd .valid) pending k)) (leb-true (suc (length ks)) (length ws) t))))
-      (λ t. rw t h)
-
-  by-some : (planBy g limit B ps tb G T us ≡ stuck) ⊎ (isEmpty (planBy g limit B ps tb G T us .written) ≡ false)
-  by-some =
-      let h = spareBlocks g B in
-      on-some (delta T us) (λ n l. delta-fits T us limit (rd .valid) n (rd .fair n l)) (take (length un - h) un) _
-      (on-some (snapshot T us) (λ n l. snapshot-fits T us limit (rd .valid) n (rd .fair n l)) (take h un) stuck (inl refl))
+  some-by : (d : Decision) → Decided ch rd d → (q : Plan) → q ≡ planBy g limit B ps tb G (contentsOf (nodeAt tb) us) d
+      → (q ≡ stuck) ⊎ (isEmpty (q .written) ≡ false)
+  some-by d (no-plan e) q i = inl (i ∙ ap (planBy g limit B ps tb G (contentsOf (nodeAt tb) us)) e)
+  some-by d (by-plan A e a) q i =
+      inr (ap (λ (x : Plan). isEmpty (x .written)) (i ∙ ap (planBy g limit B ps tb G (contentsOf (nodeAt tb) us)) e) ∙ from-some A a)
 
   pub plan-some : (planOf g limit B ps tb G us ≡ stuck) ⊎ (isEmpty (planOf g limit B ps tb G us .written) ≡ false)
-  plan-some =
-      subst (λ (q : Plan). (q ≡ stuck) ⊎ (isEmpty (q .written) ≡ false)) (sym (plan-nodes g limit B ps tb G us (rd .kept))) by-some
+  plan-some = some-by (decide g limit B ps tb G (contentsOf (nodeAt tb) us)) (decided ch rd wide) (planOf g limit B ps tb G us) refl
 
   -- a plan that does nothing is not safe: it would have to make commit G + 1
-  pub stuck-not : (h : ℕ) (torn : List ℕ) → Safe g limit B h torn ps tb G us stuck → ⊥
-  stuck-not h torn sf =
+  pub stuck-not : (h : ℕ) → Safe g limit B h torn ps tb G us stuck → ⊥
+  stuck-not h sf =
       let nx : List Node = tab 0 limit (nodeAfter g limit ps G stuck) in
       let e : meaning g limit (imageAfter g torn ps G stuck 0) ≡ means nx (suc G) = sf .cut 0 in
       let p : imageAfter g torn ps G stuck 0 ≡ ps = ap (λ (m : Machine). m .pages) (run-parts g torn 0 ps []) in
@@ -139,6 +94,5 @@ module _ (g : Geometry) (limit B : ℕ) (ps : List Page) (tb : List Node) (G : �
       omega arith
 
   -- so a safe plan has a page
-  pub safe-some : (h : ℕ) (torn : List ℕ) → Safe g limit B h torn ps tb G us (planOf g limit B ps tb G us) → isEmpty (planOf g limit B ps tb G us .written) ≡ false
-  safe-some h torn sf =
-      ⊎-elim (λ e. absurd (stuck-not h torn (subst (Safe g limit B h torn ps tb G us) e sf))) (λ e. e) plan-some
+  pub safe-some : (h : ℕ) → Safe g limit B h torn ps tb G us (planOf g limit B ps tb G us) → isEmpty (planOf g limit B ps tb G us .written) ≡ false
+  safe-some h sf = ⊎-elim (λ e. absurd (stuck-not h (subst (Safe g limit B h torn ps tb G us) e sf))) (λ e. e) plan-some

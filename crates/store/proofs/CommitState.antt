@@ -17,9 +17,10 @@ use Rattle.chip.proofs.Runs.{run-parts}
 use Rattle.views.specs.Table.{Node}
 use Rattle.views.specs.Groups.{Distinct}
 use Rattle.log.specs.Commit.{groupsOf}
-use Rattle.log.specs.Policy.{Plan, opsOf, spareBlocks, stuck, isEmpty}
+use Rattle.log.specs.Plan.{Plan, opsOf, spareBlocks, stuck, isEmpty}
 use Rattle.log.proofs.PlanKept.{chip-small, wide-small, few-small}
-use Rattle.log.proofs.PlanLaws.{Safe, committed, foreign}
+use Rattle.log.proofs.AdmissibleLaws.{Safe}
+use Rattle.log.proofs.PolicyLaws.{committed, foreign}
 use Rattle.promise.specs.Plain.{Answer, refuses, accepted, commits, firstRefusal}
 use Rattle.promise.specs.Plain as Plain
 use Rattle.promise.specs.Calls as P
@@ -40,9 +41,9 @@ use Rattle.store.specs.State.{turnedOff, limitOf, nodesOf, unitsOf, pres
 use Rattle.store.specs.Contracts.{index, thePlan, theOps, Commits}
 use Rattle.store.proofs.EndingLaws.{either-end}
 use Rattle.store.proofs.Begun.{Settled, settled-good, settled-state}
-use Rattle.store.proofs.CommitPlan.{safe-some}
+use Rattle.store.proofs.CommitPlan.{length-plan, safe-some}
 use Rattle.store.proofs.CommitGood.{good-chip, good-few, good-ready, good-buffer, good-plannable, good-room, count-none, count-some}
-use Rattle.store.proofs.CommitDone.{after-pages, after-gone, after-done, after-meaning, after-room, after-settled, nextNodes, next-views}
+use Rattle.store.proofs.CommitDone.{after-pages, after-gone, after-done, after-meaning, after-room, after-free, after-rests, after-settled, nextNodes, next-views}
 
 -- ---- numbers and answers that differ
 other : {Q : Type 0} (m k : ℕ) → (m ≡ k → ⊥) → refuses m ≡ refuses k → Q
@@ -102,6 +103,9 @@ module _ (n : ℕ) (torn : List ℕ) (s : State) (i : List ℕ) where
         bytes = λ c. absurd (never c);
         legal = λ c. absurd (never c);
         once = λ c. absurd (never c);
+        cost = λ c. absurd (never c);
+        pageFree = λ c. absurd (never c);
+        rests = λ c. absurd (never c);
         off = λ e. absurd (d e);
         bounds = record { blocks = refl; units = omega arith };
       }
@@ -181,8 +185,8 @@ module _ (n : ℕ) (torn : List ℕ) (s : State) (i : List ℕ) where
 
       safe-page : (g : Good small s i) → Secure (thePlan s i) → isEmpty (thePlan s i .written) ≡ false
       safe-page g sf =
-          safe-some small (limitOf s) (s .blocks) (pagesOf small i) (nodesOf small s i) (s .commit) (unitsOf s)
-          (good-ready s i g bytes pending number) (good-buffer s i g pending .pending) (spareBlocks small (s .blocks)) torn sf
+          safe-some small (limitOf s) (s .blocks) torn (chip-small (s .blocks) torn size) (pagesOf small i) (nodesOf small s i) (s .commit) (unitsOf s)
+          (good-ready s i g bytes pending number) (good-buffer s i g pending .pending) (wide-small (s .blocks) (good-chip s i g .least)) (spareBlocks small (s .blocks)) sf
 
       roomy : (g : Good small s i) → Room small i → Secure (thePlan s i)
       roomy g r =
@@ -232,6 +236,9 @@ module _ (n : ℕ) (torn : List ℕ) (s : State) (i : List ℕ) where
               bytes = λ c. run-none (c .good);
               legal = λ c. subst (λ (q : Plan). Legal small (pagesOf small i) (opsOf small (s .commit) q)) (sym (is-stuck (c .good))) tt;
               once = λ c. subst (λ (q : Plan). Distinct (groupsOf (q .written))) (sym (is-stuck (c .good))) tt;
+              cost = λ c. length-plan small (s .commit) (thePlan s i);
+              pageFree = λ c a. not-refused 6 (sym a);
+              rests = λ c a. not-refused 6 (sym a);
               off = λ e. other 6 10 (λ u. omega arith) e;
               bounds = record { blocks = refl; units = omega arith };
             }
@@ -310,6 +317,9 @@ module _ (n : ℕ) (torn : List ℕ) (s : State) (i : List ℕ) where
               bytes = λ c. run-is (c .good);
               legal = λ c. secure (c .good) .legal;
               once = λ c. secure (c .good) .once;
+              cost = λ c. length-plan small (s .commit) (thePlan s i);
+              pageFree = λ c a. not-refused 10 (sym a);
+              rests = λ c a. not-refused 10 (sym a);
               off = λ e. refl;
               bounds = record { blocks = refl; units = omega arith };
             })
@@ -369,6 +379,9 @@ module _ (n : ℕ) (torn : List ℕ) (s : State) (i : List ℕ) where
                 bytes = λ c. run-is (c .good);
                 legal = λ c. secure (c .good) .legal;
                 once = λ c. secure (c .good) .once;
+                cost = λ c. length-plan small (s .commit) (thePlan s i);
+                pageFree = λ c a. after-free n torn s i i' lens' slots' (e .left) (c .good) (by-plan (c .good)) (secure (c .good)) (enough (c .good));
+                rests = λ c a. after-rests n torn s i i' lens' slots' (e .left) (c .good) (by-plan (c .good)) (secure (c .good)) (enough (c .good));
                 off = λ e. not-refused 10 e;
                 bounds = record { blocks = refl; units = omega arith };
               })

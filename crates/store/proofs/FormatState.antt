@@ -22,7 +22,7 @@ use Rattle.views.specs.Table.{Node}
 use Rattle.views.specs.Stored.{Stores}
 use Rattle.views.proofs.Meanings.{inOrder, Kept}
 use Rattle.log.specs.Format.{formatData, formatOps, formattedBy, formatted, formatTable, formatNode}
-use Rattle.log.specs.Policy.{nodeAt, hasRoom, spareBlocks}
+use Rattle.log.specs.Plan.{nodeAt, hasRoom, spareBlocks}
 use Rattle.log.proofs.FormatLaws.{format-legal, format-count, format-pages, format-gone, format-done, format-small, format-order}
 use Rattle.log.proofs.PlanBlocks.{has-room}
 use Rattle.log.proofs.PlanRoom.{room-first}

@@ -18,7 +18,7 @@ use Rattle.tree.specs.Step6.{top}
 use Rattle.tree.specs.Shown.{shown, pagesRead}
 use Rattle.tree.specs.FindCode.{hitOf, Answers}
 use Rattle.tree.proofs.Paths.{path-there}
-use Rattle.log.specs.Policy.{nodeAt}
+use Rattle.log.specs.Plan.{nodeAt}
 use Rattle.promise.specs.Plain.{looksUp, refuses, admission, lookingUp, lookedUp}
 use Rattle.promise.specs.Calls.{stateOf, tellsOr}
 use Rattle.store.specs.declared.answer.Look.{Look}

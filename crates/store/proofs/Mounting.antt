@@ -25,7 +25,7 @@ use Rattle.views.specs.Table.{Node}
 use Rattle.views.proofs.ViewLaws.{Apart, apart-filter, apart-live}
 use Rattle.tree.specs.Tree.{Table}
 use Rattle.log.specs.Mount.{mountOps, mountedBy}
-use Rattle.log.specs.Policy.{hasRoom, spareBlocks}
+use Rattle.log.specs.Plan.{hasRoom, spareBlocks}
 use Rattle.log.proofs.MountLaws.{mount-legal, mount-keeps, mount-clean, mount-gone, mount-done, image-sized}
 use Rattle.log.proofs.PlanBlocks.{has-room, room-has}
 use Rattle.log.proofs.PlanRoom.{LiveAt, obsoletes, room-marks}

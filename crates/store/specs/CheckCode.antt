@@ -15,7 +15,7 @@ use Rattle.views.specs.Table as Views
 use Rattle.views.specs.Table.{Node, events, table, nodeOf, isSound, isWell}
 use Rattle.views.specs.Stored.{Stores}
 use Rattle.log.specs.Mount.{mountOps}
-use Rattle.log.specs.Policy.{nodeAt}
+use Rattle.log.specs.Plan.{nodeAt}
 use Rattle.promise.specs.Calls.{invalid}
 use Rattle.promise.specs.Image.{viewsOf, imageMeaning}
 use Rattle.tree.specs.Step6.{step6}

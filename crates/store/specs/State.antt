@@ -21,7 +21,8 @@ use Rattle.tree.specs.Tree as T
 use Rattle.tree.specs.Tree.{Table, entriesAt, rootLevel}
 use Rattle.tree.specs.Step6.{top, step6, Tree}
 use Rattle.tree.specs.Shown.{shown}
-use Rattle.log.specs.Policy.{hasRoom, spareBlocks, planOf, opsOf}
+use Rattle.log.specs.Plan.{hasRoom, spareBlocks, opsOf}
+use Rattle.log.specs.Policy.{planOf}
 use Rattle.promise.specs.Image.{viewsOf}
 use Rattle.store.specs.declared.state.State.{State}
 

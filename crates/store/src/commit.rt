@@ -1,6 +1,6 @@
 // Commit: the pending updates written as commit G + 1. 2; 1; 6 when updates are pending and G is the last number; 10.
 ghost use mathlib.Core.Path.{_≡_};
-ghost use Prim.Native.Nat.{_<_};
+ghost use Prim.Native.Nat.{_<_, _≤_};
 ghost use lib.ListN.{length};
 ghost use Rattle.chip.specs.Geometry.{small};
 ghost use Rattle.promise.specs.Plain.{firstRefusal, commits};
@@ -18,6 +18,7 @@ use crate::state::Wrote;
 use crate::state::WroteParts;
 use chip::power::Power;
 use commits::execute;
+use plan::make::Basis;
 
 // The most units that the buffer holds.
 const UNITS: usize = 960;
@@ -34,14 +35,16 @@ fn commit_pending(
     allowance: u32,
 ) -> WroteParts
     requires { ⌜ (firstRefusal small (numbers .on) (numbers .blocks) (commits allowance (length (now image)) (length (now torn))) ≡ 0)
-        × ChipOf (numbers .blocks) (length (now image)) × (length (now torn) ≡ 528) × (0 < numbers .pending) × (numbers .commit < 4294967295) ⌝ }
+        × ChipOf (numbers .blocks) (length (now image)) × (length (now torn) ≡ 528) × (0 < numbers .pending) × (numbers .commit < 4294967295)
+        × (numbers .count ≤ 960) ⌝ }
     ensures { λ r. ⌜ Commits allowance (now (torn .entry)) (joined numbers (now (buffer .entry)) (now (lens .entry)) (now (slots .entry)))
         (now (image .entry)) (wroteWith r (now (buffer .entry)) (now (lens .exit)) (now (slots .exit))) (now (image .exit)) ⌝ }
 {
-    let count = numbers.count;
-    let blocks = numbers.blocks;
-    let number = numbers.commit;
-    let limit = (8 * blocks) as u32;
+    let basis = Basis {
+        count: numbers.count,
+        blocks: numbers.blocks,
+        commit: numbers.commit,
+    };
     let power = Power::Left(allowance);
     let mut l = *lens;
     let mut s = *slots;
@@ -51,10 +54,7 @@ fn commit_pending(
         lens,
         slots,
         buffer,
-        count,
-        limit,
-        blocks,
-        number,
+        basis,
         torn,
         power,
         &mut l,
@@ -65,7 +65,7 @@ fn commit_pending(
     }
     let left = e.left;
     let mut n = numbers;
-    n.commit = number + 1;
+    n.commit = numbers.commit + 1;
     n.pending = 0;
     n.count = 0;
     ending::ended(numbers, lens, slots, n, &l, &s, allowance, left)

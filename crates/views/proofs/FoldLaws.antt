@@ -1,24 +1,27 @@
 -- One update of a view that is folded in two arrays, and the turns of the loop over its units. Assumes nothing.
-use mathlib.Core.Path.{_≡_, sym, ap, ap₂, _∙_}
-use mathlib.Core.Bool.{Bool, cond}
+use mathlib.Core.Path.{_≡_, refl, sym, ap, ap₂, _∙_, subst}
+use mathlib.Core.Logic.{⊎-elim}
+use mathlib.Core.Bool.{Bool, false, cond}
 use mathlib.Core.List.{List, _∷_}
-use Prim.Native.Nat.{ℕ, suc, _+_, _*_, _-_, _<_, _≤_}
+use Prim.Native.Nat.{ℕ, zero, suc, _+_, _*_, _-_, _<_, _≤_}
 use native.Mathlib.Omega.{arith}
-use lib.ListN.{length, take, drop, length-drop}
+use lib.Dec.{eqb}
+use lib.ListN.{getD, length, take, drop, length-drop}
 use lib.Seq.{drop-drop, take-all}
-use borrow.Author.Tests.{le-leb, lt-leb}
+use borrow.Author.Tests.{eq-eqb, le-leb, lt-leb, lt-ltb, ne-eqb}
 use Rattle.lists.specs.Lists.{all}
-use Rattle.pages.specs.declared.unit.Update.the-variants.{Insert, Delete}
+use Rattle.lists.proofs.Tests.{below-or-not}
+use Rattle.pages.specs.declared.unit.Update.the-variants.{Insert, Delete, Reset}
 use Rattle.pages.specs.declared.unit.Unit as U
 use Rattle.pages.specs.declared.unit.Decoded.{Decoded}
 use Rattle.pages.specs.declared.unit.Decoded.the-variants.{Good, Bad}
-use Rattle.pages.specs.Units.{decode, decodes}
+use Rattle.pages.specs.Units.{decode, decodes, half, word}
 use Rattle.views.specs.declared.fold.Shape.{Shape}
 use Rattle.views.specs.declared.fold.Stage.the-variants.{Broken, Full}
 use Rattle.views.specs.Nodes.{View, broken, insertEntry, deleteEntry, apply}
 use Rattle.views.specs.NodeCode.{entriesIn, HoldsEntries}
 use Rattle.views.specs.Table.{isGood}
-use Rattle.views.specs.FoldCode.{viewIn, StandsIn}
+use Rattle.views.specs.FoldCode.{IsLaid, IsPassed, Skips, viewIn, StandsIn}
 use Rattle.views.specs.Stored.{turnView, viewAfter, viewOver}
 
 -- ---- one update of a view so far, its shape s over keys ks and values vs, which leaves the entries in ls and ws
@@ -76,11 +79,29 @@ module _ (limit n count : ℕ) (p : List ℕ) (w₀ : View) where
       is = ap (λ (v : View). viewAfter n v (rest (i + 1))) (q ∙ ap (turnView n w) (sym e)) ∙ ap (viewAfter n w) (sym next) ∙ left .is;
     }
 
+    -- a unit of another node
+    left-passed : (q : (u : U.Unit) × (d ≡ Good u) × (eqb (u .node) n ≡ false)) → Left (i + 1) w
+    left-passed q =
+        let t : eqb (q .0 .node) n ≡ false = q .2 in
+        let e : w ≡ turnView n w (Good (q .0)) = rw t in
+        left-next (q .0) w (q .1) e
+
     -- no unit
     pub stopped : d ≡ Bad → broken ≡ viewOver n w₀ (decodes limit count p)
     stopped e =
         ap (λ (b : Bool). cond b (viewAfter n w₀ (decodes limit count p)) broken)
         (ap (λ (x : Decoded). all isGood (x ∷ rest (i + 1))) (sym e) ∙ ap (all isGood) (sym next) ∙ left .good)
+
+  -- units of other nodes
+  pub left-skip : (i r : ℕ) (w : View) → Left i w → Skips limit n p count i r → Left r w
+  left-skip i r w left s = go (r - i) i (omega (arith, s .low)) left (s .are)
+    where
+      go : (m j : ℕ) → r ≡ j + m → Left j w → ((k : ℕ) → j ≤ k → k < r → IsPassed limit n (take (length p - 12 * k) (drop (12 * k) p))) → Left r w
+      go zero j e l are = subst (λ (k : ℕ). Left k w) (let z : j ≡ r = omega arith in z) l
+      go (suc m) j e l are =
+          go m (j + 1) (omega arith)
+          (left-passed j w (decode limit (take (length p - 12 * j) (drop (12 * j) p))) l (omega (arith, s .high)) refl (are j (omega arith) (omega arith)))
+          (λ k a b. are k (omega arith) b)
 
   -- all units are folded
   pub ended : (i : ℕ) (w : View) → Left i w → count ≤ i → w ≡ viewOver n w₀ (decodes limit count p)
@@ -89,3 +110,27 @@ module _ (limit n count : ℕ) (p : List ℕ) (w₀ : View) where
       let a = left .good in
       let b = left .is in
       (rw e at b) ∙ ap (λ (t : Bool). cond t (viewAfter n w₀ (decodes limit count p)) broken) (rw e at a)
+
+-- ---- kind, key and value that obey the layout
+pub laid-insert : (b : List ℕ) → getD b 0 0 ≡ 1 → IsLaid b
+laid-insert b k m = (record { node = m; update = Insert (word b 4) (word b 8) }, rw (eq-eqb (getD b 0 0) 1 k), refl)
+
+pub laid-delete : (b : List ℕ) → getD b 0 0 ≡ 2 → word b 8 ≡ 0 → IsLaid b
+laid-delete b k v m = (record { node = m; update = Delete (word b 4) }, rw (k, v), refl)
+
+pub laid-reset : (b : List ℕ) → getD b 0 0 ≡ 3 → word b 4 ≡ 0 → word b 8 ≤ 3 → IsLaid b
+laid-reset b k e v m = (record { node = m; update = Reset (word b 8) }, rw (k, e, le-leb (word b 8) 3 v), refl)
+
+-- a unit of another node
+pub passed : (limit n : ℕ) (b : List ℕ) (m : ℕ) → getD b 1 0 ≡ 0 → m ≡ half b 2 → (m ≡ n → ⊥) → m < limit → IsLaid b → IsPassed limit n b
+unfolding decode
+passed limit n b m z e d l laid =
+    let q = laid (half b 2) in
+    (q .0, rw (eq-eqb (getD b 1 0) 0 z, lt-ltb (half b 2) limit (omega arith)) (q .1), ne-eqb (q .0 .node) n (λ s. d (e ∙ sym (q .2) ∙ s)))
+
+-- one more that is skipped
+pub skips-next : (limit n : ℕ) (p : List ℕ) (i j : ℕ) → ((k : ℕ) → i ≤ k → k < j → IsPassed limit n (take (length p - 12 * k) (drop (12 * k) p)))
+    → IsPassed limit n (take (length p - 12 * j) (drop (12 * j) p)) → (k : ℕ) → i ≤ k → k < j + 1 → IsPassed limit n (take (length p - 12 * k) (drop (12 * k) p))
+skips-next limit n p i j are here k a b =
+    ⊎-elim (λ (l : k < j). are k a l)
+    (λ (l : j ≤ k). subst (λ (m : ℕ). IsPassed limit n (take (length p - 12 * m) (drop (12 * m) p))) (let z : j ≡ k = omega arith in z) here) (below-or-not k j)

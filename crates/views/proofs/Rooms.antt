@@ -1,4 +1,4 @@
--- Which blocks no list names after a commit that is a snapshot: all that were not written. Assumes nothing.
+-- Which blocks no list names after a commit: those that none named before and that got no page. Assumes nothing.
 use mathlib.Core.Path.{_≡_, ap, _∙_}
 use mathlib.Core.Bool.{Bool, false}
 use mathlib.Core.List.{List, [], _∷_, foldl}
@@ -6,7 +6,7 @@ use Prim.Native.Nat.{ℕ, _<_}
 use lib.Dec.{eqb}
 use Rattle.lists.specs.Lists.{any, All, none, more}
 use Rattle.lists.proofs.Tests.{cases}
-use Rattle.lists.proofs.Alls.{All-map, All-zip}
+use Rattle.lists.proofs.Alls.{All-map}
 use Rattle.lists.proofs.Flats.{All-flat}
 use Rattle.chip.specs.Geometry.{Geometry}
 use Rattle.chip.specs.Chip.{inBlock}
@@ -16,9 +16,7 @@ use Rattle.pages.specs.declared.unit.Decoded.{Decoded}
 use Rattle.pages.specs.declared.unit.Decoded.the-variants.{Good, Bad}
 use Rattle.pages.specs.Steps.{Live, commit}
 use Rattle.views.specs.Table.{Event, eventsOf, events, joins, listed, Node, turnUnit, turn}
-use Rattle.views.specs.Groups.{Group, eventsIn, Without, Distinct}
 use Rattle.views.proofs.Folds.{events-at}
-use Rattle.views.proofs.Groups.{by-groups, list-anew}
 
 -- no list of a node names a page of block b
 abbrev pub Unlisted : Geometry → ℕ → (ℕ → Node) → ℕ → Type 0
@@ -56,13 +54,3 @@ module _ (hit : ℕ → Bool) where
   pub still-unlisted : (limit n : ℕ) (s : Node) (news : List Live) → All (λ (x : Live). hit (x .place) ≡ false) news
       → any hit (s .pages) ≡ false → any hit (foldl (turn n) s (events limit news) .pages) ≡ false
   still-unlisted limit n s news h m = fold-miss n s (places-miss limit h) m
-
-  -- a snapshot: every node with a list is written anew; then the lists name only pages that were written
-  pub snapshot-unlisted : (n : ℕ) (s : Node) (qs : List Group) → Distinct qs
-      → All (λ (q : Group). hit (q .place) ≡ false) qs
-      → All (λ (q : Group). (l : ℕ) × (us : List Update) × (q .updates ≡ Reset l ∷ us)) qs
-      → (Without n qs → s .pages ≡ []) → any hit (foldl (turn n) s (eventsIn qs) .pages) ≡ false
-  snapshot-unlisted n s qs d h a k =
-      by-groups (λ (r : Node). any hit (r .pages) ≡ false) n qs s d
-      (All-zip (λ q m r e. let o = list-anew (q .place) s (r .0) (r .1) in rw (r .2, o, m)) h a)
-      (λ w. rw (k w))

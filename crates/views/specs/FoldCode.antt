@@ -1,8 +1,13 @@
 -- How the code folds the units of one node: the view that its structs and arrays show.
 use mathlib.Core.Path.{_≡_}
+use mathlib.Core.Bool.{false}
 use mathlib.Core.List.{List}
-use Prim.Native.Nat.{ℕ, _≤_}
-use lib.ListN.{length}
+use Prim.Native.Nat.{ℕ, _*_, _-_, _<_, _≤_}
+use lib.Dec.{eqb}
+use lib.ListN.{drop, getD, length, take}
+use Rattle.pages.specs.declared.unit.Unit as U
+use Rattle.pages.specs.declared.unit.Decoded.the-variants.{Good}
+use Rattle.pages.specs.Units.{decode, decodeKind, word}
 use Rattle.views.specs.declared.node.Node.{Node}
 use Rattle.views.specs.declared.fold.Stage.{Stage}
 use Rattle.views.specs.declared.fold.Stage.the-variants.{Untouched, Broken, Full}
@@ -38,3 +43,17 @@ pub record StandsIn (r : Shape) (ks vs : List ℕ) (w : View) : Type 0 where
   pub room : r .len ≤ 16
   pub keys : length ks ≡ 17
   pub values : length vs ≡ 17
+
+-- kind, key and value of the bytes obey the layout, whatever the node
+abbrev pub IsLaid : List ℕ → Type 0
+IsLaid b = (m : ℕ) → (u : U.Unit) × (decodeKind m (getD b 0 0) (word b 4) (word b 8) ≡ Good u) × (u .node ≡ m)
+
+-- the bytes are a unit that obeys the layout and is of another node than n
+abbrev pub IsPassed : ℕ → ℕ → List ℕ → Type 0
+IsPassed limit n b = (u : U.Unit) × (decode limit b ≡ Good u) × (eqb (u .node) n ≡ false)
+
+-- the units of p from i on, below r, are such
+pub record Skips (limit n : ℕ) (p : List ℕ) (count i r : ℕ) : Type 0 where
+  pub low : i ≤ r
+  pub high : r ≤ count
+  pub are : (k : ℕ) → i ≤ k → k < r → IsPassed limit n (take (length p - 12 * k) (drop (12 * k) p))

@@ -1,12 +1,13 @@
 // One node while its units are folded: its entries stand in two lent arrays, and all else of its view is a small struct.
 ghost use mathlib.Core.Path.{_≡_};
+ghost use mathlib.Core.Bool.{true};
 ghost use Prim.Native.Nat.{_*_, _≤_};
 ghost use lib.ListN.{length};
 ghost use Rattle.pages.specs.Units.{decodes};
 ghost use Rattle.pages.specs.declared.unit.Update.the-variants.{Insert, Delete};
 ghost use Rattle.pages.specs.declared.unit.Decoded.the-variants.{Good};
 ghost use Rattle.views.specs.Nodes.{apply};
-ghost use Rattle.views.specs.FoldCode.{viewIn, StandsIn};
+ghost use Rattle.views.specs.FoldCode.{viewIn, StandsIn, IsLaid, IsPassed, Skips};
 ghost use Rattle.views.specs.Stored.{turnView, viewOver};
 use crate::node;
 use crate::node::Node;
@@ -14,6 +15,8 @@ use pages::unit::Decoded;
 use pages::unit::Unit;
 use pages::unit::Update;
 use pages::unit::decode_unit;
+use pages::unit::read_half;
+use pages::unit::read_word;
 
 // No unit yet; units without a reset, or above 16 entries since the last one; a level and entries.
 pub enum Stage {
@@ -126,6 +129,60 @@ fn turn(s: Shape, keys: &mut [u32], values: &mut [u32], u: Unit, node: u32) -> S
     }
 }
 
+// Do kind, key and value obey the layout? Of an insert only the kind is read.
+fn is_laid(bytes: &[u8]) -> bool
+    requires { ⌜ 12 ≤ length (now bytes) ⌝ }
+    ensures { λ r. ⌜ (r ≡ true → IsLaid (now (bytes .entry))) ⌝ }
+{
+    let kind = bytes[0];
+    if kind == 1 {
+        return true;
+    }
+    let value = read_word(bytes, 8);
+    if kind == 2 {
+        return value == 0;
+    }
+    if kind == 3 {
+        if read_word(bytes, 4) == 0 {
+            return value <= 3;
+        }
+    }
+    false
+}
+
+// Is this a unit of another node? It is tested, and not decoded.
+fn is_passed(bytes: &[u8], node: u32, limit: u32) -> bool
+    requires { ⌜ 12 ≤ length (now bytes) ⌝ }
+    ensures { λ r. ⌜ (r ≡ true → IsPassed limit node (now (bytes .entry))) ⌝ }
+{
+    if bytes[1] != 0 {
+        return false;
+    }
+    let n = read_half(bytes, 2);
+    if n == node {
+        return false;
+    }
+    if n >= limit {
+        return false;
+    }
+    is_laid(bytes)
+}
+
+// The first of the units from `from` on that is not one of another node; `count` where there is none.
+fn skip(units: &[u8], from: usize, count: usize, node: u32, limit: u32) -> usize
+    requires { ⌜ (12 * count ≤ length (now units)) × (from ≤ count) ⌝ }
+    ensures { λ r. ⌜ Skips limit node (now (units .entry)) count from r ⌝ }
+{
+    let mut i = from;
+    while i < count {
+        if !is_passed(&units[12 * i..], node, limit) {
+            return i;
+        }
+        i += 1;
+    }
+    i
+}
+
 // A node after the first `count` units, of which those of `node` count; broken where 12 bytes are no unit.
 pub fn fold_units(
     s: Shape,
@@ -141,14 +198,14 @@ pub fn fold_units(
         (viewOver node (viewIn s (now (keys .entry)) (now (values .entry))) (decodes limit count (now (units .entry)))) ⌝ }
 {
     let mut g = s;
-    let mut i: usize = 0;
+    let mut i = skip(units, 0, count, node, limit);
     while i < count {
         let d = decode_unit(&units[12 * i..], limit);
         let Decoded::Good(u) = d else {
             return spoil(g);
         };
         g = turn(g, keys, values, u, node);
-        i += 1;
+        i = skip(units, i + 1, count, node, limit);
     }
     g
 }

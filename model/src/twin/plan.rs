@@ -1,6 +1,7 @@
-//! What a commit writes: a group of units for each node, and which groups stand on which page.
+//! The plan of a commit: which nodes are written, each anew or in its own buffered units, and into which of its pages.
 
-use super::chip::{DATA, UNITS};
+use super::chip::{DATA, PAGES, UNITS};
+use super::ground::Ground;
 use super::state::{State, BUFFER};
 use super::unit::{decode, encode, node_of, Update, UNIT};
 use super::view::{key_of, value_of, Stage, View};
@@ -36,57 +37,110 @@ impl Sorted {
     }
 
     /// The indexes of the units of a node.
-    fn own(&self, number: u32) -> &[u16] {
-        let n = number as usize;
+    fn own(&self, n: usize) -> &[u16] {
         &self.order[usize::from(self.start[n])..usize::from(self.start[n + 1])]
     }
 }
 
-/// What a commit writes of a node: nothing, its own units of the buffer, or a reset and an insert for each entry.
-pub enum Group {
-    Nothing,
-    Own(usize),
-    Anew(View),
+/// The most units of a node written anew: a reset and 16 entries.
+const WHOLE: usize = 17;
+
+/// No page.
+const NONE: u8 = 255;
+
+/// The pages of a commit: for each node its page, if it has one, and whether it is written anew; of a node that was read, `whole` is how
+/// many units that is, and `units` has them, 17 places a node; the free units of each page.
+pub struct Plan {
+    pub pages: usize,
+    target: [u8; 256],
+    anew: [bool; 256],
+    read: [bool; 256],
+    whole: [u8; 256],
+    rooms: [u8; 128],
+    units: [[u8; UNIT]; 256 * WHOLE],
 }
 
-impl Group {
-    /// How many units a group has.
-    fn len(&self) -> usize {
-        match self {
-            Group::Nothing => 0,
-            Group::Own(len) => *len,
-            Group::Anew(view) => view.len + 1,
+impl Plan {
+    /// No page yet, and no node read.
+    pub fn empty() -> Plan {
+        Plan {
+            pages: 0,
+            target: [NONE; 256],
+            anew: [false; 256],
+            read: [false; 256],
+            whole: [0; 256],
+            rooms: [0; 128],
+            units: [[0; UNIT]; 256 * WHOLE],
         }
     }
-}
 
-/// The pages of a commit, a snapshot or not: page k in node order has the nodes from `bounds[k]` on, below `bounds[k + 1]`. `own` is how
-/// many units a node has whose own units are written; 0 where the node has to be read again when its page is built.
-pub struct Pack {
-    pub anew: bool,
-    pub pages: usize,
-    bounds: [u16; 257],
-    own: [u8; 256],
-}
+    /// A node's units where it is written anew; none where it has no view.
+    fn keep(&mut self, n: usize, view: &View) {
+        self.read[n] = true;
+        if view.stage == Stage::Full {
+            put_node(&mut self.units[WHOLE * n..][..view.len + 1], n as u32, view);
+            self.whole[n] = view.len as u8 + 1;
+        }
+    }
 
-impl Pack {
-    /// The nodes of the page with this index; index 0 has the highest nodes.
-    fn nodes(&self, index: usize) -> std::ops::Range<u32> {
-        let k = self.pages - index;
-        u32::from(self.bounds[k - 1])..u32::from(self.bounds[k])
+    /// The first page with room for this many units.
+    fn first(&self, size: u8) -> Option<usize> {
+        self.rooms[..self.pages].iter().position(|&room| room >= size)
+    }
+
+    /// A node's units put into a page.
+    fn put(&mut self, n: usize, page: usize, size: u8) {
+        self.rooms[page] -= size;
+        self.target[n] = page as u8;
+    }
+
+    /// A node of this many units put into the first page that has room, else into a new one.
+    fn pack(&mut self, n: usize, size: u8) {
+        if size == 0 || self.target[n] != NONE {
+            return;
+        }
+        let page = self.first(size).unwrap_or_else(|| {
+            self.rooms[self.pages] = UNITS as u8;
+            self.pages += 1;
+            self.pages - 1
+        });
+        self.put(n, page, size);
+    }
+
+    /// A node without a page written anew where a page has room.
+    fn fill(&mut self, n: usize) {
+        if self.target[n] == NONE && self.whole[n] > 0 {
+            if let Some(page) = self.first(self.whole[n]) {
+                self.anew[n] = true;
+                self.put(n, page, self.whole[n]);
+            }
+        }
+    }
+
+    /// A node in its own units turned anew where its page has room.
+    fn widen(&mut self, n: usize, part: usize) {
+        if self.anew[n] || self.target[n] == NONE {
+            return;
+        }
+        let more = self.whole[n] - part as u8;
+        let room = &mut self.rooms[usize::from(self.target[n])];
+        if more <= *room {
+            *room -= more;
+            self.anew[n] = true;
+        }
     }
 }
 
 impl State {
     /// A node's view from its pages and then from its sorted units; its pages count nothing where the buffer has a reset.
-    fn view_sorted(&self, image: &[u8], sorted: &Sorted, number: u32) -> View {
+    fn view_sorted(&self, image: &[u8], sorted: &Sorted, n: usize) -> View {
         let limit = self.limit();
-        let mut view = match sorted.reset[number as usize] {
+        let mut view = match sorted.reset[n] {
             true => View::UNTOUCHED,
-            false => self.stored(image, number, limit),
+            false => self.stored(image, n as u32, limit),
         };
         let units = self.buffered();
-        for &i in sorted.own(number) {
+        for &i in sorted.own(n) {
             if let Some(update) = decode(&units[usize::from(i)], limit) {
                 view.apply(update);
             }
@@ -94,67 +148,87 @@ impl State {
         view
     }
 
-    /// What a commit writes of a node: in a snapshot every node anew; in a delta its buffered units, or the node anew where they have a
-    /// reset, or that is no more units, or its list is full.
-    fn group(&self, image: &[u8], sorted: &Sorted, number: u32, anew: bool) -> Group {
-        let own = sorted.own(number).len();
-        if sorted.bad || own == 0 && !anew {
-            return Group::Nothing;
-        }
-        let view = self.view_sorted(image, sorted, number);
-        let full = view.stage == Stage::Full;
-        let n = number as usize;
-        if !anew && !sorted.reset[n] && full && view.len + 1 > own && self.lens[n] < 4 {
-            return Group::Own(own);
-        }
-        if full {
-            Group::Anew(view)
-        } else {
-            Group::Nothing
+    /// Whether the list of a node has a page in this block.
+    fn stands_in(&self, n: usize, block: Option<usize>) -> bool {
+        self.list(n as u32).iter().any(|&place| Some(place as usize / PAGES) == block)
+    }
+
+    /// A snapshot: every node anew. A node that was read already is not read again.
+    pub fn snapshot(&self, image: &[u8], sorted: &Sorted, plan: &mut Plan) {
+        plan.pages = 0;
+        plan.target = [NONE; 256];
+        for n in 0..self.limit() as usize {
+            if !sorted.bad && !plan.read[n] {
+                plan.keep(n, &self.view_sorted(image, sorted, n));
+            }
+            plan.anew[n] = true;
+            plan.pack(n, plan.whole[n]);
         }
     }
 
-    /// The groups of all nodes from 0 up put into pages, a group never split. Before the first page none has room.
-    /// Where `shifts`, writing a page can change a node's view, and what a node's group is holds for the moment alone.
-    pub fn pack(&self, image: &[u8], sorted: &Sorted, anew: bool, shifts: bool) -> Pack {
-        let mut pack = Pack { anew, pages: 0, bounds: [0; 257], own: [0; 256] };
-        let mut fill = UNITS;
-        for n in 0..self.limit() {
-            let group = self.group(image, sorted, n, anew);
-            let len = group.len();
-            if matches!(group, Group::Own(_)) && !shifts {
-                pack.own[n as usize] = len as u8;
+    /// The nodes that a delta may write, read once: those with buffered units, and those of the oldest block. A node is written anew
+    /// where its buffered units have a reset, or that is no more units, or its list is full.
+    fn measure(&self, image: &[u8], sorted: &Sorted, ground: &Ground, plan: &mut Plan) {
+        for n in 0..self.limit() as usize {
+            let own = sorted.own(n).len();
+            if own > 0 || self.stands_in(n, ground.oldest) {
+                plan.keep(n, &self.view_sorted(image, sorted, n));
+                plan.anew[n] = own > 0 && (sorted.reset[n] || usize::from(plan.whole[n]) <= own || self.lens[n] >= 4);
             }
-            fill += len;
-            if fill > UNITS {
-                pack.pages += 1;
-                fill = len;
-            }
-            pack.bounds[pack.pages] = n as u16 + 1;
         }
-        pack
     }
 
-    /// The units of the groups of a page's nodes, the highest first, written behind its header. Returns how many there are.
-    pub fn gather(&self, image: &[u8], sorted: &Sorted, pack: &Pack, index: usize, data: &mut [u8; DATA]) -> usize {
+    /// A delta: the nodes to be written anew go into pages first, then the others in their own units. Room that is left is filled: lists
+    /// of 3 pages turn anew, then nodes of the oldest block join, then lists of 2 and of 1 turn.
+    pub fn delta(&self, image: &[u8], sorted: &Sorted, ground: &Ground, plan: &mut Plan) {
+        if sorted.bad {
+            return;
+        }
+        let nodes = || 0..self.limit() as usize;
+        self.measure(image, sorted, ground, plan);
+        for n in nodes() {
+            if plan.anew[n] {
+                plan.pack(n, plan.whole[n]);
+            }
+        }
+        for n in nodes() {
+            if !plan.anew[n] {
+                plan.pack(n, sorted.own(n).len() as u8);
+            }
+        }
+        self.widen(sorted, plan, 3);
+        for n in nodes() {
+            if self.stands_in(n, ground.oldest) {
+                plan.fill(n);
+            }
+        }
+        self.widen(sorted, plan, 2);
+        self.widen(sorted, plan, 1);
+    }
+
+    /// The nodes whose lists have `depth` pages turned anew where their pages have room.
+    fn widen(&self, sorted: &Sorted, plan: &mut Plan, depth: u32) {
+        for n in (0..self.limit() as usize).filter(|&n| self.lens[n] == depth) {
+            plan.widen(n, sorted.own(n).len());
+        }
+    }
+
+    /// The units of a page's nodes in the order of their numbers, written behind its header. Returns how many there are.
+    pub fn gather(&self, sorted: &Sorted, plan: &Plan, index: usize, data: &mut [u8; DATA]) -> usize {
         let (out, _) = data[8..].as_chunks_mut::<UNIT>();
         let buffered = self.buffered();
         let mut k = 0;
-        for n in pack.nodes(index).rev() {
-            let group = match pack.own[n as usize] {
-                0 => self.group(image, sorted, n, pack.anew),
-                own => Group::Own(usize::from(own)),
-            };
-            if k + group.len() > UNITS {
-                continue;
+        for n in (0..self.limit() as usize).filter(|&n| usize::from(plan.target[n]) == index) {
+            if plan.anew[n] {
+                let whole = usize::from(plan.whole[n]);
+                out[k..k + whole].copy_from_slice(&plan.units[WHOLE * n..][..whole]);
+                k += whole;
+            } else {
+                for &i in sorted.own(n) {
+                    out[k] = buffered[usize::from(i)];
+                    k += 1;
+                }
             }
-            let room = &mut out[k..k + group.len()];
-            match &group {
-                Group::Nothing => {}
-                Group::Own(_) => room.iter_mut().zip(sorted.own(n)).for_each(|(u, &i)| *u = buffered[usize::from(i)]),
-                Group::Anew(view) => put_node(room, n, view),
-            }
-            k += group.len();
         }
         k
     }

@@ -8,7 +8,7 @@ use lib.ListN.{length, take}
 use Rattle.lists.specs.Lists.{filter}
 use Rattle.chip.specs.Geometry.{small}
 use Rattle.chip.specs.Chip.{pagesOf}
-use Rattle.log.specs.Policy.{countFrom, freeAt}
+use Rattle.log.specs.Plan.{countFrom, freeAt}
 use Rattle.plan.specs.SurveyCode.{freePages}
 use Rattle.plan.proofs.PlaceLaws.{free-pages-is}
 use Rattle.plan.proofs.MarkLaws.{push-next, push-done}

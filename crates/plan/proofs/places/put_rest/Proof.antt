@@ -5,7 +5,7 @@ use native.Mathlib.Omega.{arith}
 use lib.ListN.{length, take, length-set}
 use Rattle.lists.specs.Lists.{flat}
 use Rattle.chip.specs.Geometry.{small}
-use Rattle.log.specs.Policy.{pagesIn}
+use Rattle.log.specs.Plan.{pagesIn}
 use Rattle.plan.proofs.PlaceLaws.{take-at-all, rest-start, rest-next, rest-done}
 use borrow.Author.Needs.{needs}
 use Rattle.plan.proofs.places.put_rest.Statement.{statement}

@@ -4,7 +4,7 @@ use Prim.Native.Nat.{_+_, _-_, _≤_}
 use native.Mathlib.Omega.{arith}
 use lib.ListN.{length, take}
 use Rattle.lists.specs.Lists.{filter}
-use Rattle.log.specs.Policy.{countFrom}
+use Rattle.log.specs.Plan.{countFrom}
 use Rattle.plan.specs.SurveyCode.{isUnmarked}
 use Rattle.plan.proofs.MarkLaws.{push-next, push-done}
 use borrow.Author.Needs.{needs}

@@ -6,7 +6,7 @@ use lib.ListN.{length}
 use Rattle.lists.specs.Lists.{flat}
 use Rattle.chip.specs.Geometry.{small}
 use Rattle.views.specs.Stored.{storedList}
-use Rattle.log.specs.Policy.{countFrom}
+use Rattle.log.specs.Plan.{countFrom}
 use Rattle.plan.specs.SurveyCode.{mark}
 use Rattle.plan.proofs.MarkLaws.{node-next, nodes-done, length-marks}
 use borrow.Author.Needs.{needs}

@@ -8,7 +8,7 @@ use Rattle.chip.specs.Geometry.{small}
 use Rattle.chip.specs.Chip.{pagesOf}
 use Rattle.pages.specs.Steps.{liveFrom, ordered}
 use Rattle.views.specs.Stored.{storedList}
-use Rattle.log.specs.Policy.{countFrom}
+use Rattle.log.specs.Plan.{countFrom}
 use Rattle.plan.specs.declared.survey.Newest.{Newest}
 use Rattle.plan.specs.SurveyCode.{mark, markHeld}
 use Rattle.plan.proofs.LastLaws.{last-place}

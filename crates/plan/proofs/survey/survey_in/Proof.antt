@@ -1,11 +1,12 @@
 use mathlib.Core.Path.{sym, ap, _∙_}
-use Prim.Native.Nat.{_<_}
+use Prim.Native.Nat.{ℕ, _<_}
 use native.Mathlib.Omega.{arith}
-use lib.ListN.{length}
+use lib.ListN.{getD, length}
 use lib.Seq.{length-take-le}
 use Rattle.chip.specs.Geometry.{small}
 use Rattle.chip.specs.Chip.{pagesOf}
-use Rattle.plan.proofs.SurveyLaws.{survey-on, unmarked-unused}
+use Rattle.plan.specs.SurveyCode.{firstOr}
+use Rattle.plan.proofs.SurveyLaws.{marked-used, no-block, survey-on, unmarked-unused}
 use borrow.Author.Needs.{needs}
 use Rattle.plan.proofs.survey.survey_in.Statement.{statement}
 use Rattle.plan.proofs.survey.survey_in.Tie as tie
@@ -14,6 +15,11 @@ use Rattle.plan.proofs.survey.survey_in.Lts as lts
 use Rattle.plan.proofs.survey.free_of.Reads as free-of-reads
 use Rattle.plan.proofs.survey.list_unused.Reads as list-unused-reads
 use Rattle.plan.proofs.survey.mark_used.Reads as mark-used-reads
+use Rattle.plan.proofs.survey.oldest_of.Reads as oldest-of-reads
+
+-- the slots have 32 bits
+slot-bits : (w : tie.After-shared-slice-known3) → (j : ℕ) → getD (w .before .before .before .args .slots .now) j 0 < 4294967296
+slot-bits w j = omega (arith, w .shared-slice-known3 .given j)
 
 -- src/survey.rt:235:61
 slice-aggregate-mark-used : tie.Need-slice-aggregate-mark-used
@@ -43,6 +49,18 @@ free-of-requires c κs =
     let on : u .mark-used .result < k .args .blocks = rw (u .mark-used .ensures .0) (survey-on (k .args .blocks) (k .args .image .now) (k .pre .0) (k .pre .1)) in
     (omega (arith, k .pre .0), omega (arith, k .pre .0))
 
+-- src/survey.rt:283:28
+slice-aggregate-oldest-of : tie.Need-slice-aggregate-oldest-of
+slice-aggregate-oldest-of c = search needs
+
+-- src/survey.rt:283:18
+oldest-of-requires : tie.Need-oldest-of-requires
+oldest-of-requires c κs =
+    let u = c .before .before .before .before .before .before .before .before in
+    let k = u .before .before .before .before .before .before in
+    let on : u .mark-used .result < k .args .blocks = rw (u .mark-used .ensures .0) (survey-on (k .args .blocks) (k .args .image .now) (k .pre .0) (k .pre .1)) in
+    (search needs, on, k .pre .2)
+
 -- src/survey.rt:221:1
 same-length : tie.Need-same-length
 same-length c = search needs
@@ -50,7 +68,8 @@ same-length c = search needs
 -- src/survey.rt:221:1
 returns : tie.Need-returns
 returns c =
-    let l = c .before .before .before in
+    let f = c .before .before in
+    let l = f .before .before .before in
     let u = l .before .before .before .before in
     let k = u .before .before .before .before .before .before in
     let a = k .args in
@@ -64,8 +83,11 @@ returns c =
       list = list;
       size = sym (ap length list) ∙ length-take-le (l .list-unused .result) _ (omega (arith, l .list-unused .ensures .1, l .list-unused .ensures .2, k .pre .2));
       few = l .list-unused .ensures .1;
-      free = c .free-of .ensures .0;
-      most = c .free-of .ensures .1;
+      free = f .free-of .ensures .0;
+      most = f .free-of .ensures .1;
+      nowhere = no-block (a .slots .now) (slot-bits (u .before .before .before)) (a .lens .now);
+      oldest = c .oldest-of .ensures
+          ∙ ap (firstOr 4294967295) (marked-used (a .blocks) (a .limit) (a .lens .now) (a .slots .now) (a .commit) ps _ head on (k .pre .2) (u .mark-used .ensures .1));
     }
 
 pub survey-in-spec : {M : Type 1} → statement M
@@ -77,5 +99,7 @@ survey-in-spec =
     slice-aggregate-list-unused
     list-unused-requires
     free-of-requires
+    slice-aggregate-oldest-of
+    oldest-of-requires
     same-length
     returns)

@@ -89,7 +89,7 @@ commit-pending-requires c κs =
     let e = j .before .before in
     let a = e .before .before .before .before .before .args in
     let h : 0 < a .numbers .pending = omega (arith, j .if2 .left) in
-    let w = past e in (w .first, w .chip, w .slice, h, w .number h)
+    let w = past e in (w .first, w .chip, w .slice, h, w .number h, omega (arith, c .before .before .before .if3 .left))
 
 -- src/commit.rt:75:1
 same-length : tie.Need-same-length

@@ -21,14 +21,10 @@ bytes w j = omega (arith, w .slice-known .given j)
 slots : (w : tie.After-all2) → length (w .before .before .before .before .before .before .args .slots .now) ≡ 1024
 slots w = search needs
 
-mul-limit : tie.Need-mul-limit
-mul-limit c = search needs
-
-cast-limit : tie.Need-cast-limit
-cast-limit c = search needs
-
 execute-requires : tie.Need-execute-requires
-execute-requires c κs = search needs
+execute-requires c κs =
+    let p = c .before .before .before .before .before .before .before .before .before .before .before .pre in
+    (p .1 .size, p .1 .least, p .1 .most, p .5, p .2, p .4)
 
 quiet-requires : tie.Need-quiet-requires
 quiet-requires c κs = search needs
@@ -60,7 +56,7 @@ same-length-2 c = search needs
 
 returns-2 : tie.Need-returns-2
 returns-2 c =
-    let l = c .before .before .before .before .before in
+    let l = c .before .before .before .before .before .before in
     let k = l .before in
     let x = k .before .before in
     let q = x .before .before .before .before .before .before in
@@ -75,8 +71,6 @@ pub commit-pending-spec : {M : Type 1} → statement M
 commit-pending-spec =
     tie.close
     (tie.spec
-    mul-limit
-    cast-limit
     execute-requires
     quiet-requires
     same-length

@@ -1,0 +1,4 @@
+pub mod EraseLaws
+pub mod GatherLaws
+pub mod WriteLaws
+pub mod ExecuteLaws

@@ -1,0 +1,3 @@
+pub mod GatherCode
+pub mod WriteCode
+pub mod ExecutionCode

@@ -1,0 +1,57 @@
+// A plan of a commit carried out: its blocks erased, then its pages written and noted.
+ghost use mathlib.Core.Path.{_≡_};
+ghost use Prim.Native.Nat.{_*_, _<_, _≤_};
+ghost use lib.ListN.{length, take};
+ghost use Rattle.lists.specs.Lists.{All};
+ghost use Rattle.execution.specs.ExecutionCode.{CarriesOut};
+use crate::erase;
+use crate::write;
+use crate::write::Pages;
+use chip::power::Power;
+use plan::make::Plan;
+
+// The blocks of the chip, and the number of the last commit.
+pub struct Commit {
+    pub blocks: usize,
+    pub number: u32,
+}
+
+// The commit after `commit`, as its plan and the arrays say, as far as the power goes: the image, and the node table that it leaves.
+pub fn execute(
+    image: &mut [u8],
+    plan: Plan,
+    commit: Commit,
+    targets: &[u32; 256],
+    sizes: &[u32; 256],
+    units: &[u8; 52224],
+    torn: &[u8],
+    power: Power,
+    new_lens: &mut [u32; 256],
+    new_slots: &mut [u32; 1024],
+) -> Power
+    requires { ⌜ (length (now image) ≡ commit .blocks * 16896) × (commit .blocks ≤ 32) × (commit .number < 4294967295) × (plan .pages ≤ 128)
+        × (plan .erases ≤ 32) × (length (now torn) ≡ 528) × All (_< commit .blocks * 32) (take (plan .pages) (plan .places))
+        × All (_< commit .blocks) (take (plan .erases) (plan .erased)) ⌝ }
+    ensures { λ r. ⌜ CarriesOut (8 * commit .blocks) (commit .number) plan (now (targets .entry)) (now (sizes .entry)) (now (units .entry)) (now (torn .entry))
+        power r (now (image .entry)) (now (image .exit))
+        (now («new_lens» .entry)) (now («new_slots» .entry)) (now («new_lens» .exit)) (now («new_slots» .exit)) ⌝ }
+{
+    let cleared = erase::erase_blocks(image, commit.blocks, &plan.erased, plan.erases, torn, power);
+    let pages = Pages {
+        limit: (8 * commit.blocks) as u32,
+        commit: commit.number + 1,
+        total: plan.pages,
+    };
+    write::write_pages(
+        image,
+        targets,
+        sizes,
+        units,
+        &plan.places,
+        pages,
+        torn,
+        cleared,
+        new_lens,
+        new_slots,
+    )
+}

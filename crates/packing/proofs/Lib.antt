@@ -1,0 +1,2 @@
+pub mod PackingArrays
+pub mod FillArrays

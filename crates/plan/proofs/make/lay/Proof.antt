@@ -1,0 +1,46 @@
+use mathlib.Core.Path.{refl}
+use native.Mathlib.Nat.{le-trans}
+use lib.ListN.{take}
+use Rattle.chip.specs.Geometry.{small}
+use Rattle.chip.specs.Chip.{pagesOf}
+use Rattle.plan.proofs.ChooseLaws.{enough-places}
+use borrow.Author.Needs.{needs}
+use Rattle.plan.proofs.make.lay.Statement.{statement}
+use Rattle.plan.proofs.make.lay.Tie as tie
+use Rattle.plan.proofs.make.lay.Reads as reads
+use Rattle.plan.proofs.make.lay.Lts as lts
+use Rattle.plan.proofs.places.lay_erases.Reads as lay-erases-reads
+use Rattle.plan.proofs.places.lay_places.Reads as lay-places-reads
+
+-- src/make.rt:33:59
+add-lay-places : tie.Need-add-lay-places
+add-lay-places c = search needs
+
+-- src/make.rt:33:5
+lay-places-requires : tie.Need-lay-places-requires
+lay-places-requires c κs = search needs
+
+-- src/make.rt:41:9
+add-lay-erases : tie.Need-add-lay-erases
+add-lay-erases c = search needs
+
+-- src/make.rt:34:9
+lay-erases-requires : tie.Need-lay-erases-requires
+lay-erases-requires c κs = search needs
+
+-- src/make.rt:22:1
+returns : tie.Need-returns
+returns c =
+    let p = c .before .before in
+    let l = p .lay-places .ensures in
+    let e = c .lay-erases .ensures in
+    let k = p .before .before .before in
+    let a = k .args in
+    let bs = take (a .ground .unused) (a .ring .now) in
+    let enough = enough-places (pagesOf small (a .image .now)) (a .ground .head) bs (a .pages) (a .ground .free) (a .ground .unused) (k .pre .5) (k .pre .8) (k .pre .6) in
+    record { pages = refl; places = l .list; enough = enough; on = l .on; most = le-trans (e .most) (k .pre .3); erased = e .list; within = e .on }
+
+pub lay-spec : {M : Type 1} → statement M
+lay-spec =
+    tie.close
+    (tie.spec add-lay-places lay-places-requires add-lay-erases lay-erases-requires returns)

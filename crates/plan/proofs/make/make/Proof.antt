@@ -1,0 +1,110 @@
+use mathlib.Core.Path.{_≡_, ap, _∙_}
+use Prim.Native.Nat.{ℕ, _<_, _≤_}
+use native.Mathlib.Omega.{arith}
+use lib.ListN.{length}
+use Rattle.chip.specs.Geometry.{small}
+use Rattle.chip.specs.Chip.{pagesOf}
+use Rattle.plan.proofs.SurveyLaws.{survey-spare}
+use Rattle.plan.proofs.MakeLaws.{made, made-none, pages-fit, pages-few}
+use borrow.Author.Needs.{needs}
+use Rattle.plan.proofs.make.make.Statement.{statement}
+use Rattle.plan.proofs.make.make.Tie as tie
+use Rattle.plan.proofs.make.make.Reads as reads
+use Rattle.plan.proofs.make.make.Lts as lts
+use Rattle.plan.proofs.choose.choose.Reads as choose-reads
+use Rattle.plan.proofs.make.lay.Reads as lay-reads
+use Rattle.plan.proofs.make.nothing.Reads as nothing-reads
+use Rattle.plan.proofs.make.room_of.Reads as room-of-reads
+use Rattle.plan.proofs.survey.survey.Reads as survey-reads
+
+low : {a b : ℕ} → a < b → b ≤ 32 → a ≤ 32
+low h k = omega arith
+
+some : {n : ℕ} → (n ≡ 0 → ⊥) → 0 < n
+some h = omega arith
+
+-- src/make.rt:107:18
+mul-limit : tie.Need-mul-limit
+mul-limit c = search needs
+
+-- src/make.rt:107:17
+cast-limit : tie.Need-cast-limit
+cast-limit c = search needs
+
+-- src/make.rt:110:9
+survey-requires : tie.Need-survey-requires
+survey-requires c κs = search needs
+
+-- src/make.rt:111:9
+room-of-requires : tie.Need-room-of-requires
+room-of-requires c κs = search needs
+
+-- src/make.rt:118:9
+choose-requires : tie.Need-choose-requires
+choose-requires c κs = search needs
+
+-- src/make.rt:120:9
+nothing-requires : tie.Need-nothing-requires
+nothing-requires c κs = search needs
+
+-- src/make.rt:120:9
+returns : tie.Need-returns
+returns c =
+    let ch = c .before .before in
+    let ro = ch .before .before .before .before in
+    let su = ro .before in
+    let st = su .before .before .before in
+    let a = st .args in
+    let ps = pagesOf small (a .image .now) in
+    let sv = su .survey .ensures in
+    let re = ro .room-of .ensures in
+    made-none sv _ _ (re .0) (re .1) (a .basis .count) (a .buffer .now) _ _ _ _ (ch .choose .ensures) _ (c .nothing .ensures) (c .before .if1 .taken)
+
+-- src/make.rt:122:5
+lay-requires : tie.Need-lay-requires
+lay-requires c κs =
+    let ch = c .before .before in
+    let ro = ch .before .before .before .before in
+    let su = ro .before in
+    let st = su .before .before .before in
+    let a = st .args in
+    let ps = pagesOf small (a .image .now) in
+    let sv = su .survey .ensures in
+    let re = ro .room-of .ensures in (
+      st .pre .0,
+      st .pre .2,
+      sv .on,
+      low (sv .few) (st .pre .2),
+      pages-few sv _ _ (re .0) (re .1) (a .basis .count) (a .buffer .now) _ _ _ _ (ch .choose .ensures) (omega (arith, st .pre .2)),
+      sv .free,
+      pages-fit sv _ _ (re .0) (re .1) (a .basis .count) (a .buffer .now) _ _ _ _ (ch .choose .ensures) (some (c .before .if1 .left)),
+      survey-spare sv (su .survey .result .unused) (omega arith),
+      ap length (sv .list) ∙ sv .size,
+    )
+
+-- src/make.rt:91:1
+returns-2 : tie.Need-returns-2
+returns-2 c =
+    let ch = c .before .before .before in
+    let ro = ch .before .before .before .before in
+    let su = ro .before in
+    let st = su .before .before .before in
+    let a = st .args in
+    let ps = pagesOf small (a .image .now) in
+    let sv = su .survey .ensures in
+    let re = ro .room-of .ensures in
+    made sv _ _ (re .0) (re .1) (a .basis .count) (a .buffer .now) _ _ _ _ (ch .choose .ensures) _ (c .lay .ensures)
+
+pub make-spec : {M : Type 1} → statement M
+make-spec =
+    tie.close
+    (tie.spec
+    mul-limit
+    cast-limit
+    survey-requires
+    room-of-requires
+    choose-requires
+    nothing-requires
+    returns
+    lay-requires
+    returns-2)

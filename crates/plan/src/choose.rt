@@ -1,0 +1,111 @@
+// The nodes that a commit writes and their pages: a delta, a snapshot, or nothing.
+ghost use Prim.Native.Nat.{_+_, _%_, _≤_};
+ghost use mathlib.Core.Path.{_≡_};
+ghost use lib.ListN.{length};
+ghost use Rattle.chip.specs.Geometry.{small};
+ghost use Rattle.chip.specs.Chip.{pagesOf};
+ghost use Rattle.contents.specs.ContentsCode.{contentsIn};
+ghost use Rattle.plan.specs.MakeCode.{Chooses};
+use contents::measure;
+use contents::measure::Source;
+use contents::tally;
+use contents::written;
+use packing::delta;
+use packing::pack;
+
+// How many places a delta and a snapshot have.
+pub struct Room {
+    pub wide: usize,
+    pub narrow: usize,
+}
+
+// A delta where there are places for its pages and one more, else a snapshot, else nothing; each node is read once. For each node its page,
+// and what is written of it. Returns the number of pages, 0 for nothing. `all` shows the proof that the slots are 1024.
+pub fn choose(
+    image: &[u8],
+    lens: &[u32; 256],
+    slots: &[u32; 1024],
+    buffer: &[u8; 11520],
+    source: Source,
+    room: Room,
+    targets: &mut [u32; 256],
+    sizes: &mut [u32; 256],
+    units: &mut [u8; 52224],
+) -> usize
+    requires { ⌜ (length (now image) % 528 ≡ 0) × (source .count ≤ 960) × (source .limit ≤ 256) ⌝ }
+    ensures { λ r. ⌜ Chooses (source .limit) (source .oldest) (room .wide) (room .narrow)
+        (contentsIn small (source .limit) (pagesOf small (now (image .entry))) (now (lens .entry)) (now (slots .entry)) (source .count) (now (buffer .entry)))
+        (now (targets .exit)) (now (sizes .exit)) (now (units .exit)) r ⌝ }
+{
+    let count = source.count;
+    let limit = source.limit;
+    let all = &slots[..];
+    let mut parts = [0; 256];
+    let mut forms = [0; 256];
+    let mut wholes = [0; 256];
+    let mut olds = [0; 256];
+    let mut rooms = [0; 512];
+    tally::tally(buffer, count, limit, &mut parts, &mut forms);
+    measure::measure(
+        image,
+        lens,
+        slots,
+        buffer,
+        source,
+        &parts,
+        &mut forms,
+        &mut wholes,
+        &mut olds,
+        units,
+    );
+    let d = delta::pack_delta(
+        limit,
+        &wholes,
+        &parts,
+        lens,
+        &olds,
+        &mut forms,
+        targets,
+        &mut rooms,
+    );
+    if d + 1 <= room.wide {
+        written::keep_written(
+            buffer,
+            source,
+            targets,
+            &forms,
+            &wholes,
+            &parts,
+            sizes,
+            units,
+        );
+        return d;
+    }
+    measure::measure_rest(
+        image,
+        lens,
+        slots,
+        buffer,
+        source,
+        &parts,
+        &mut forms,
+        &mut wholes,
+        &olds,
+        units,
+    );
+    let s = pack::pack_nodes(limit, &wholes, &parts, &forms, targets, &mut rooms);
+    if s + 1 <= room.narrow {
+        written::keep_written(
+            buffer,
+            source,
+            targets,
+            &forms,
+            &wholes,
+            &parts,
+            sizes,
+            units,
+        );
+        return s;
+    }
+    0
+}
