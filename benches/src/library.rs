@@ -71,6 +71,12 @@ extern "C" {
         allowance: u32,
         ops: &mut [u32; 1],
     ) -> u32;
+    pub fn vehinoke_is_free(page: *const u8, page_len: usize) -> u32;
+}
+
+/// Whether all bytes of a page are 255: 1, else 0.
+pub fn is_free(page: &[u8]) -> u32 {
+    unsafe { vehinoke_is_free(page.as_ptr(), page.len()) }
 }
 
 /// A state of the proved library, as its caller keeps it.

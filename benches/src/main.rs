@@ -1,7 +1,8 @@
-//! The benchmarks: times of the proved library against the twin, and wear against SQLite and LMDB.
+//! The benchmarks: times of the free-page test, times of the proved library against the twin, and wear against SQLite and LMDB.
 
 mod both;
 mod clock;
+mod free;
 mod growth;
 mod library;
 mod lmdb;
@@ -21,6 +22,9 @@ mod work;
 const ROUNDS: usize = 200;
 const EVENTS: usize = 16_000;
 
+/// A page that starts with 0 is to be tested in less than this share of a free page's time.
+const SHARE: f64 = 0.25;
+
 /// Tables, printed; and put into the document unless the run is a quick one.
 fn show(parts: &[(&str, String)], keep: bool) {
     for (name, table) in parts {
@@ -28,6 +32,27 @@ fn show(parts: &[(&str, String)], keep: bool) {
         if keep {
             report::put(name, table);
         }
+    }
+}
+
+/// The run fails, and says why.
+fn fail(reason: &str) -> ! {
+    eprintln!("benches: {reason}");
+    std::process::exit(1);
+}
+
+/// The table of the free-page test. The run fails where a byte behind the first other one is read, or a page that starts with 0 takes
+/// too long.
+fn free(keep: bool) {
+    if !free::ends_at_first() {
+        fail("the free-page test looks at a byte behind the first that is not 255");
+    }
+    let rows = free::rows();
+    let ratio = rows[0].ratio;
+    let holds = ratio < SHARE;
+    show(&[("free", report::free_table(&rows))], keep && holds);
+    if !holds {
+        fail(&format!("a page that starts with 0 is tested in {ratio:.3} of a free page's time, which is not under {SHARE}"));
     }
 }
 
@@ -64,18 +89,25 @@ fn main() {
     let words: Vec<&str> = words.iter().map(String::as_str).collect();
     match words[1..] {
         [] => {
+            free(true);
             times(ROUNDS, true);
             wear(EVENTS, true);
         }
-        ["--times"] => times(ROUNDS, true),
+        ["--times"] => {
+            free(true);
+            times(ROUNDS, true);
+        }
+        ["--free"] => free(true),
         ["--wear"] => wear(EVENTS, true),
         ["--quick"] => {
+            free(false);
             times(3, false);
             wear(160, false);
         }
         ["profile", call, blocks, rounds, who] => profile::run(call, blocks.parse().unwrap(), rounds.parse().unwrap(), who),
         ["put", name, file] => report::put(name, &std::fs::read_to_string(file).unwrap()),
+        ["border"] => free::child(),
         ["child", store, file, folder] => others::child(store, file, folder),
-        _ => eprintln!("words: none, --times, --wear, --quick, profile CALL BLOCKS ROUNDS library or twin, or put NAME FILE"),
+        _ => eprintln!("words: none, --times, --free, --wear, --quick, profile CALL BLOCKS ROUNDS library or twin, or put NAME FILE"),
     }
 }

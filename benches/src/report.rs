@@ -1,5 +1,6 @@
 //! The results as tables of docs/BENCHMARKS.md and as plots.
 
+use crate::free;
 use crate::svg::Plot;
 use crate::times::Row;
 use crate::wear::{self, Line};
@@ -36,6 +37,16 @@ pub fn growth_table(rows: &[Row]) -> String {
     let mut out = String::from("| Call | B | Where | Library | Twin | Ratio |\n|---|---|---|---|---|---|\n");
     for r in rows {
         out += &format!("| {} | {} | {} | {} | {} | {:.2} |\n", r.call, r.blocks, r.note, time(r.library), time(r.twin), r.ratio);
+    }
+    out
+}
+
+/// The table of the free-page test.
+pub fn free_table(rows: &[free::Row]) -> String {
+    let mut out = String::from("| First byte that is not 255 | Time of a test | Ratio to a free page |\n|---|---|---|\n");
+    for r in rows {
+        let first = r.first.map_or("none, a free page".to_string(), |at| format!("byte {at}"));
+        out += &format!("| {first} | {:.1} ns | {:.3} |\n", r.nanos, r.ratio);
     }
     out
 }
@@ -84,7 +95,7 @@ pub fn put(name: &str, table: &str) {
 /// The plot of the ratios.
 pub fn plot_times(rows: &[Row]) {
     let mut groups: Vec<(String, Vec<f64>)> = Vec::new();
-    for call in ["look up", "insert", "commit", "mount", "format"] {
+    for call in ["look up", "insert", "commit", "mount", "block report", "format"] {
         groups.push((call.to_string(), rows.iter().filter(|r| r.call == call).map(|r| r.ratio).collect()));
     }
     let top = rows.iter().map(|r| r.ratio).fold(2.0, f64::max).ceil();

@@ -1,6 +1,6 @@
 //! Times of the calls: the proved library against the twin, alternately in one process.
 
-use crate::both::{Both, ALLOWANCE, PENDING, TORN};
+use crate::both::{Both, ALLOWANCE, BLOCK, PENDING, TORN};
 use crate::clock::{median, nanos, reading};
 use crate::random::Random;
 use crate::twin;
@@ -38,28 +38,34 @@ pub fn row(call: &str, blocks: usize, note: String, rounds: &[Round]) -> Row {
     }
 }
 
-/// Look ups of random keys of the tree.
-pub fn look_up(both: &Both, keys: &[u32], rounds: usize, random: &mut Random) -> Vec<Round> {
-    let list: Vec<u32> = (0..512).map(|_| random.pick(keys)).collect();
-    let mut looks = vec![(0, 0, 0); list.len()];
-    let mut others = looks.clone();
+/// Calls that change nothing, for each number of a list; their answers are compared in each round.
+fn asked<A: Clone + PartialEq>(list: &[u32], rounds: usize, library: impl Fn(u32) -> A, twin: impl Fn(u32) -> A) -> Vec<Round> {
+    let mut answers = vec![None; list.len()];
+    let mut others = answers.clone();
     let n = list.len() as f64;
     let mut turn = || {
         let clock = reading();
-        let library = nanos(|| {
-            for (key, told) in list.iter().zip(&mut looks) {
-                *told = both.library.look_up(black_box(&both.image), *key);
-            }
-        }) - clock;
-        let twin = nanos(|| {
-            for (key, told) in list.iter().zip(&mut others) {
-                *told = twin::look_up(&both.twin, black_box(&both.twin_image), *key);
-            }
-        }) - clock;
-        assert!(looks == others, "look up");
-        (library / n, twin / n)
+        let ours = nanos(|| list.iter().zip(&mut answers).for_each(|(number, told)| *told = Some(library(*number)))) - clock;
+        let theirs = nanos(|| list.iter().zip(&mut others).for_each(|(number, told)| *told = Some(twin(*number)))) - clock;
+        assert!(answers == others, "the answers differ");
+        (ours / n, theirs / n)
     };
     (0..rounds).map(|_| turn()).collect()
+}
+
+/// Look ups of random keys of the tree.
+pub fn look_up(both: &Both, keys: &[u32], rounds: usize, random: &mut Random) -> Vec<Round> {
+    let list: Vec<u32> = (0..512).map(|_| random.pick(keys)).collect();
+    let library = |key| both.library.look_up(black_box(&both.image), key);
+    asked(&list, rounds, library, |key| twin::look_up(&both.twin, black_box(&both.twin_image), key))
+}
+
+/// Reports of all blocks in turn; a round is all blocks 64 times.
+fn block_report(both: &Both, rounds: usize) -> Vec<Round> {
+    let blocks = (both.image.len() / BLOCK) as u32;
+    let list: Vec<u32> = (0..64).flat_map(|_| 0..blocks).collect();
+    let library = |block| both.library.block_report(black_box(&both.image), block);
+    asked(&list, rounds, library, |block| both.twin.block_report(black_box(&both.twin_image), block))
 }
 
 /// The times of inserts of `list`, of library and twin, each into the state of `both`; what they leave is compared by look ups.
@@ -172,6 +178,7 @@ pub fn table(rounds: usize) -> Vec<Row> {
         rows.push(row("insert", blocks, note.clone(), &insert(&both, &keys, PENDING, rounds, &mut random)));
         rows.push(row("commit", blocks, note.clone(), &commit(&mut both, &keys, rounds, &mut random)));
         rows.push(row("mount", blocks, note.clone(), &mount(&mut both, rounds)));
+        rows.push(row("block report", blocks, note.clone(), &block_report(&both, rounds)));
         rows.push(row("format", blocks, String::new(), &format(blocks, rounds)));
     }
     rows

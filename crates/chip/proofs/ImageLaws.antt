@@ -8,8 +8,9 @@ use native.Mathlib.Omega.{arith}
 use lib.Dec.{leb, ltb, eqb}
 use lib.ListN.{length, drop, getD, replicate}
 use borrow.Author.Tests.{le-leb, lt-leb, lt-ltb, le-ltb}
-use Rattle.lists.specs.Lists.{modify, mapFrom, part, patch, cut, repeat, flat}
+use Rattle.lists.specs.Lists.{all, modify, mapFrom, part, patch, cut, repeat, flat}
 use Rattle.lists.proofs.Tests.{cases}
+use Rattle.lists.proofs.Flats.{all-joined}
 use Rattle.lists.proofs.Places.{modify-id}
 use Rattle.lists.proofs.Parts.{length-part, length-patch, patch-same, lent, length-cut, cut-at, cut-modify, cut-patch, cut-repeat, flat-cut, length-repeat}
 use Rattle.chip.specs.declared.power.Power.{Power}
@@ -17,7 +18,7 @@ use Rattle.chip.specs.declared.power.Outcome.{Outcome}
 use Rattle.chip.specs.declared.power.Outcome.the-variants.{Whole, Torn, Nothing}
 use Rattle.chip.specs.Geometry.{Geometry, pageSize, blockSize}
 use Rattle.chip.specs.Power.{outcome, choose, effect}
-use Rattle.chip.specs.Page.{Page, blank, tornPage}
+use Rattle.chip.specs.Page.{Page, isFree, blank, tornPage}
 use Rattle.chip.specs.Chip.{pagesOf, inBlock, filled, Op, erase, whole, tear, wholeBlock, tornBlock, Operated, Stepped, step}
 use Rattle.chip.proofs.PageLaws.{length-blank, length-torn}
 
@@ -80,6 +81,11 @@ module _ (g : Geometry) (xs : List ℕ) where
     pub pages-bytes : flat (λ (x : Page). x) (pagesOf g xs) ≡ xs
     unfolding pagesOf
     pages-bytes = rw en (flat-cut (pageSize g) n xs lx)
+
+    -- all bytes are 255 where all pages are free
+    pub pages-free : isFree xs ≡ all isFree (pagesOf g xs)
+    unfolding isFree
+    pages-free = ap (all (λ (b : ℕ). eqb b 255)) (sym pages-bytes) ∙ all-joined (λ (b : ℕ). eqb b 255) (pagesOf g xs)
 
     same-cut : (ys : List ℕ) → length ys ≡ length xs → pagesOf g ys ≡ cut (pageSize g) n ys
     unfolding pagesOf

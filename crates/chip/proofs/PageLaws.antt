@@ -1,7 +1,6 @@
 -- Pages, byte by byte: free pages, blank and torn pages, sizes. Assumes nothing.
-use mathlib.Core.Path.{_≡_, refl, sym, ap, _∙_}
-use mathlib.Core.Bool.{Bool, true, false, _&&_}
-use mathlib.Core.Logic.{⊎-elim}
+use mathlib.Core.Path.{_≡_, refl, sym, ap, ap₂, _∙_}
+use mathlib.Core.Bool.{Bool, true, false, _&&_, not}
 use mathlib.Core.List.{List, _++_, map}
 use Prim.Native.Nat.{ℕ, zero, suc, _+_, _-_, _≤_, _<_}
 use native.Mathlib.Numerals.{add-one}
@@ -15,6 +14,7 @@ use lib.ListN.{
   getD,
   replicate,
   drop-of-length-le,
+  take-append-drop,
   length-append,
   length-drop,
   length-set,
@@ -24,11 +24,12 @@ use lib.ListN.{
   List·getD-map,
   List·getD-append,
 }
-use lib.Seq.{drop-cons, length-take-le, getD-take, getD-drop, getD-append-add}
+use lib.Seq.{drop-cons, drop-drop, length-take-le, getD-take, getD-drop, getD-append-add}
 use borrow.Author.Tests.{eq-eqb, ne-eqb, eqb-true}
-use Rattle.lists.specs.Lists.{all}
+use Rattle.lists.specs.Lists.{all, part}
 use Rattle.lists.proofs.Alls.{all-replicate}
-use Rattle.lists.proofs.Tests.{same-or-not}
+use Rattle.lists.proofs.Flats.{all-append}
+use Rattle.lists.proofs.Tests.{clash}
 use Rattle.lists.proofs.Places.{getD-default}
 use Rattle.chip.specs.declared.page.Mark.{Mark}
 use Rattle.chip.specs.Geometry.{Geometry, pageSize}
@@ -47,22 +48,49 @@ pub free-end : (xs : List ℕ) (i : ℕ) → length xs ≤ i → isFree (drop i 
 unfolding isFree
 free-end xs i h = rw (drop-of-length-le xs h)
 
--- the least of the bytes so far, m, and with one byte more, r: the bytes are all 255 where the least is
-pub free-least : (xs : List ℕ) (i m r : ℕ) → i < length xs → m ≤ 255 → getD xs i 0 ≤ 255 → r ≤ m → (getD xs i 0 < m → r ≡ getD xs i 0) → (m ≤ getD xs i 0 → r ≡ m)
-    → (eqb r 255 && isFree (drop (i + 1) xs)) ≡ (eqb m 255 && isFree (drop i xs))
-free-least xs i m r h b v l s t =
-    ⊎-elim
-    (λ e. ⊎-elim
-    (λ u. rw (eq-eqb r 255 (omega (arith, t (omega arith))), eq-eqb m 255 e) (sym (free-pass xs i h u)))
-    (λ n. rw (ne-eqb r 255 (λ u. n (omega (arith, s (omega (arith, n))))), eq-eqb m 255 e) (sym (free-stop xs i h n)))
-    (same-or-not (getD xs i 0) 255))
-    (λ n. rw (ne-eqb r 255 (λ u. n (omega arith)), ne-eqb m 255 n))
-    (same-or-not m 255)
+-- a part first, then the rest: r is the part's answer
+module _ (xs : List ℕ) (i n : ℕ) (r : Bool) (e : r ≡ isFree (part i n xs)) where
+  part-first : isFree (drop i xs) ≡ (r && isFree (drop (i + n) xs))
+  unfolding isFree
+  part-first =
+      ap (all (λ (b : ℕ). eqb b 255)) (sym (take-append-drop n (drop i xs)))
+      ∙ all-append (λ (b : ℕ). eqb b 255) (take n (drop i xs)) (drop n (drop i xs))
+      ∙ ap₂ _&&_ (sym e) (ap isFree (drop-drop n i xs))
 
-pub free-least-end : (xs : List ℕ) (i m : ℕ) → length xs ≤ i → (eqb m 255 && isFree (drop i xs)) ≡ eqb m 255
-free-least-end xs i m h = rw (free-end xs i h) (and-true (eqb m 255))
+  pub part-stop : not r ≡ true → isFree (drop i xs) ≡ false
+  part-stop t = part-first ∙ go r t
+    where
+      go : (r : Bool) → not r ≡ true → (r && isFree (drop (i + n) xs)) ≡ false
+      go true t = clash t refl
+      go false t = refl
+
+  pub part-pass : not r ≡ false → isFree (drop (i + n) xs) ≡ isFree (drop i xs)
+  part-pass t = sym (part-first ∙ go r t)
+    where
+      go : (r : Bool) → not r ≡ false → (r && isFree (drop (i + n) xs)) ≡ isFree (drop (i + n) xs)
+      go true t = refl
+      go false t = clash refl t
+
+-- four bytes
+pub free-four : (xs : List ℕ) (i : ℕ) → i + 4 ≤ length xs
+    → isFree (part i 4 xs) ≡ (eqb (getD xs i 0) 255 && (eqb (getD xs (i + 1) 0) 255 && (eqb (getD xs (i + 2) 0) 255 && eqb (getD xs (i + 3) 0) 255)))
+unfolding isFree
+free-four xs i h =
+    let a : suc i ≡ i + 1 = omega arith in
+    let b : suc (suc i) ≡ i + 2 = omega arith in
+    let d : suc (suc (suc i)) ≡ i + 3 = omega arith in
+    rw (
+      sym a,
+      sym b,
+      sym d,
+      drop-cons xs i 0 (omega arith),
+      drop-cons xs (suc i) 0 (omega arith),
+      drop-cons xs (suc (suc i)) 0 (omega arith),
+      drop-cons xs (suc (suc (suc i))) 0 (omega arith),
+    )
+    (ap (λ (t : Bool). eqb (getD xs i 0) 255 && (eqb (getD xs (suc i) 0) 255 && (eqb (getD xs (suc (suc i)) 0) 255 && t))) (and-true (eqb (getD xs (suc (suc (suc i))) 0) 255)))
   where
-    and-true : (c : Bool) → (c && true) ≡ c
+    and-true : (t : Bool) → (t && true) ≡ t
     and-true true = refl
     and-true false = refl
 

@@ -1,7 +1,8 @@
 // One page: programmed, marked, tested for being free. Each function gets the part of the image that is the page.
 ghost use mathlib.Core.Path.{_≡_};
-ghost use Prim.Native.Nat.{_<_, _≤_};
-ghost use lib.ListN.{length, take, getD};
+ghost use Prim.Native.Nat.{_+_, _≤_};
+ghost use lib.ListN.{length, take, drop, getD};
+ghost use Rattle.lists.specs.Lists.{part};
 ghost use Rattle.chip.specs.Geometry.{small};
 ghost use Rattle.chip.specs.Page.{isFree, isLive, marked, programmed, spareByte};
 ghost use Rattle.chip.specs.Chip.{Operated};
@@ -69,24 +70,49 @@ pub fn program(page: &mut [u8], bytes: &[u8], torn: &[u8], power: Power) -> Powe
     }
 }
 
-// The lesser of two bytes.
-fn lesser(a: u8, b: u8) -> u8
-    ensures { λ r. ⌜ (r ≤ b) × (a < b → r ≡ a) × (b ≤ a → r ≡ b) ⌝ }
+// Are the four bytes from `at` on 255? It ends at the first byte that is not.
+fn is_free_four(page: &[u8], at: usize) -> bool
+    requires { ⌜ at + 4 ≤ length (now page) ⌝ }
+    ensures { λ r. ⌜ r ≡ isFree (part at 4 (now (page .entry))) ⌝ }
 {
-    if a < b { a } else { b }
+    if page[at] != 255 {
+        return false;
+    }
+    if page[at + 1] != 255 {
+        return false;
+    }
+    if page[at + 2] != 255 {
+        return false;
+    }
+    page[at + 3] == 255
 }
 
-// Are all bytes of the page 255? Their least one says so.
+// Are the bytes from `at` on 255? It ends at the first byte that is not.
+fn is_free_from(page: &[u8], at: usize) -> bool
+    ensures { λ r. ⌜ r ≡ isFree (drop at (now (page .entry))) ⌝ }
+{
+    let mut i = at;
+    while i < page.len() {
+        if page[i] != 255 {
+            return false;
+        }
+        i += 1;
+    }
+    true
+}
+
+// Are all bytes of the page 255? It ends at the first byte that is not, and looks at no byte behind it; four bytes a turn.
 pub fn is_free(page: &[u8]) -> bool
     ensures { λ r. ⌜ r ≡ isFree (now (page .entry)) ⌝ }
 {
-    let mut least: u8 = 255;
     let mut i = 0;
-    while i < page.len() {
-        least = lesser(page[i], least);
-        i += 1;
+    while 4 <= page.len() - i {
+        if !is_free_four(page, i) {
+            return false;
+        }
+        i += 4;
     }
-    least == 255
+    is_free_from(page, i)
 }
 
 // Is the page live: valid mark set, obsolete mark not?

@@ -7,7 +7,7 @@ use lib.Dec.{eqb}
 use lib.ListN.{getD}
 use Rattle.store.specs.declared.state.Numbers.{Numbers}
 
--- on as a word
+-- a bool as a word
 abbrev pub bit : Bool → ℕ
 bit true = 1
 bit false = 0

@@ -18,8 +18,8 @@ fn narrow(x: usize) -> u32
     (x % 4294967296) as u32
 }
 
-// On as a word.
-fn word(on: bool) -> u32
+// A bool as a word.
+pub fn word(on: bool) -> u32
     ensures { λ r. ⌜ r ≡ bit on ⌝ }
 {
     if on { 1 } else { 0 }

@@ -63,6 +63,10 @@ module _ {A : Type 0} where
   all-append p [] ys = refl
   all-append p (x ∷ xs) ys = cases (p x) (λ e. rw (e, all-append p xs ys)) (λ e. rw e)
 
+  pub all-joined : (p : A → Bool) (xss : List (List A)) → all p (flat (λ (xs : List A). xs) xss) ≡ all (all p) xss
+  all-joined p [] = refl
+  all-joined p (xs ∷ xss) = all-append p xs (flat (λ (ys : List A). ys) xss) ∙ ap (λ (t : Bool). all p xs && t) (all-joined p xss)
+
 -- ---- map of a part
 module _ {A B : Type 0} where
   pub map-take : (f : A → B) (n : ℕ) (a : List A) → map f (take n a) ≡ take n (map f a)

@@ -53,10 +53,6 @@ module _ {A : Type 0} where
   length-take-n (suc n) [] = omega arith
   length-take-n (suc n) (x ∷ xs) = omega (arith, length-take-n n xs)
 
-  pub length-filter : (p : A → Bool) (xs : List A) → length (filter p xs) ≤ length xs
-  length-filter p [] = omega arith
-  length-filter p (x ∷ xs) = cases (p x) (λ t. rw t (omega (arith, length-filter p xs))) (λ t. rw t (omega (arith, length-filter p xs)))
-
   -- ---- no element twice
   pub diff-append : (xs ys : List A) → Diff xs → Diff ys → All (λ x. All (λ y. x ≡ y → ⊥) ys) xs → Diff (xs ++ ys)
   diff-append [] ys a b h = b

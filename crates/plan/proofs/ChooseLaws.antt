@@ -24,7 +24,7 @@ use Rattle.log.specs.PlanCode.{KeepsWritten, isMarked, packingOf, sizesIn, targ
 use Rattle.contents.specs.ContentsCode.{AllRead, Measured, Readies, Tallied, WritesForms, contentsIn, isRead}
 use Rattle.contents.proofs.WrittenLaws.{ready-delta, ready-snapshot}
 use Rattle.packing.specs.PackingCode.{Packs, PacksDelta}
-use Rattle.plan.specs.SurveyCode.{freePages}
+use Rattle.plan.specs.PlacesCode.{freePages}
 use Rattle.plan.specs.MakeCode.{HoldsAssignment, HoldsDecision, chosen, pageCount}
 use Rattle.log.proofs.ContentsLaws.{SamePacking, delta-same, delta-seen, packed-same, written-same}
 use Rattle.plan.proofs.PlaceLaws.{places-size}
@@ -101,12 +101,12 @@ module _ (limit : ℕ) (N : Contents) (small-nodes : (n : ℕ) → n < limit →
       }
 
 -- ---- n pages and one more have places on the head and on u blocks
-pub enough-places : (ps : List Page) (head : ℕ) (bs : List ℕ) (n free u : ℕ) → free ≡ length (freePages small ps head) → length bs ≡ u → n + 1 ≤ free + u * 32
+pub enough-places : (ps : List Page) (head : ℕ) (bs : List ℕ) (n u : ℕ) → length bs ≡ u → n + 1 ≤ length (freePages small ps head) + u * 32
     → n + 1 ≤ length (places small ps head bs)
-enough-places ps head bs n free u f b l = go (length (places small ps head bs)) (length (freePages small ps head)) (length bs) (places-size small ps head bs) f b
+enough-places ps head bs n u b l = go (length (places small ps head bs)) (length (freePages small ps head)) (length bs) (places-size small ps head bs) b l
   where
-    go : (x y k : ℕ) → x ≡ y + k * 32 → free ≡ y → k ≡ u → n + 1 ≤ x
-    go x y k e i j = omega arith
+    go : (x y k : ℕ) → x ≡ y + k * 32 → k ≡ u → n + 1 ≤ y + u * 32 → n + 1 ≤ x
+    go x y k e j m = omega arith
 
 -- ---- the lists of the nodes are as long as their lengths say, up to 4
 pub depth-is : (lens slots : List ℕ) → length slots ≡ 1024 → (n : ℕ) → n < 256 → (d : ℕ) → d < 4 → eqb (getD lens n 0) d ≡ eqb (length (storedList lens slots n)) d

@@ -21,7 +21,8 @@ use Rattle.log.specs.Policy.{deltaAssignment, inFirst, snapshotAssignment}
 use Rattle.contents.specs.ContentsCode.{contentsIn}
 use Rattle.plan.specs.declared.make.Plan.{Plan}
 use Rattle.plan.specs.declared.survey.Surveyed.{Surveyed}
-use Rattle.plan.specs.SurveyCode.{Surveys, firstOr, freePages, unusedIn, usedAround}
+use Rattle.plan.specs.SurveyCode.{Surveys, firstOr, unusedIn, usedAround}
+use Rattle.plan.specs.PlacesCode.{freePages}
 use Rattle.plan.specs.MakeCode.{Chooses, HoldsDecision, LaysPlan, Makes, chosen, decisionOf, pageCount, unusedOf, usedOf}
 use Rattle.plan.proofs.PlaceLaws.{places-size}
 
@@ -69,27 +70,30 @@ module _ {limit B : ℕ} {lens slots : List ℕ} {G : ℕ} {ps : List Page} {rin
   un-many : length un ≡ g .unused
   un-many = ap length un-is ∙ sv .size
 
-  free-is : g .free ≡ length (freePages small ps (headBlock small ps))
-  free-is = sv .free ∙ ap (λ (h : ℕ). length (freePages small ps h)) (sv .head)
+  abbrev free : ℕ
+  free = length (freePages small ps (g .head))
+
+  free-is : free ≡ length (freePages small ps (headBlock small ps))
+  free-is = ap (λ (h : ℕ). length (freePages small ps h)) (sv .head)
 
   -- how many places there are on the head and the first n unused blocks
-  room-on : (n : ℕ) → n ≤ length un → length (places small ps (headBlock small ps) (take n un)) ≡ g .free + 32 * n
+  room-on : (n : ℕ) → n ≤ length un → length (places small ps (headBlock small ps) (take n un)) ≡ free + 32 * n
   room-on n h = go (length (places small ps (headBlock small ps) (take n un))) (length (freePages small ps (headBlock small ps))) (length (take n un))
-      (places-size small ps (headBlock small ps) (take n un)) free-is (length-take-le n un h)
+      (places-size small ps (headBlock small ps) (take n un)) free free-is (length-take-le n un h)
     where
-      go : (x y k : ℕ) → x ≡ y + k * 32 → g .free ≡ y → k ≡ n → x ≡ g .free + 32 * n
-      go x y k a b c = omega arith
+      go : (x y k : ℕ) → x ≡ y + k * 32 → (f : ℕ) → f ≡ y → k ≡ n → x ≡ f + 32 * n
+      go x y k a f b c = omega arith
 
-  room-delta : (spare : ℕ) → length (places small ps (headBlock small ps) (take (length un - spare) un)) ≡ g .free + 32 * (g .unused - spare)
-  room-delta spare = room-on (length un - spare) (omega arith) ∙ ap (λ (k : ℕ). g .free + 32 * (k - spare)) un-many
+  room-delta : (spare : ℕ) → length (places small ps (headBlock small ps) (take (length un - spare) un)) ≡ free + 32 * (g .unused - spare)
+  room-delta spare = room-on (length un - spare) (omega arith) ∙ ap (λ (k : ℕ). free + 32 * (k - spare)) un-many
 
-  room-snapshot : (spare : ℕ) → length (places small ps (headBlock small ps) (take spare un)) ≡ g .free + 32 * (g .unused - (g .unused - spare))
+  room-snapshot : (spare : ℕ) → length (places small ps (headBlock small ps) (take spare un)) ≡ free + 32 * (g .unused - (g .unused - spare))
   room-snapshot spare =
       ap (λ (xs : List ℕ). length (places small ps (headBlock small ps) xs)) (sym (take-least spare un))
-      ∙ room-on (length un - (length un - spare)) (omega arith) ∙ ap (λ (k : ℕ). g .free + 32 * (k - (k - spare))) un-many
+      ∙ room-on (length un - (length un - spare)) (omega arith) ∙ ap (λ (k : ℕ). free + 32 * (k - (k - spare))) un-many
 
   -- ---- a choice on it
-  module _ (wide narrow : ℕ) (w : wide ≡ g .free + 32 * (g .unused - (B / 8 + 1))) (v : narrow ≡ g .free + 32 * (g .unused - (g .unused - (B / 8 + 1))))
+  module _ (wide narrow : ℕ) (w : wide ≡ free + 32 * (g .unused - (B / 8 + 1))) (v : narrow ≡ free + 32 * (g .unused - (g .unused - (B / 8 + 1))))
       (count : ℕ) (bytes targets sizes units : List ℕ) (n : ℕ)
       (ch : Chooses limit (g .oldest) wide narrow (contentsIn small limit ps lens slots count bytes) targets sizes units n) where
     abbrev N : Contents
@@ -103,8 +107,8 @@ module _ {limit B : ℕ} {lens slots : List ℕ} {G : ℕ} {ps : List Page} {rin
 
     decision-is : chosen small limit wide narrow us N ≡ decisionOf limit B lens slots count bytes G ps
     decision-is =
-        ap₂ (λ (x y : ℕ). chosen small limit x y us N) (w ∙ ap (λ (k : ℕ). g .free + 32 * (g .unused - k)) (spare-is B) ∙ sym (room-delta (spareBlocks small B)))
-        (v ∙ ap (λ (k : ℕ). g .free + 32 * (g .unused - (g .unused - k))) (spare-is B) ∙ sym (room-snapshot (spareBlocks small B)))
+        ap₂ (λ (x y : ℕ). chosen small limit x y us N) (w ∙ ap (λ (k : ℕ). free + 32 * (g .unused - k)) (spare-is B) ∙ sym (room-delta (spareBlocks small B)))
+        (v ∙ ap (λ (k : ℕ). free + 32 * (g .unused - (g .unused - k))) (spare-is B) ∙ sym (room-snapshot (spareBlocks small B)))
 
     held : HoldsDecision limit N targets sizes units n (chosen small limit wide narrow us N)
     held = ch us (λ m l. first-is us (g .oldest) oldest-is N m (sv .nowhere m))
@@ -115,13 +119,17 @@ module _ {limit B : ℕ} {lens slots : List ℕ} {G : ℕ} {ps : List Page} {rin
         go : 2 * n ≤ suc limit → n < 160
         go h = omega arith
 
-    pub pages-fit : 0 < n → n + 1 ≤ g .free + g .unused * 32
+    pub pages-fit : 0 < n → n + 1 ≤ free + g .unused * 32
     pages-fit p =
-        go (pageCount (chosen small limit wide narrow us N)) (held .count)
-        (chosen-within limit wide narrow (g .free + 32 * g .unused) us N (omega arith) (omega arith) (subst (λ (k : ℕ). 0 < k) (held .count) p))
+        go free (pageCount (chosen small limit wide narrow us N)) (held .count)
+        (chosen-within limit wide narrow (free + 32 * g .unused) us N (low free wide (B / 8 + 1) w) (low free narrow (g .unused - (B / 8 + 1)) v)
+        (subst (λ (k : ℕ). 0 < k) (held .count) p))
       where
-        go : (c : ℕ) → n ≡ c → suc c ≤ g .free + 32 * g .unused → n + 1 ≤ g .free + g .unused * 32
-        go c e h = omega arith
+        low : (f x k : ℕ) → x ≡ f + 32 * (g .unused - k) → x ≤ f + 32 * g .unused
+        low f x k e = omega arith
+
+        go : (f c : ℕ) → n ≡ c → suc c ≤ f + 32 * g .unused → n + 1 ≤ f + g .unused * 32
+        go f c e h = omega arith
 
     pub made-none : (r : Plan) → r .pages ≡ 0 → n ≡ 0 → Makes limit B lens slots count bytes G ps targets sizes units r
     made-none r e z =

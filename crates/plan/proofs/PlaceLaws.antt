@@ -6,28 +6,27 @@ use mathlib.Core.Logic.{⊎-elim}
 use Prim.Native.Nat.{ℕ, zero, suc, _+_, _-_, _*_, _/_, _%_, _<_, _≤_}
 use native.Mathlib.Numerals.{add-one}
 use native.Mathlib.Omega.{arith}
-use lib.Dec.{eqb, ltb}
+use lib.Dec.{leb, ltb}
 use lib.ListN.{length, take, drop, set, getD, length-append, drop-of-length-le, List·getD-append}
-use lib.Seq.{take-take, take-nil, take-at, take-suc, take-suc-set, drop-drop, drop-cons, length-take-le, getD-append-add, getD-take}
-use borrow.Author.Tests.{eq-eqb, ne-eqb}
-use Rattle.lists.specs.Lists.{filter, all, flat, part, count, All, Diff}
-use Rattle.lists.proofs.Tests.{cases, clash, below-or-not}
-use Rattle.lists.proofs.Alls.{All-head, All-tail, All-map, All-take, All-filter, all-All}
+use lib.Seq.{take-all, take-take, take-nil, take-at, take-suc, take-suc-set, drop-drop, drop-cons, length-take-le, getD-append-add, getD-take}
+use borrow.Author.Tests.{le-leb, lt-leb}
+use Rattle.lists.specs.Lists.{filter, all, flat, part, All, Diff}
+use Rattle.lists.proofs.Tests.{below-or-not}
+use Rattle.lists.proofs.Alls.{All-head, All-tail, All-map, All-take, All-filter}
 use Rattle.lists.proofs.Flats.{length-tab, getD-tab}
-use Rattle.lists.proofs.Filters.{filter-all, count-most}
 use Rattle.lists.proofs.Parts.{length-part}
 use Rattle.lists.proofs.Places.{getD-default}
 use Rattle.chip.specs.Geometry.{Geometry, small}
 use Rattle.chip.specs.Page.{Page, isFree}
 use Rattle.chip.specs.Chip.{pagesOf}
-use Rattle.chip.proofs.ImageLaws.{length-pages, page-at}
+use Rattle.chip.proofs.ImageLaws.{length-pages, page-at, pages-free}
 use Rattle.log.specs.Plan.{countFrom, freeAt, pagesIn, places, erases}
-use Rattle.lists.proofs.Sets.{mem-at, length-filter}
+use Rattle.lists.proofs.Sets.{mem-at}
 use Rattle.log.proofs.PlanPlaces.{Origin, old, new, places-from, length-flat}
 use Rattle.plan.proofs.EraseLaws.{places-count, erases-walk}
-use Rattle.plan.specs.SurveyCode.{freePages}
 use Rattle.plan.proofs.LastLaws.{page-is}
-use Rattle.plan.specs.PlacesCode.{firstPlaces, firstErases, Spare, Lays, LaysErases, erasesFrom}
+use Rattle.plan.proofs.MarkLaws.{push-done}
+use Rattle.plan.specs.PlacesCode.{freePages, firstPlaces, firstErases, Spare, Lays, erasesFrom}
 
 -- ---- the closed names
 module _ (g : Geometry) (ps : List Page) where
@@ -49,6 +48,12 @@ module _ (g : Geometry) (ps : List Page) where
     unfolding freePages
     places-size = places-count g ps head bs
 
+-- the first n of two lists, of which the first is cut to n already
+take-front : (n : ℕ) (xs ys : List ℕ) → take n (take n xs ++ ys) ≡ take n (xs ++ ys)
+take-front zero xs ys = refl
+take-front (suc n) [] ys = refl
+take-front (suc n) (x ∷ xs) ys = ap (λ (l : List ℕ). x ∷ l) (take-front n xs ys)
+
 -- ---- the pages of a block
 part-drop : {A : Type 0} (a m n : ℕ) (xs : List A) → n ≡ a + m → drop a (take n xs) ≡ take m (drop a xs)
 part-drop zero m n xs e = ap (λ (i : ℕ). take i xs) (let q : n ≡ m = omega arith in q)
@@ -64,15 +69,13 @@ part-part a n b k xs h =
     ∙ take-take k (n - b) (drop b (drop a xs)) (omega arith)
     ∙ ap (take k) (drop-drop b a xs)
 
--- a count by places
-count-from : {A : Type 0} (p : A → Bool) (q : ℕ → Bool) (d : A) (xs : List A) (k : ℕ)
-    → ((i : ℕ) → i < length xs → p (getD xs i d) ≡ q (k + i)) → count p xs ≡ length (filter q (countFrom k (length xs)))
-count-from p q d [] k h = refl
-count-from p q d (x ∷ xs) k h =
+-- all of a list, by places
+all-from : {A : Type 0} (p : A → Bool) (q : ℕ → Bool) (d : A) (xs : List A) (k : ℕ)
+    → ((i : ℕ) → i < length xs → p (getD xs i d) ≡ q (k + i)) → all p xs ≡ all q (countFrom k (length xs))
+all-from p q d [] k h = refl
+all-from p q d (x ∷ xs) k h =
     let a : p x ≡ q k = h 0 (omega arith) ∙ ap q (let e : k + 0 ≡ k = omega arith in e) in
-    let r : count p xs ≡ length (filter q (countFrom (suc k) (length xs))) =
-    count-from p q d xs (suc k) (λ i l. h (suc i) (omega arith) ∙ ap q (let e : k + suc i ≡ suc k + i = omega arith in e)) in
-    cases (q k) (λ t. rw (a, t) (omega (arith, r))) (λ t. rw (a, t) (omega (arith, r)))
+    ap₂ _&&_ a (all-from p q d xs (suc k) (λ i l. h (suc i) (omega arith) ∙ ap q (let e : k + suc i ≡ suc k + i = omega arith in e)))
 
 module _ (image : List ℕ) (b : ℕ) (fits : b * 16896 + 16896 ≤ length image) where
   abbrev blockAt : List ℕ
@@ -96,15 +99,14 @@ module _ (image : List ℕ) (b : ℕ) (fits : b * 16896 + 16896 ≤ length image
       ∙ sym (page-at small image (b * 32 + i) l)
       ∙ getD-default (pagesOf small image) (b * 32 + i) [] (0 ∷ []) (omega (arith, length-pages small image)))
 
-  -- the free pages of the block, counted in its part of the image and by place
-  pub block-free : count isFree (pagesOf small blockAt) ≡ length (freePages small (pagesOf small image) b)
-  unfolding freePages
+  -- the block is wholly free: its bytes, and its pages by place
+  pub block-free : isFree (part (b * 16896) (b * 16896 + 16896 - b * 16896) image) ≡ all (freeAt (pagesOf small image)) (pagesIn small b)
   block-free =
-      count-from isFree (freeAt (pagesOf small image)) [] (pagesOf small blockAt) (b * 32) (λ i l. page-free i (omega (arith, block-pages)))
-      ∙ ap (λ (n : ℕ). length (filter (freeAt (pagesOf small image)) (countFrom (b * 32) n))) block-pages
-
-  pub free-most : count isFree (pagesOf small blockAt) ≤ 32
-  free-most = omega (arith, count-most isFree (pagesOf small blockAt), block-pages)
+      let e : b * 16896 + 16896 - b * 16896 ≡ 16896 = omega arith in
+      ap (λ (n : ℕ). isFree (part (b * 16896) n image)) e
+      ∙ pages-free small blockAt 32 (ap (λ (n : ℕ). n / 528) block-length) block-length
+      ∙ all-from isFree (freeAt (pagesOf small image)) [] (pagesOf small blockAt) (b * 32) (λ i l. page-free i (omega (arith, block-pages)))
+      ∙ ap (λ (n : ℕ). all (freeAt (pagesOf small image)) (countFrom (b * 32) n)) block-pages
 
 -- ---- free pages by place
 pub free-is : (image : List ℕ) (n : ℕ) → n < length image / 528 → isFree (part (n * 528) (n * 528 + 528 - n * 528) image) ≡ freeAt (pagesOf small image) n
@@ -187,24 +189,6 @@ places-on B head n ps bs h s = All-take n (All-map (λ p o. go p o) (places-from
     go p (new b m i) = let r = mem-at m (s .range) in omega (arith, i .1, r .0)
 
 -- ---- the blocks to erase
--- all pass where as many pass as there are
-all-count : {A : Type 0} (p : A → Bool) (xs : List A) (n : ℕ) → length xs ≡ n → all p xs ≡ eqb (length (filter p xs)) n
-all-count p xs n e =
-    cases (all p xs)
-    (λ t. t ∙ sym (eq-eqb (length (filter p xs)) n (ap length (filter-all p (all-All p xs t)) ∙ e)))
-    (λ t. t ∙ sym (ne-eqb (length (filter p xs)) n (λ q. clash (full p xs (q ∙ sym e)) t)))
-  where
-    full : {A : Type 0} (p : A → Bool) (xs : List A) → length (filter p xs) ≡ length xs → all p xs ≡ true
-    full p [] q = refl
-    full p (x ∷ xs) q =
-        cases (p x)
-        (λ t. let r : suc (length (filter p xs)) ≡ suc (length xs) = (rw t at q) in rw t (full p xs (omega arith)))
-        (λ t. let r : length (filter p xs) ≡ suc (length xs) = (rw t at q) in absurd (omega (arith, length-filter p xs)))
-
-pub block-all : (ps : List Page) (b : ℕ) → all (freeAt ps) (pagesIn small b) ≡ eqb (length (freePages small ps b)) 32
-unfolding freePages
-block-all ps b = all-count (freeAt ps) (pagesIn small b) 32 (length-tab (λ (i : ℕ). i) (b * 32) 32)
-
 -- the next block
 module _ (ps : List Page) (w : ℕ) (ring : List ℕ) (lr : length ring ≡ 32) (lw : w ≤ 32) (j : ℕ) where
   pub erase-next : (left n r : ℕ) (before after target : List ℕ) → j < w
@@ -245,14 +229,16 @@ erases-on : (B head n : ℕ) (ps : List Page) (bs : List ℕ) → Spare B head b
 unfolding firstErases
 erases-on B head n ps bs s = All-filter _ (All-map (λ b h. h .0) (s .range))
 
-pub erases-are : (B head w n free reach r : ℕ) (ps : List Page) (ring after : List ℕ) → Spare B head (take w ring) → free ≡ length (freePages small ps head)
-    → reach ≡ n - free → r ≤ w → take r after ≡ erasesFrom small ps reach (take w ring) → LaysErases B head w n ps ring after r
-erases-are B head w n free reach r ps ring after s ef er m e =
+-- as the walk lists them
+pub erases-are : (B head w n reach r : ℕ) (ps : List Page) (ring after : List ℕ) → Spare B head (take w ring) → reach ≡ n - length (freePages small ps head)
+    → take r after ≡ erasesFrom small ps reach (take w ring)
+    → (take r after ≡ firstErases small ps head (take w ring) n) × All (λ (b : ℕ). b < B) (take r after)
+erases-are B head w n reach r ps ring after s er e =
     let bs : List ℕ = take w ring in
     let is : take r after ≡ firstErases small ps head bs n =
-    e ∙ ap (λ (k : ℕ). erasesFrom small ps k bs) (er ∙ ap (λ (k : ℕ). n - k) ef)
+    e ∙ ap (λ (k : ℕ). erasesFrom small ps k bs) er
     ∙ erases-first head n ps bs (s .differ) (All-map (λ b h. h .1) (s .range)) in
-    record { most = m; list = is; on = rw is (erases-on B head n ps bs s) }
+    (is, rw is (erases-on B head n ps bs s))
 
 -- ---- what the functions on the image ask
 -- a block of an image of B blocks
@@ -268,20 +254,58 @@ lower a b d h k = omega arith
 pub most-places : (a : ℕ) → a ≤ 32 → a ≤ 160
 most-places a h = omega arith
 
--- the first n of the array are the free pages of the head, and the need has places
-module _ (head w need n : ℕ) (ps : List Page) (ring after : List ℕ) (ln : n ≤ length after) (free : take n after ≡ freePages small ps head) where
-  count-is : length (freePages small ps head) ≡ n
-  count-is = sym (ap length free) ∙ length-take-le n after ln
+-- ---- the first `most` free pages of a block, found one after the other
+module _ (q : ℕ → Bool) (most i e n : ℕ) (list target : List ℕ) (ln : n ≤ length list) (left : take n list ++ filter q (countFrom i (e - i)) ≡ target) where
+  -- enough are found
+  pub free-enough : n ≡ most → take n list ≡ take most target
+  free-enough h =
+      ap (λ (k : ℕ). take k list) h
+      ∙ sym (take-at (take most list) (filter q (countFrom i (e - i))) most (length-take-le most list (omega arith)))
+      ∙ ap (take most) (ap (λ (k : ℕ). take k list ++ filter q (countFrom i (e - i))) (sym h) ∙ left)
 
+  -- the block ends
+  pub free-over : e ≤ i → n ≤ most → take n list ≡ take most target
+  free-over h l =
+      push-done q i e (take n list) target h left
+      ∙ sym (take-all most target (omega (arith, ap length (sym (push-done q i e (take n list) target h left)), length-take-le n list ln)))
+
+-- the first n of the array are the first `most` free pages of the head
+module _ (head most n : ℕ) (ps : List Page) (after : List ℕ) (ln : n ≤ length after) (found : take n after ≡ take most (freePages small ps head)) where
+  -- n is the lesser of `most` and their number
+  pub found-count : length (take most (freePages small ps head)) ≡ n
+  found-count = sym (ap length found) ∙ length-take-le n after ln
+
+  pub found-low : (n ≤ most) × (n ≤ length (freePages small ps head)) × (most - n ≡ most - length (freePages small ps head))
+  found-low = least most (freePages small ps head) n found-count
+    where
+      least : (m : ℕ) (xs : List ℕ) (n : ℕ) → length (take m xs) ≡ n → (n ≤ m) × (n ≤ length xs) × (m - n ≡ m - length xs)
+      least m xs n e =
+          ⊎-elim
+          (λ (h : length xs < m). let k : length (take m xs) ≡ length xs = ap length (take-all m xs (omega arith)) in (omega arith, omega arith, omega arith))
+          (λ (h : m ≤ length xs). let k : length (take m xs) ≡ m = length-take-le m xs h in (omega arith, omega arith, omega arith))
+          (below-or-not (length xs) m)
+
+-- have `need` pages a place on the head and w blocks, where the head is searched for those that the blocks do not give?
+pub enough-found : (need w n free : ℕ) → n ≤ free → (need - 32 * w) - n ≡ (need - 32 * w) - free → leb need (n + 32 * w) ≡ leb need (free + 32 * w)
+enough-found need w n free l e =
+    ⊎-elim
+    (λ (h : n + 32 * w < need). lt-leb need (n + 32 * w) h ∙ sym (lt-leb need (free + 32 * w) (omega arith)))
+    (λ (h : need ≤ n + 32 * w). le-leb need (n + 32 * w) h ∙ sym (le-leb need (free + 32 * w) (omega arith)))
+    (below-or-not (n + 32 * w) need)
+
+-- ---- the first n of the array are the free pages of the head that are needed, and the need has places
+module _ (head w need n : ℕ) (ps : List Page) (ring after : List ℕ) (ln : n ≤ length after) (found : take n after ≡ take need (freePages small ps head)) where
   pub need-fits : need ≤ length (freePages small ps head) + w * 32 → need ≤ n + w * 32
-  need-fits h = omega (arith, count-is)
+  need-fits h = omega (arith, found-low head need n ps after ln found .2)
 
   first-is : take need (freePages small ps head ++ flat (pagesIn small) (take w ring)) ≡ firstPlaces small ps head (take w ring) need
   unfolding freePages firstPlaces
   first-is = refl
 
   pub lays : (B : ℕ) (last : List ℕ) → head < B → Spare B head (take w ring)
-      → take need last ≡ take need (take n after ++ flat (pagesIn small) (take w ring)) → Lays B head w need ps ring last
+      → take need last ≡ take need (take n after ++ flat (pagesIn small) (take w ring)) → Lays B head w need ps ring last (need - n)
   lays B last h s e =
-      let is : take need last ≡ firstPlaces small ps head (take w ring) need = e ∙ ap (λ (a : List ℕ). take need (a ++ flat (pagesIn small) (take w ring))) free ∙ first-is in
-      record { list = is; on = rw is (places-on B head need ps (take w ring) h s) }
+      let is : take need last ≡ firstPlaces small ps head (take w ring) need =
+      e ∙ ap (λ (a : List ℕ). take need (a ++ flat (pagesIn small) (take w ring))) found
+      ∙ take-front need (freePages small ps head) (flat (pagesIn small) (take w ring)) ∙ first-is in
+      record { list = is; on = rw is (places-on B head need ps (take w ring) h s); reach = found-low head need n ps after ln found .2 }

@@ -2,15 +2,19 @@
 use mathlib.Core.Path.{_≡_}
 use mathlib.Core.Bool.{cond, _&&_, not}
 use mathlib.Core.List.{List, [], _∷_}
-use Prim.Native.Nat.{ℕ, _-_, _*_, _<_, _≤_}
+use Prim.Native.Nat.{ℕ, _-_, _*_, _<_}
 use lib.Dec.{ltb}
-use lib.ListN.{take}
-use Rattle.lists.specs.Lists.{all, All, Diff}
+use lib.ListN.{length, take}
+use Rattle.lists.specs.Lists.{all, filter, All, Diff}
 use Rattle.chip.specs.Geometry.{Geometry, small}
 use Rattle.chip.specs.Page.{Page}
 use Rattle.log.specs.Plan.{freeAt, pagesIn, places, erases}
 
 -- ---- parts of a plan under names that stay closed in contracts
+-- the free pages of block b
+unfoldable pub freePages : Geometry → List Page → ℕ → List ℕ
+freePages g ps b = filter (freeAt ps) (pagesIn g b)
+
 -- the first n places on the head and on the blocks bs
 unfoldable pub firstPlaces : Geometry → List Page → ℕ → List ℕ → ℕ → List ℕ
 firstPlaces g ps head bs n = take n (places g ps head bs)
@@ -30,13 +34,8 @@ pub record Spare (B head : ℕ) (bs : List ℕ) : Type 0 where
   pub range : All (λ (b : ℕ). (b < B) × (b ≡ head → ⊥)) bs
   pub differ : Diff bs
 
--- the first n places on the head and on the first w blocks, written
-pub record Lays (B head w n : ℕ) (ps : List Page) (blocks after : List ℕ) : Type 0 where
+-- the first n places on the head and on the first w blocks, written; r of them are not on the head
+pub record Lays (B head w n : ℕ) (ps : List Page) (blocks after : List ℕ) (r : ℕ) : Type 0 where
   pub list : take n after ≡ firstPlaces small ps head (take w blocks) n
   pub on : All (λ (p : ℕ). p < B * 32) (take n after)
-
--- the blocks to erase before those places are written
-pub record LaysErases (B head w n : ℕ) (ps : List Page) (blocks after : List ℕ) (r : ℕ) : Type 0 where
-  pub most : r ≤ w
-  pub list : take r after ≡ firstErases small ps head (take w blocks) n
-  pub on : All (λ (b : ℕ). b < B) (take r after)
+  pub reach : r ≡ n - length (freePages small ps head)

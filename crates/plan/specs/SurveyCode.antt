@@ -1,4 +1,4 @@
--- What the code of survey.rt finds in one pass over the pages and the stored node lists, whatever the arrays hold: the head block, its free pages, the unused blocks.
+-- What the code of survey.rt finds in one pass over the pages and the stored node lists, whatever the arrays hold: the head block, the unused blocks.
 use mathlib.Core.Path.{_≡_}
 use mathlib.Core.Bool.{Bool, true, false, cond, _&&_, _||_, not}
 use mathlib.Core.List.{List, [], _∷_, _++_}
@@ -11,7 +11,7 @@ use Rattle.chip.specs.Page.{Page, isLive}
 use Rattle.chip.specs.Chip.{inBlock}
 use Rattle.pages.specs.Steps.{Live, live, liveFrom, commit, index, lastFrom, ordered}
 use Rattle.views.specs.Stored.{storedList}
-use Rattle.log.specs.Plan.{holdsCommit, countFrom, ring, headBlock, freeAt, pagesIn}
+use Rattle.log.specs.Plan.{holdsCommit, countFrom, ring, headBlock}
 use Rattle.log.specs.MountCode.{isOf}
 use Rattle.plan.specs.declared.survey.Surveyed.{Surveyed}
 use Rattle.plan.specs.declared.survey.Newest.{Newest}
@@ -37,19 +37,13 @@ abbrev pub firstOr : ℕ → List ℕ → ℕ
 firstOr d [] = d
 firstOr d (b ∷ bs) = b
 
--- the free pages of block b
-unfoldable pub freePages : Geometry → List Page → ℕ → List ℕ
-freePages g ps b = filter (freeAt ps) (pagesIn g b)
-
--- ---- what a survey tells: the head, how many blocks are unused and which, the free pages of the head, the oldest block
+-- ---- what a survey tells: the head, how many blocks are unused and which, the oldest block
 pub record Surveys (B limit : ℕ) (lens slots : List ℕ) (c : ℕ) (ps : List Page) (blocks : List ℕ) (r : Surveyed) : Type 0 where
   pub head : r .head ≡ headBlock small ps
   pub on : r .head < B
   pub list : take (r .unused) blocks ≡ unusedIn small B limit lens slots c (liveFrom small 0 ps) (r .head)
   pub size : length (unusedIn small B limit lens slots c (liveFrom small 0 ps) (r .head)) ≡ r .unused
   pub few : r .unused < B
-  pub free : r .free ≡ length (freePages small ps (r .head))
-  pub most : r .free ≤ 32
   pub nowhere : (n : ℕ) → any (inBlock small 4294967295) (storedList lens slots n) ≡ false
   pub oldest : r .oldest ≡ firstOr 4294967295 (usedAround small B limit lens slots c (liveFrom small 0 ps) (r .head))
 

@@ -1,11 +1,13 @@
 // The nodes that a commit writes and their pages: a delta, a snapshot, or nothing.
-ghost use Prim.Native.Nat.{_+_, _%_, _≤_};
+ghost use Prim.Native.Nat.{_+_, _*_, _%_, _<_, _≤_};
 ghost use mathlib.Core.Path.{_≡_};
 ghost use lib.ListN.{length};
 ghost use Rattle.chip.specs.Geometry.{small};
 ghost use Rattle.chip.specs.Chip.{pagesOf};
 ghost use Rattle.contents.specs.ContentsCode.{contentsIn};
+ghost use Rattle.plan.specs.PlacesCode.{freePages};
 ghost use Rattle.plan.specs.MakeCode.{Chooses};
+use crate::places;
 use contents::measure;
 use contents::measure::Source;
 use contents::tally;
@@ -13,10 +15,11 @@ use contents::written;
 use packing::delta;
 use packing::pack;
 
-// How many places a delta and a snapshot have.
+// The head block, and how many unused blocks a delta and a snapshot may take besides.
 pub struct Room {
-    pub wide: usize,
-    pub narrow: usize,
+    pub head: usize,
+    pub others: usize,
+    pub spare: usize,
 }
 
 // A delta where there are places for its pages and one more, else a snapshot, else nothing; each node is read once. For each node its page,
@@ -32,13 +35,16 @@ pub fn choose(
     sizes: &mut [u32; 256],
     units: &mut [u8; 52224],
 ) -> usize
-    requires { ⌜ (length (now image) % 528 ≡ 0) × (source .count ≤ 960) × (source .limit ≤ 256) ⌝ }
-    ensures { λ r. ⌜ Chooses (source .limit) (source .oldest) (room .wide) (room .narrow)
+    requires { ⌜ (length (now image) % 528 ≡ 0) × (source .count ≤ 960) × (source .limit ≤ 256) × (room .head * 16896 + 16896 ≤ length (now image))
+        × (room .head < 32) × (room .others ≤ 32) × (room .spare ≤ 32) ⌝ }
+    ensures { λ r. ⌜ Chooses (source .limit) (source .oldest) (length (freePages small (pagesOf small (now (image .entry))) (room .head)) + 32 * room .others)
+        (length (freePages small (pagesOf small (now (image .entry))) (room .head)) + 32 * room .spare)
         (contentsIn small (source .limit) (pagesOf small (now (image .entry))) (now (lens .entry)) (now (slots .entry)) (source .count) (now (buffer .entry)))
         (now (targets .exit)) (now (sizes .exit)) (now (units .exit)) r ⌝ }
 {
     let count = source.count;
     let limit = source.limit;
+    let head = room.head;
     let all = &slots[..];
     let mut parts = [0; 256];
     let mut forms = [0; 256];
@@ -68,7 +74,7 @@ pub fn choose(
         targets,
         &mut rooms,
     );
-    if d + 1 <= room.wide {
+    if places::has_places(image, head, room.others, d + 1) {
         written::keep_written(
             buffer,
             source,
@@ -94,7 +100,7 @@ pub fn choose(
         units,
     );
     let s = pack::pack_nodes(limit, &wholes, &parts, &forms, targets, &mut rooms);
-    if s + 1 <= room.narrow {
+    if places::has_places(image, head, room.spare, s + 1) {
         written::keep_written(
             buffer,
             source,

@@ -4,8 +4,7 @@ ghost use Prim.Native.Nat.{_+_, _-_, _*_, _/_, _<_, _≤_};
 ghost use lib.ListN.{length, take};
 ghost use Rattle.chip.specs.Geometry.{small};
 ghost use Rattle.chip.specs.Chip.{pagesOf};
-ghost use Rattle.plan.specs.SurveyCode.{freePages};
-ghost use Rattle.plan.specs.PlacesCode.{Spare};
+ghost use Rattle.plan.specs.PlacesCode.{freePages, Spare};
 ghost use Rattle.plan.specs.MakeCode.{LaysPlan, Makes};
 use crate::choose;
 use crate::choose::Room;
@@ -32,26 +31,16 @@ pub struct Plan {
 // The places of `pages` pages and one more on the head and on the unused blocks, and the blocks to erase before they are written.
 fn lay(image: &[u8], blocks: usize, ground: Surveyed, ring: &[u32; 32], pages: usize) -> Plan
     requires { ⌜ (length (now image) ≡ blocks * 16896) × (blocks ≤ 32) × (ground .head < blocks) × (ground .unused ≤ 32) × (pages < 160)
-        × (ground .free ≡ length (freePages small (pagesOf small (now image)) (ground .head))) × (pages + 1 ≤ ground .free + ground .unused * 32)
+        × (pages + 1 ≤ length (freePages small (pagesOf small (now image)) (ground .head)) + ground .unused * 32)
         × Spare blocks (ground .head) (take (ground .unused) (now ring)) × (length (take (ground .unused) (now ring)) ≡ ground .unused) ⌝ }
     ensures { λ r. ⌜ LaysPlan blocks (ground .head) (take (ground .unused) (now (ring .entry))) pages (pagesOf small (now (image .entry))) r ⌝ }
 {
     let head = ground.head;
     let unused = ground.unused;
-    let free = ground.free;
     let mut places = [0; 160];
     let mut erased = [0; 32];
-    places::lay_places(image, blocks, head, ring, unused, pages + 1, &mut places);
-    let erases = places::lay_erases(
-        image,
-        blocks,
-        head,
-        ring,
-        unused,
-        free,
-        pages + 1,
-        &mut erased,
-    );
+    let reach = places::lay_places(image, blocks, head, ring, unused, pages + 1, &mut places);
+    let erases = places::lay_erases(image, blocks, head, ring, unused, reach, &mut erased);
     Plan {
         pages,
         erases,
@@ -72,17 +61,19 @@ fn nothing() -> Plan
     }
 }
 
-// How many places a delta has, on the head and on all unused blocks but the spare ones, and a snapshot, on the spare ones instead.
+// The room of a delta, the head and all unused blocks but the spare ones, and of a snapshot, the spare ones instead.
 fn room_of(ground: Surveyed, blocks: usize) -> Room
-    requires { ⌜ (ground .free ≤ 32) × (ground .unused ≤ 32) × (blocks ≤ 32) ⌝ }
-    ensures { λ r. ⌜ (r .wide ≡ ground .free + 32 * (ground .unused - (blocks / 8 + 1)))
-        × (r .narrow ≡ ground .free + 32 * (ground .unused - (ground .unused - (blocks / 8 + 1)))) ⌝ }
+    requires { ⌜ (ground .unused ≤ 32) × (blocks ≤ 32) ⌝ }
+    ensures { λ r. ⌜ (r .head ≡ ground .head) × (r .others ≡ ground .unused - (blocks / 8 + 1))
+        × (r .spare ≡ ground .unused - (ground .unused - (blocks / 8 + 1))) ⌝ }
 {
+    let head = ground.head;
     let others = places::excess(ground.unused, blocks / 8 + 1);
     let spare = places::excess(ground.unused, others);
     Room {
-        wide: ground.free + 32 * others,
-        narrow: ground.free + 32 * spare,
+        head,
+        others,
+        spare,
     }
 }
 

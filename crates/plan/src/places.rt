@@ -3,15 +3,15 @@ ghost use mathlib.Core.Path.{_≡_};
 ghost use mathlib.Core.Bool.{_&&_, not};
 ghost use mathlib.Core.List.{_++_};
 ghost use Prim.Native.Nat.{_+_, _-_, _*_, _/_, _%_, _<_, _≤_};
-ghost use lib.Dec.{ltb};
+ghost use lib.Dec.{leb, ltb};
 ghost use lib.ListN.{length, take, getD};
 ghost use Rattle.lists.specs.Lists.{all, flat};
 ghost use Rattle.chip.specs.Geometry.{small};
 ghost use Rattle.chip.specs.Chip.{pagesOf};
 ghost use Rattle.log.specs.Plan.{freeAt, pagesIn};
-ghost use Rattle.plan.specs.SurveyCode.{freePages};
-ghost use Rattle.plan.specs.PlacesCode.{Spare, Lays, LaysErases, erasesFrom};
+ghost use Rattle.plan.specs.PlacesCode.{freePages, Spare, Lays, erasesFrom};
 use crate::survey;
+use chip::geometry::BLOCK;
 use chip::geometry::PAGE;
 use chip::geometry::PAGES;
 use chip::page;
@@ -26,21 +26,42 @@ fn is_free_at(image: &[u8], at: usize) -> bool
     page::is_free(&image[a..e])
 }
 
-// The free pages of a block put into `places`, the lowest first; how many there are.
-fn put_free(image: &[u8], at: usize, places: &mut [u32]) -> usize
-    requires { ⌜ (at * 16896 + 16896 ≤ length (now image)) × (length (now image) % 528 ≡ 0) × (at < 32) × (length (now places) ≡ 160) ⌝ }
-    ensures { λ r. ⌜ (take r (now (places .exit)) ≡ freePages small (pagesOf small (now (image .entry))) at) × (r ≤ 32)
-        × (length (now (places .exit)) ≡ 160) ⌝ }
+// The first `most` free pages of a block put into `places`, or all where there are fewer; how many there are. No page behind them is tested.
+fn put_free(image: &[u8], at: usize, most: usize, places: &mut [u32]) -> usize
+    requires { ⌜ (at * 16896 + 16896 ≤ length (now image)) × (length (now image) % 528 ≡ 0) × (at < 32) × (32 ≤ length (now places)) ⌝ }
+    ensures { λ r. ⌜ (take r (now (places .exit)) ≡ take most (freePages small (pagesOf small (now (image .entry))) at)) × (r ≤ 32) × (r ≤ most)
+        × (length (now (places .exit)) ≡ length (now (places .entry))) ⌝ }
 {
     let first = at * PAGES;
     let end = first + PAGES;
     let mut n = 0;
     let mut p = first;
     while p < end {
+        if n >= most {
+            return n;
+        }
         n = survey::push_if(is_free_at(image, p), p as u32, places, n);
         p += 1;
     }
     n
+}
+
+// By how much `a` exceeds `b`, 0 where it does not.
+pub fn excess(a: usize, b: usize) -> usize
+    ensures { λ r. ⌜ r ≡ a - b ⌝ }
+{
+    if a < b { 0 } else { a - b }
+}
+
+// Have `need` pages a place on the head and on `width` blocks? No page is tested where the blocks alone have them.
+pub fn has_places(image: &[u8], head: usize, width: usize, need: usize) -> bool
+    requires { ⌜ (head * 16896 + 16896 ≤ length (now image)) × (length (now image) % 528 ≡ 0) × (head < 32) × (width ≤ 32) ⌝ }
+    ensures { λ r. ⌜ r ≡ leb need (length (freePages small (pagesOf small (now (image .entry))) head) + 32 * width) ⌝ }
+{
+    let mut found = [0; 32];
+    let more = excess(need, 32 * width);
+    let n = put_free(image, head, more, &mut found);
+    need <= n + 32 * width
 }
 
 // Page `j` of the blocks of the ring, counted through them.
@@ -83,17 +104,18 @@ fn lay_in(
     width: usize,
     need: usize,
     places: &mut [u32],
-)
+) -> usize
     requires { ⌜ (length (now image) ≡ blocks * 16896) × (blocks ≤ 32) × (head < blocks) × (width ≤ 32) × (need ≤ 160)
         × (need ≤ length (freePages small (pagesOf small (now image)) head) + width * 32) × Spare blocks head (take width (now ring))
         × (length (now ring) ≡ 32) × (length (now places) ≡ 160) ⌝ }
-    ensures { λ _. ⌜ Lays blocks head width need (pagesOf small (now (image .entry))) (now (ring .entry)) (now (places .exit)) ⌝ }
+    ensures { λ r. ⌜ Lays blocks head width need (pagesOf small (now (image .entry))) (now (ring .entry)) (now (places .exit)) r ⌝ }
 {
-    let n = put_free(image, head, places);
+    let n = put_free(image, head, need, places);
     put_rest(ring, blocks, head, width, n, need, places);
+    need - n
 }
 
-// The first `need` places: the free pages of the head block, then all pages of the first `width` unused blocks.
+// The first `need` places: the free pages of the head block, then all pages of the first `width` unused blocks. Returns how many are on these.
 pub fn lay_places(
     image: &[u8],
     blocks: usize,
@@ -102,19 +124,12 @@ pub fn lay_places(
     width: usize,
     need: usize,
     places: &mut [u32; 160],
-)
+) -> usize
     requires { ⌜ (length (now image) ≡ blocks * 16896) × (blocks ≤ 32) × (head < blocks) × (width ≤ 32) × (need ≤ 160)
         × (need ≤ length (freePages small (pagesOf small (now image)) head) + width * 32) × Spare blocks head (take width (now ring)) ⌝ }
-    ensures { λ _. ⌜ Lays blocks head width need (pagesOf small (now (image .entry))) (now (ring .entry)) (now (places .exit)) ⌝ }
+    ensures { λ r. ⌜ Lays blocks head width need (pagesOf small (now (image .entry))) (now (ring .entry)) (now (places .exit)) r ⌝ }
 {
-    lay_in(image, blocks, head, ring, width, need, places);
-}
-
-// By how much `a` exceeds `b`, 0 where it does not.
-pub fn excess(a: usize, b: usize) -> usize
-    ensures { λ r. ⌜ r ≡ a - b ⌝ }
-{
-    if a < b { 0 } else { a - b }
+    lay_in(image, blocks, head, ring, width, need, places)
 }
 
 // Is the block to be erased: `left` places are still to be reached, and not all its pages are free?
@@ -125,10 +140,12 @@ fn is_erased(image: &[u8], at: usize, left: usize) -> bool
     if left == 0 {
         return false;
     }
-    survey::free_of(image, at) != 32
+    let a = at * BLOCK;
+    let e = a + BLOCK;
+    !page::is_free(&image[a..e])
 }
 
-// Those of the first `width` blocks of the ring that are to be erased where `reach` places are to be reached on them.
+// The blocks to erase, with the arrays as slices.
 fn put_erased(
     image: &[u8],
     blocks: usize,
@@ -154,40 +171,18 @@ fn put_erased(
     n
 }
 
-// The erases, with the arrays as slices.
-fn lay_erases_in(
-    image: &[u8],
-    blocks: usize,
-    head: usize,
-    ring: &[u32],
-    width: usize,
-    free: usize,
-    need: usize,
-    erased: &mut [u32],
-) -> usize
-    requires { ⌜ (length (now image) ≡ blocks * 16896) × (width ≤ 32)
-        × (free ≡ length (freePages small (pagesOf small (now image)) head)) × Spare blocks head (take width (now ring))
-        × (length (now ring) ≡ 32) × (length (now erased) ≡ 32) ⌝ }
-    ensures { λ r. ⌜ LaysErases blocks head width need (pagesOf small (now (image .entry))) (now (ring .entry)) (now (erased .exit)) r ⌝ }
-{
-    let reach = excess(need, free);
-    put_erased(image, blocks, head, ring, width, reach, erased)
-}
-
-// The blocks to erase before the first `need` places are written: those of the first `width` unused blocks that they reach and that are not wholly free.
+// The blocks to erase before `reach` places on the first `width` unused blocks are written: those that they reach and that are not wholly free.
 pub fn lay_erases(
     image: &[u8],
     blocks: usize,
     head: usize,
     ring: &[u32; 32],
     width: usize,
-    free: usize,
-    need: usize,
+    reach: usize,
     erased: &mut [u32; 32],
 ) -> usize
-    requires { ⌜ (length (now image) ≡ blocks * 16896) × (width ≤ 32)
-        × (free ≡ length (freePages small (pagesOf small (now image)) head)) × Spare blocks head (take width (now ring)) ⌝ }
-    ensures { λ r. ⌜ LaysErases blocks head width need (pagesOf small (now (image .entry))) (now (ring .entry)) (now (erased .exit)) r ⌝ }
+    requires { ⌜ (length (now image) ≡ blocks * 16896) × (width ≤ 32) × Spare blocks head (take width (now ring)) ⌝ }
+    ensures { λ r. ⌜ (take r (now (erased .exit)) ≡ erasesFrom small (pagesOf small (now (image .entry))) reach (take width (now (ring .entry)))) × (r ≤ width) ⌝ }
 {
-    lay_erases_in(image, blocks, head, ring, width, free, need, erased)
+    put_erased(image, blocks, head, ring, width, reach, erased)
 }

@@ -1,4 +1,4 @@
-// The blocks that a commit may write: the head block, its free pages, and the unused blocks in circular order after it.
+// The blocks that a commit may write: the head block, and the unused blocks in circular order after it.
 ghost use mathlib.Core.Path.{_≡_};
 ghost use mathlib.Core.Bool.{cond};
 ghost use mathlib.Core.List.{foldl};
@@ -9,20 +9,17 @@ ghost use Rattle.chip.specs.Geometry.{small};
 ghost use Rattle.chip.specs.Chip.{pagesOf};
 ghost use Rattle.views.specs.Stored.{storedList};
 ghost use Rattle.log.specs.Plan.{countFrom, ring as around, headBlock};
-ghost use Rattle.plan.specs.SurveyCode.{freePages, firstOr, isHeld, isUnmarked, Surveys, mark, nothing, later, LooksAtPage, LooksAtAll, Marked, KeepsUnmarked, Pushes};
-use chip::block;
-use chip::geometry::BLOCK;
+ghost use Rattle.plan.specs.SurveyCode.{firstOr, isHeld, isUnmarked, Surveys, mark, nothing, later, LooksAtPage, LooksAtAll, Marked, KeepsUnmarked, Pushes};
 use chip::geometry::PAGE;
 use chip::geometry::PAGES;
 use chip::page;
 use pages::unit;
 use views::view;
 
-// The head block, how many blocks are unused, how many pages of the head are free, and the oldest block.
+// The head block, how many blocks are unused, and the oldest block.
 pub struct Surveyed {
     pub head: usize,
     pub unused: usize,
-    pub free: usize,
     pub oldest: usize,
 }
 
@@ -224,17 +221,6 @@ fn oldest_of(marks: &[u32], head: usize, blocks: usize) -> usize
     first_marked(marks, head + 1, blocks, wrapped)
 }
 
-// How many pages of a block are free.
-pub fn free_of(image: &[u8], at: usize) -> usize
-    requires { ⌜ (at * 16896 + 16896 ≤ length (now image)) × (length (now image) % 528 ≡ 0) ⌝ }
-    ensures { λ r. ⌜ (r ≡ length (freePages small (pagesOf small (now (image .entry))) at)) × (r ≤ 32) ⌝ }
-{
-    let a = at * BLOCK;
-    let e = a + BLOCK;
-    let free = block::free_pages(&image[a..e]);
-    free.count as usize
-}
-
 // The survey, with the arrays as slices.
 fn survey_in(
     image: &[u8],
@@ -252,17 +238,15 @@ fn survey_in(
     let mut marks = [0; 32];
     let head = mark_used(image, lens, slots, limit, commit, &mut marks);
     let unused = list_unused(&marks, head, blocks, ring);
-    let free = free_of(image, head);
     let oldest = oldest_of(&marks, head, blocks);
     Surveyed {
         head,
         unused,
-        free,
         oldest,
     }
 }
 
-// The head block, its free pages, the oldest block, and the unused blocks in circular order after the head, written to `ring`.
+// The head block, the oldest block, and the unused blocks in circular order after the head, written to `ring`.
 pub fn survey(
     image: &[u8],
     lens: &[u32; 256],

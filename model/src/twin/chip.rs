@@ -40,10 +40,9 @@ pub fn sized(image: usize, torn: usize) -> usize {
     }
 }
 
-/// Whether all bytes are 255: of a page, whether it is free.
+/// Whether all bytes are 255: of a page, whether it is free. It ends at the first byte that is not.
 pub fn is_blank(bytes: &[u8]) -> bool {
-    let (words, rest) = bytes.as_chunks::<16>();
-    words.iter().all(|w| u128::from_ne_bytes(*w) == u128::MAX) && rest.iter().all(|&b| b == 255)
+    bytes.iter().all(|&b| b == 255)
 }
 
 /// Whether a page is live: its valid mark is set and its obsolete mark is not.

@@ -1,8 +1,8 @@
 //! Commit: the pending updates written as commit G + 1, as a delta where that leaves enough unused blocks, else as a snapshot.
 
-use super::chip::{is_blank, sized, Chip, Told, BLOCK, DATA, PAGES};
+use super::chip::{is_blank, sized, Chip, Told, BLOCK, DATA};
 use super::ground::Ground;
-use super::plan::{Plan, Sorted};
+use super::plan::{Plan, Sorted, MOST};
 use super::state::{State, BUFFER};
 use super::unit::{put_header, Header, UNIT};
 
@@ -34,25 +34,27 @@ impl State {
     /// A delta where the unused blocks but the spare ones have places for its pages and one more, else a snapshot on the spare ones,
     /// else none. Whether there is one.
     fn choose(&self, image: &[u8], ground: &Ground, sorted: &Sorted, plan: &mut Plan) -> bool {
-        let free = ground.free.count_ones() as usize;
         let wide = ground.unused.saturating_sub(self.blocks / 8 + 1);
         self.delta(image, sorted, ground, plan);
-        if plan.pages < free + PAGES * wide {
+        if ground.has(image, wide, plan.pages + 1) {
             return true;
         }
         self.snapshot(image, sorted, plan);
-        plan.pages < free + PAGES * (ground.unused - wide)
+        ground.has(image, ground.unused - wide, plan.pages + 1)
     }
 
-    /// A plan done: the blocks that its places reach are erased, then its pages are written and noted in the node table. Where it has
-    /// no page, which only an image changed since leads to, the commit is refused with 6.
+    /// A plan done: the blocks that its places and one more reach are erased, then its pages are written and noted in the node table.
+    /// Where it has no page, which only an image changed since leads to, the commit is refused with 6.
     fn carry_out(&mut self, chip: &mut Chip, ground: &Ground, sorted: &Sorted, plan: &Plan) -> Told {
         let total = plan.pages;
         if total == 0 {
             return Told::quiet(6);
         }
-        clear_blocks(chip, ground, total + 1);
-        for (index, place) in ground.places().take(total).enumerate() {
+        let mut places = [0; MOST + 1];
+        let places = &mut places[..=total];
+        places.iter_mut().zip(ground.places(chip.image)).for_each(|(slot, place)| *slot = place);
+        clear_blocks(chip, ground.reached(places));
+        for (index, &place) in places[..total].iter().enumerate() {
             self.write_page(chip, sorted, plan, index, place);
             if chip.is_gone() {
                 break;
@@ -76,10 +78,9 @@ impl State {
     }
 }
 
-/// The unused blocks erased as far as the first `need` places reach them, but for those that are wholly free.
-fn clear_blocks(chip: &mut Chip, ground: &Ground, need: usize) {
-    let reach = need.saturating_sub(ground.free.count_ones() as usize);
-    for block in ground.blocks().take(reach.div_ceil(PAGES)) {
+/// These blocks erased, but for those that are wholly free.
+fn clear_blocks(chip: &mut Chip, blocks: impl Iterator<Item = usize>) {
+    for block in blocks {
         if !is_blank(&chip.image[block * BLOCK..][..BLOCK]) {
             chip.erase(block);
         }

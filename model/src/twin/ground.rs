@@ -1,14 +1,13 @@
-//! The ground of a commit: the head block with its free pages, and the unused blocks in circular order after it.
+//! The ground of a commit: the head block, and the unused blocks in circular order after it.
 
-use super::chip::{free_set, is_live, BLOCK, PAGE, PAGES};
+use super::chip::{is_blank, is_live, PAGE, PAGES};
 use super::state::State;
 use super::unit::word;
+use std::ops::Range;
 
-/// The head block, the set of its free pages, and the unused blocks, the first `unused` of `ring`.
-/// `oldest` is the first used block after the head.
+/// The head block, and the unused blocks, the first `unused` of `ring`. `oldest` is the first used block after the head.
 pub struct Ground {
     head: usize,
-    pub free: u32,
     pub unused: usize,
     pub oldest: Option<usize>,
     ring: [u8; 32],
@@ -16,15 +15,36 @@ pub struct Ground {
 
 impl Ground {
     /// The unused blocks.
-    pub fn blocks(&self) -> impl Iterator<Item = usize> + '_ {
+    fn blocks(&self) -> impl Iterator<Item = usize> + '_ {
         self.ring[..self.unused].iter().map(|&b| usize::from(b))
     }
 
-    /// The places of a commit: the free pages of the head block, then all pages of the unused blocks.
-    pub fn places(&self) -> impl Iterator<Item = usize> + '_ {
-        let own = (0..PAGES).filter(|i| self.free >> i & 1 == 1).map(|i| self.head * PAGES + i);
-        own.chain(self.blocks().flat_map(|b| b * PAGES..(b + 1) * PAGES))
+    /// The free pages of the head block; a page is tested when it is asked for.
+    fn own<'a>(&self, image: &'a [u8]) -> impl Iterator<Item = usize> + 'a {
+        pages_of(self.head).filter(|&place| is_blank(&image[place * PAGE..][..PAGE]))
     }
+
+    /// Whether the head block and `wide` unused blocks have `need` places. It tests pages of the head only until there are enough.
+    pub fn has(&self, image: &[u8], wide: usize, need: usize) -> bool {
+        let own = need.saturating_sub(PAGES * wide);
+        self.own(image).take(own).count() == own
+    }
+
+    /// The places of a commit: the free pages of the head block, then all pages of the unused blocks.
+    pub fn places<'a>(&'a self, image: &'a [u8]) -> impl Iterator<Item = usize> + 'a {
+        self.own(image).chain(self.blocks().flat_map(pages_of))
+    }
+
+    /// The unused blocks that these places, the first of a commit, reach.
+    pub fn reached(&self, places: &[usize]) -> impl Iterator<Item = usize> + '_ {
+        let others = places.iter().filter(|&&place| place / PAGES != self.head).count();
+        self.blocks().take(others.div_ceil(PAGES))
+    }
+}
+
+/// The places of all pages of a block.
+fn pages_of(block: usize) -> Range<usize> {
+    block * PAGES..(block + 1) * PAGES
 }
 
 impl State {
@@ -44,14 +64,13 @@ impl State {
         ((last & 1023) as usize / PAGES, set)
     }
 
-    /// The head block, its free pages, and the unused blocks: those that hold no page of a list and none of commit G.
+    /// The head block, and the unused blocks: those that hold no page of a list and none of commit G.
     pub fn survey(&self, image: &[u8]) -> Ground {
         let (head, newest) = self.head(image);
         let used = newest | self.listed_blocks();
-        let free = free_set(&image[head * BLOCK..][..BLOCK]);
         let circle = || (head + 1..self.blocks).chain(0..head);
         let oldest = circle().find(|b| used >> b & 1 == 1);
-        let mut ground = Ground { head, free, unused: 0, oldest, ring: [0; 32] };
+        let mut ground = Ground { head, unused: 0, oldest, ring: [0; 32] };
         for b in circle().filter(|b| used >> b & 1 == 0) {
             ground.ring[ground.unused] = b as u8;
             ground.unused += 1;

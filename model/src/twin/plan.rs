@@ -48,6 +48,9 @@ const WHOLE: usize = 17;
 /// No page.
 const NONE: u8 = 255;
 
+/// The most pages of a commit.
+pub const MOST: usize = 128;
+
 /// The pages of a commit: for each node its page, if it has one, and whether it is written anew; of a node that was read, `whole` is how
 /// many units that is, and `units` has them, 17 places a node; the free units of each page.
 pub struct Plan {
@@ -56,7 +59,7 @@ pub struct Plan {
     anew: [bool; 256],
     read: [bool; 256],
     whole: [u8; 256],
-    rooms: [u8; 128],
+    rooms: [u8; MOST],
     units: [[u8; UNIT]; 256 * WHOLE],
 }
 
@@ -69,7 +72,7 @@ impl Plan {
             anew: [false; 256],
             read: [false; 256],
             whole: [0; 256],
-            rooms: [0; 128],
+            rooms: [0; MOST],
             units: [[0; UNIT]; 256 * WHOLE],
         }
     }

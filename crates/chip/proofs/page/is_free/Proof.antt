@@ -1,61 +1,65 @@
-use borrow.Author.Needs.{needs}
 use mathlib.Core.Path.{_≡_, sym, _∙_}
-use mathlib.Core.Bool.{_&&_}
 use Prim.Native.Nat.{_≤_, _-_}
-use native.Mathlib.Omega.{arith}
-use lib.Dec.{eqb}
 use lib.ListN.{length, drop}
 use Rattle.chip.specs.Page.{isFree}
-use Rattle.chip.proofs.PageLaws.{free-least, free-least-end}
+use Rattle.chip.proofs.PageLaws.{part-pass, part-stop}
+use borrow.Author.Needs.{needs}
 use Rattle.chip.proofs.page.is_free.Statement.{statement}
 use Rattle.chip.proofs.page.is_free.Tie as tie
 use Rattle.chip.proofs.page.is_free.Reads as reads
 use Rattle.chip.proofs.page.is_free.Lts as lts
-use Rattle.chip.proofs.page.lesser.Reads as lesser-reads
+use Rattle.chip.proofs.page.is_free_four.Reads as is-free-four-reads
+use Rattle.chip.proofs.page.is_free_from.Reads as is-free-from-reads
 
 abbrev Inv-loop : tie.InvT-loop
-Inv-loop page least₀ i₀ least i = (i ≤ length page) × (least ≤ 255) × ((eqb least 255 && isFree (drop i page)) ≡ isFree page)
+Inv-loop page i₀ i = (i ≤ length page) × (isFree (drop i page) ≡ isFree page)
 
 abbrev μ-loop : tie.MeasureT-loop
-μ-loop page least₀ i₀ least i = length page - i
+μ-loop page i₀ i = length page - i
 
--- src/page.rt:85:5
+-- src/page.rt:109:5
 loop-holds : tie.Need-loop-holds Inv-loop μ-loop
 loop-holds c = search needs
 
--- src/page.rt:86:24
-shared-slice-read-lesser : tie.Need-shared-slice-read-lesser Inv-loop μ-loop
-shared-slice-read-lesser c = search needs
+-- src/page.rt:109:16
+sub-loop : tie.Need-sub-loop Inv-loop μ-loop
+sub-loop c = search needs
 
--- src/page.rt:86:9
-lesser-requires : tie.Need-lesser-requires Inv-loop μ-loop
-lesser-requires c κs = search needs
+-- src/page.rt:110:13
+is-free-four-requires : tie.Need-is-free-four-requires Inv-loop μ-loop
+is-free-four-requires c κs = search needs
 
--- src/page.rt:87:9
+-- src/page.rt:111:13
+returns : tie.Need-returns Inv-loop μ-loop
+returns c =
+    let f = c .before in
+    let l = f .before .before .loop in
+    let xs = f .before .before .before .before .args .page .now in
+    sym (sym (l .inv .1) ∙ part-stop xs (l .i) 4 (f .is-free-four .result) (f .is-free-four .ensures) (c .if1 .taken))
+
+-- src/page.rt:113:9
 add-i : tie.Need-add-i Inv-loop μ-loop
 add-i c = search needs
 
--- src/page.rt:85:5
+-- src/page.rt:109:5
 loop-less : tie.Need-loop-less Inv-loop μ-loop
 loop-less c = search needs
 
--- src/page.rt:85:5
+-- src/page.rt:109:5
 loop-again : tie.Need-loop-again Inv-loop μ-loop
 loop-again c =
-    let l = c .before .before .before .loop in
-    let xs = c .before .before .before .before .before .args .page .now in
-    let e = c .lesser .ensures in (
-      search needs,
-      omega (arith, e .0, l .inv .1),
-      free-least xs (l .i) (l .least) (c .lesser .result) (search needs) (l .inv .1) (omega (arith, c .before .shared-slice-known2 .given (l .i))) (e .0) (e .1) (e .2) ∙ l .inv .2,
-    )
+    let f = c .before in
+    let l = f .before .before .loop in
+    let xs = f .before .before .before .before .args .page .now in
+    (search needs, part-pass xs (l .i) 4 (f .is-free-four .result) (f .is-free-four .ensures) (c .if1 .left) ∙ l .inv .1)
 
--- src/page.rt:80:1
-returns : tie.Need-returns Inv-loop μ-loop
-returns c =
-    let l = c .before .loop in
-    let xs = c .before .before .before .args .page .now in
-    sym (free-least-end xs (l .i) (l .least) (search needs)) ∙ l .inv .2
+-- src/page.rt:115:5
+is-free-from-requires : tie.Need-is-free-from-requires Inv-loop μ-loop
+is-free-from-requires c κs = search needs
+
+-- src/page.rt:105:1
+returns-2 : tie.Need-returns-2 Inv-loop μ-loop
+returns-2 c = c .is-free-from .ensures ∙ c .before .before .loop .inv .1
 
 pub is-free-spec : {M : Type 1} → statement M
 is-free-spec =
@@ -64,9 +68,11 @@ is-free-spec =
     Inv-loop
     μ-loop
     loop-holds
-    shared-slice-read-lesser
-    lesser-requires
+    sub-loop
+    is-free-four-requires
+    returns
     add-i
     loop-less
     loop-again
-    returns)
+    is-free-from-requires
+    returns-2)

@@ -1,9 +1,12 @@
-use mathlib.Core.Path.{_≡_}
+use mathlib.Core.Path.{_≡_, sym, _∙_}
 use native.Mathlib.Omega.{arith}
 use Prim.Native.Nat.{ℕ, _≤_, _<_, _+_, _*_}
 use lib.ListN.{length}
 use Rattle.chip.specs.Geometry.{small}
 use Rattle.chip.specs.Chip.{pagesOf}
+use Rattle.plan.specs.PlacesCode.{freePages}
+use borrow.Author.Tests.{leb-false, leb-true}
+use Rattle.plan.proofs.places.has_places.Reads as has-places-reads
 use Rattle.contents.specs.ContentsCode.{contentsIn}
 use Rattle.plan.proofs.ChooseLaws.{chose-delta, chose-nothing, chose-snapshot, count-delta, count-snapshot, delta-short, held-delta, held-snapshot}
 use borrow.Author.Needs.{needs}
@@ -46,9 +49,16 @@ pack-delta-requires c κs =
           (st .pre .2) (slots-long w) (ta .tally .ensures) (me .measure .ensures),
     )
 
--- src/choose.rt:71:8
-add-if1 : tie.Need-add-if1
-add-if1 c = search needs
+-- src/choose.rt:76:55
+add-has-places : tie.Need-add-has-places
+add-has-places c = search needs
+
+-- src/choose.rt:76:8
+has-places-requires : tie.Need-has-places-requires
+has-places-requires c κs =
+    let me = c .before .before .before .before .before .before .before in
+    let st = me .before .before .before .before .before .before .before .before .before .before .before in
+    (st .pre .3, st .pre .0, st .pre .4, st .pre .5)
 
 -- src/choose.rt:72:9
 keep-written-requires : tie.Need-keep-written-requires
@@ -68,10 +78,10 @@ returns c =
     let a = st .args in
     let limit = a .source .limit in
     let ps = pagesOf small (a .image .now) in
-    λ us first. chose-delta limit (a .room .wide) (a .room .narrow) us (contentsIn small limit ps (a .lens .now) (a .slots .now) (a .source .count) (a .buffer .now)) _ _ _ _
+    λ us first. chose-delta limit (length (freePages small ps (a .room .head)) + 32 * a .room .others) (length (freePages small ps (a .room .head)) + 32 * a .room .spare) us (contentsIn small limit ps (a .lens .now) (a .slots .now) (a .source .count) (a .buffer .now)) _ _ _ _
     (held-delta limit (a .source .oldest) ps (a .lens .now) (a .slots .now) (a .source .count) (a .buffer .now) _ _ _ _ _ _
     (st .pre .2) (slots-long w) (ta .tally .ensures) (me .measure .ensures) us first _ _ _ _ (pd .pack-delta .ensures) _ _ (c .keep-written .ensures))
-    (th .if1 .taken)
+    (leb-true _ _ (sym (th .before .has-places .ensures) ∙ th .if1 .taken))
 
 -- src/choose.rt:75:5
 measure-rest-requires : tie.Need-measure-rest-requires
@@ -89,13 +99,20 @@ pack-nodes-requires c κs =
     let st = el .before .before .before .before .before .before .before .before .before .before .before .before .before .before .before .before .before .before .before .before in
     st .pre .2
 
--- src/choose.rt:88:8
-add-if2 : tie.Need-add-if2
-add-if2 c =
+-- src/choose.rt:93:55
+add-has-places-2 : tie.Need-add-has-places-2
+add-has-places-2 c =
     let el = c .before .before .before .before .before .before .before .before .before .before .before .before in
     let st = el .before .before .before .before .before .before .before .before .before .before .before .before .before .before .before .before .before .before .before .before in
     let b = few-pages (st .pre .2) (c .pack-nodes .ensures .few) in
     search (needs, b)
+
+-- src/choose.rt:93:8
+has-places-requires-2 : tie.Need-has-places-requires-2
+has-places-requires-2 c κs =
+    let el = c .before .before .before .before .before .before .before .before .before .before .before .before in
+    let st = el .before .before .before .before .before .before .before .before .before .before .before .before .before .before .before .before .before .before .before .before in
+    (st .pre .3, st .pre .0, st .pre .4, st .pre .6)
 
 -- src/choose.rt:89:9
 keep-written-requires-2 : tie.Need-keep-written-requires-2
@@ -121,12 +138,12 @@ returns-2 c =
     let limit = a .source .limit in
     let ps = pagesOf small (a .image .now) in
     let N = contentsIn small limit ps (a .lens .now) (a .slots .now) (a .source .count) (a .buffer .now) in
-    λ us first. chose-snapshot limit (a .room .wide) (a .room .narrow) us N _
+    λ us first. chose-snapshot limit (length (freePages small ps (a .room .head)) + 32 * a .room .others) (length (freePages small ps (a .room .head)) + 32 * a .room .spare) us N _
     (count-delta limit (a .source .oldest) ps (a .lens .now) (a .slots .now) (a .source .count) (a .buffer .now) _ _ _ _ _ _
-    (st .pre .2) (slots-long w) (ta .tally .ensures) (me .measure .ensures) us first _ _ _ _ (pd .pack-delta .ensures)) (el .if1 .left) _ _ _ _
+    (st .pre .2) (slots-long w) (ta .tally .ensures) (me .measure .ensures) us first _ _ _ _ (pd .pack-delta .ensures)) (leb-false _ _ (sym (el .before .has-places .ensures) ∙ el .if1 .left)) _ _ _ _
     (held-snapshot limit ps (a .lens .now) (a .slots .now) (a .source .count) (a .buffer .now) _ _ _ _ _
     (st .pre .2) (ta .tally .ensures) (mr .measure-rest .ensures) _ _ _ (pn .pack-nodes .ensures) _ _ (c .keep-written2 .ensures))
-    (th .if2 .taken)
+    (leb-true _ _ (sym (th .before .has-places2 .ensures) ∙ th .if2 .taken))
 
 -- src/choose.rt:24:1
 returns-3 : tie.Need-returns-3
@@ -143,12 +160,12 @@ returns-3 c =
     let limit = a .source .limit in
     let ps = pagesOf small (a .image .now) in
     let N = contentsIn small limit ps (a .lens .now) (a .slots .now) (a .source .count) (a .buffer .now) in
-    λ us first. chose-nothing limit (a .room .wide) (a .room .narrow) us N _
+    λ us first. chose-nothing limit (length (freePages small ps (a .room .head)) + 32 * a .room .others) (length (freePages small ps (a .room .head)) + 32 * a .room .spare) us N _
     (count-delta limit (a .source .oldest) ps (a .lens .now) (a .slots .now) (a .source .count) (a .buffer .now) _ _ _ _ _ _
-    (st .pre .2) (slots-long w) (ta .tally .ensures) (me .measure .ensures) us first _ _ _ _ (pd .pack-delta .ensures)) (el .if1 .left) _ _ _ _
+    (st .pre .2) (slots-long w) (ta .tally .ensures) (me .measure .ensures) us first _ _ _ _ (pd .pack-delta .ensures)) (leb-false _ _ (sym (el .before .has-places .ensures) ∙ el .if1 .left)) _ _ _ _
     (count-snapshot limit ps (a .lens .now) (a .slots .now) (a .source .count) (a .buffer .now) _ _ _ _ _
     (st .pre .2) (ta .tally .ensures) (mr .measure-rest .ensures) _ _ _ (pn .pack-nodes .ensures))
-    (c .if2 .left)
+    (leb-false _ _ (sym (c .before .has-places2 .ensures) ∙ c .if2 .left))
 
 pub choose-spec : {M : Type 1} → statement M
 choose-spec =
@@ -157,12 +174,14 @@ choose-spec =
     tally-requires
     measure-requires
     pack-delta-requires
-    add-if1
+    add-has-places
+    has-places-requires
     keep-written-requires
     returns
     measure-rest-requires
     pack-nodes-requires
-    add-if2
+    add-has-places-2
+    has-places-requires-2
     keep-written-requires-2
     returns-2
     returns-3)

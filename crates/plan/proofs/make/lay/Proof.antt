@@ -1,9 +1,11 @@
 use mathlib.Core.Path.{refl}
+use Prim.Native.Nat.{_+_}
 use native.Mathlib.Nat.{le-trans}
 use lib.ListN.{take}
 use Rattle.chip.specs.Geometry.{small}
 use Rattle.chip.specs.Chip.{pagesOf}
 use Rattle.plan.proofs.ChooseLaws.{enough-places}
+use Rattle.plan.proofs.PlaceLaws.{erases-are}
 use borrow.Author.Needs.{needs}
 use Rattle.plan.proofs.make.lay.Statement.{statement}
 use Rattle.plan.proofs.make.lay.Tie as tie
@@ -20,10 +22,6 @@ add-lay-places c = search needs
 lay-places-requires : tie.Need-lay-places-requires
 lay-places-requires c κs = search needs
 
--- src/make.rt:41:9
-add-lay-erases : tie.Need-add-lay-erases
-add-lay-erases c = search needs
-
 -- src/make.rt:34:9
 lay-erases-requires : tie.Need-lay-erases-requires
 lay-erases-requires c κs = search needs
@@ -36,11 +34,14 @@ returns c =
     let e = c .lay-erases .ensures in
     let k = p .before .before .before in
     let a = k .args in
-    let bs = take (a .ground .unused) (a .ring .now) in
-    let enough = enough-places (pagesOf small (a .image .now)) (a .ground .head) bs (a .pages) (a .ground .free) (a .ground .unused) (k .pre .5) (k .pre .8) (k .pre .6) in
-    record { pages = refl; places = l .list; enough = enough; on = l .on; most = le-trans (e .most) (k .pre .3); erased = e .list; within = e .on }
+    let head = a .ground .head in
+    let unused = a .ground .unused in
+    let ps = pagesOf small (a .image .now) in
+    let x = erases-are (a .blocks) head unused (a .pages + 1) (p .lay-places .result) (c .lay-erases .result) ps (a .ring .now) _ (k .pre .6) (l .reach) (e .0) in
+    let enough = enough-places ps head (take unused (a .ring .now)) (a .pages) unused (k .pre .7) (k .pre .5) in
+    record { pages = refl; places = l .list; enough = enough; on = l .on; most = le-trans (e .1) (k .pre .3); erased = x .0; within = x .1 }
 
 pub lay-spec : {M : Type 1} → statement M
 lay-spec =
     tie.close
-    (tie.spec add-lay-places lay-places-requires add-lay-erases lay-erases-requires returns)
+    (tie.spec add-lay-places lay-places-requires lay-erases-requires returns)

@@ -1,9 +1,12 @@
-use mathlib.Core.Path.{_≡_, ap, _∙_}
-use Prim.Native.Nat.{ℕ, _<_, _≤_}
+use mathlib.Core.Path.{_≡_, ap, ap₂, _∙_}
+use mathlib.Core.List.{List}
+use Prim.Native.Nat.{ℕ, _+_, _*_, _<_, _≤_}
 use native.Mathlib.Omega.{arith}
 use lib.ListN.{length}
 use Rattle.chip.specs.Geometry.{small}
+use Rattle.chip.specs.Page.{Page}
 use Rattle.chip.specs.Chip.{pagesOf}
+use Rattle.plan.specs.PlacesCode.{freePages}
 use Rattle.plan.proofs.SurveyLaws.{survey-spare}
 use Rattle.plan.proofs.MakeLaws.{made, made-none, pages-fit, pages-few}
 use borrow.Author.Needs.{needs}
@@ -19,6 +22,9 @@ use Rattle.plan.proofs.survey.survey.Reads as survey-reads
 
 low : {a b : ℕ} → a < b → b ≤ 32 → a ≤ 32
 low h k = omega arith
+
+room-size : (ps : List Page) {h h' o o' : ℕ} → h ≡ h' → o ≡ o' → length (freePages small ps h) + 32 * o ≡ length (freePages small ps h') + 32 * o'
+room-size ps e i = ap₂ (λ (h o : ℕ). length (freePages small ps h) + 32 * o) e i
 
 some : {n : ℕ} → (n ≡ 0 → ⊥) → 0 < n
 some h = omega arith
@@ -58,7 +64,9 @@ returns c =
     let ps = pagesOf small (a .image .now) in
     let sv = su .survey .ensures in
     let re = ro .room-of .ensures in
-    made-none sv _ _ (re .0) (re .1) (a .basis .count) (a .buffer .now) _ _ _ _ (ch .choose .ensures) _ (c .nothing .ensures) (c .before .if1 .taken)
+    let w = room-size ps (re .0) (re .1) in
+    let v = room-size ps (re .0) (re .2) in
+    made-none sv _ _ w v (a .basis .count) (a .buffer .now) _ _ _ _ (ch .choose .ensures) _ (c .nothing .ensures) (c .before .if1 .taken)
 
 -- src/make.rt:122:5
 lay-requires : tie.Need-lay-requires
@@ -70,14 +78,15 @@ lay-requires c κs =
     let a = st .args in
     let ps = pagesOf small (a .image .now) in
     let sv = su .survey .ensures in
-    let re = ro .room-of .ensures in (
+    let re = ro .room-of .ensures in
+    let w = room-size ps (re .0) (re .1) in
+    let v = room-size ps (re .0) (re .2) in (
       st .pre .0,
       st .pre .2,
       sv .on,
       low (sv .few) (st .pre .2),
-      pages-few sv _ _ (re .0) (re .1) (a .basis .count) (a .buffer .now) _ _ _ _ (ch .choose .ensures) (omega (arith, st .pre .2)),
-      sv .free,
-      pages-fit sv _ _ (re .0) (re .1) (a .basis .count) (a .buffer .now) _ _ _ _ (ch .choose .ensures) (some (c .before .if1 .left)),
+      pages-few sv _ _ w v (a .basis .count) (a .buffer .now) _ _ _ _ (ch .choose .ensures) (omega (arith, st .pre .2)),
+      pages-fit sv _ _ w v (a .basis .count) (a .buffer .now) _ _ _ _ (ch .choose .ensures) (some (c .before .if1 .left)),
       survey-spare sv (su .survey .result .unused) (omega arith),
       ap length (sv .list) ∙ sv .size,
     )
@@ -93,7 +102,9 @@ returns-2 c =
     let ps = pagesOf small (a .image .now) in
     let sv = su .survey .ensures in
     let re = ro .room-of .ensures in
-    made sv _ _ (re .0) (re .1) (a .basis .count) (a .buffer .now) _ _ _ _ (ch .choose .ensures) _ (c .lay .ensures)
+    let w = room-size ps (re .0) (re .1) in
+    let v = room-size ps (re .0) (re .2) in
+    made sv _ _ w v (a .basis .count) (a .buffer .now) _ _ _ _ (ch .choose .ensures) _ (c .lay .ensures)
 
 pub make-spec : {M : Type 1} → statement M
 make-spec =

@@ -1,4 +1,5 @@
 use mathlib.Core.Path.{sym, _∙_}
+use native.Mathlib.Omega.{arith}
 use lib.ListN.{length}
 use Rattle.chip.specs.Geometry.{small}
 use Rattle.chip.specs.Chip.{pagesOf}
@@ -19,7 +20,7 @@ put-free-requires c κs =
       block-fits (a .blocks) (a .head) (length (a .image .now)) (k .pre .0) (k .pre .2),
       whole-pages (a .blocks) (length (a .image .now)) (k .pre .0),
       lower (a .head) (a .blocks) 32 (k .pre .2) (k .pre .1),
-      k .pre .8,
+      omega (arith, k .pre .8),
     )
 
 -- src/places.rt:92:5
@@ -29,25 +30,33 @@ put-rest-requires c κs =
     let k = f .before .before .before .before .before in
     let a = k .args in
     let e = f .put-free .ensures in
-    let most = most-places (f .put-free .result) (e .1) in (
+    let most = most-places (f .put-free .result) (e .1) in
+    let size = e .3 ∙ k .pre .8 in (
       k .pre .7,
-      e .2,
+      size,
       k .pre .1,
       k .pre .3,
       most,
       k .pre .4,
-      need-fits (a .head) (a .width) (a .need) (f .put-free .result) (pagesOf small (a .image .now)) (a .ring .now) _ (rw (e .2) most) (e .0) (k .pre .5),
+      need-fits (a .head) (a .width) (a .need) (f .put-free .result) (pagesOf small (a .image .now)) (a .ring .now) _ (rw size most) (e .0) (k .pre .5),
       k .pre .6,
     )
 
--- src/places.rt:77:1
+-- src/places.rt:114:5
+sub-result : tie.Need-sub-result
+sub-result c =
+    let f = c .before .before .before .before .before .before in
+    let b = f .put-free .ensures .2 in
+    search (needs, b)
+
+-- src/places.rt:98:1
 same-length : tie.Need-same-length
 same-length c =
     let p = c .before .before in
     let k = p .before .before .before .before .before .before .before .before .before in
     p .put-rest .ensures .1 ∙ sym (k .pre .8)
 
--- src/places.rt:77:1
+-- src/places.rt:98:1
 returns : tie.Need-returns
 returns c =
     let p = c .before .before in
@@ -56,8 +65,9 @@ returns c =
     let a = k .args in
     let e = f .put-free .ensures in
     let most = most-places (f .put-free .result) (e .1) in
-    lays (a .head) (a .width) (a .need) (f .put-free .result) (pagesOf small (a .image .now)) (a .ring .now) _ (rw (e .2) most) (e .0)
+    let size = e .3 ∙ k .pre .8 in
+    lays (a .head) (a .width) (a .need) (f .put-free .result) (pagesOf small (a .image .now)) (a .ring .now) _ (rw size most) (e .0)
     (a .blocks) _ (k .pre .2) (k .pre .6) (p .put-rest .ensures .0)
 
 pub lay-in-spec : {M : Type 1} → statement M
-lay-in-spec = tie.close (tie.spec put-free-requires put-rest-requires same-length returns)
+lay-in-spec = tie.close (tie.spec put-free-requires put-rest-requires sub-result same-length returns)

@@ -9,9 +9,9 @@ use Rattle.lists.specs.Lists.{filter}
 use Rattle.chip.specs.Geometry.{small}
 use Rattle.chip.specs.Chip.{pagesOf}
 use Rattle.log.specs.Plan.{countFrom, freeAt}
-use Rattle.plan.specs.SurveyCode.{freePages}
-use Rattle.plan.proofs.PlaceLaws.{free-pages-is}
-use Rattle.plan.proofs.MarkLaws.{push-next, push-done}
+use Rattle.plan.specs.PlacesCode.{freePages}
+use Rattle.plan.proofs.PlaceLaws.{free-enough, free-over, free-pages-is}
+use Rattle.plan.proofs.MarkLaws.{push-next}
 use borrow.Author.Needs.{needs}
 use Rattle.plan.proofs.places.put_free.Statement.{statement}
 use Rattle.plan.proofs.places.put_free.Tie as tie
@@ -21,12 +21,12 @@ use Rattle.plan.proofs.survey.push_if.Reads as push-if-reads
 use Rattle.plan.proofs.places.is_free_at.Reads as is-free-at-reads
 
 abbrev Inv-loop : tie.InvT-loop
-Inv-loop image at places₀ first end n₀ p₀ places n p =
-    (at * 32 ≤ p) × (p ≤ at * 32 + 32) × (n + at * 32 ≤ p) × (length places ≡ length places₀)
+Inv-loop image at most places₀ first end n₀ p₀ places n p =
+    (at * 32 ≤ p) × (p ≤ at * 32 + 32) × (n + at * 32 ≤ p) × (n ≤ most) × (length places ≡ length places₀)
     × (take n places ++ filter (freeAt (pagesOf small image)) (countFrom p (at * 32 + 32 - p)) ≡ freePages small (pagesOf small image) at)
 
 abbrev μ-loop : tie.MeasureT-loop
-μ-loop image at places₀ first end n₀ p₀ places n p = at * 32 + 32 - p
+μ-loop image at most places₀ first end n₀ p₀ places n p = at * 32 + 32 - p
 
 -- src/places.rt:35:17
 mul-first : tie.Need-mul-first Inv-loop μ-loop
@@ -36,16 +36,33 @@ mul-first c = search needs
 add-end : tie.Need-add-end Inv-loop μ-loop
 add-end c = search needs
 
--- src/places.rt:39:5
+-- src/places.rt:42:5
 loop-holds : tie.Need-loop-holds Inv-loop μ-loop
 loop-holds c =
     let a = c .before .before .args in (
       omega arith,
       omega arith,
       omega arith,
+      omega arith,
       refl,
       ap (λ (k : ℕ). filter (freeAt (pagesOf small (a .image .now))) (countFrom (a .at * 32) k)) (add-sub-cancel-left (a .at * 32) 32)
           ∙ sym (free-pages-is small (pagesOf small (a .image .now)) (a .at)),
+    )
+
+-- src/places.rt:44:13
+same-length : tie.Need-same-length Inv-loop μ-loop
+same-length c = search needs
+
+-- src/places.rt:44:13
+returns : tie.Need-returns Inv-loop μ-loop
+returns c =
+    let l = c .before .before .loop in
+    let k = c .before .before .before .before .before in
+    let a = k .args in (
+      free-enough (freeAt (pagesOf small (a .image .now))) (a .most) (l .p) (a .at * 32 + 32) (l .n) (l .places) _ (omega arith) (l .inv .5) (omega arith),
+      omega arith,
+      omega arith,
+      l .inv .4,
     )
 
 -- src/places.rt:40:29
@@ -68,36 +85,38 @@ add-p c = search needs
 loop-less : tie.Need-loop-less Inv-loop μ-loop
 loop-less c = search needs
 
--- src/places.rt:39:5
+-- src/places.rt:42:5
 loop-again : tie.Need-loop-again Inv-loop μ-loop
 loop-again c =
     let p = c .before .before in
     let f = p .before .before in
-    let i = f .before in
+    let i = f .before .before in
     let l = i .before .loop in
     let a = i .before .before .before .before .args in
     let u = p .push-if .ensures in (
       omega arith,
       omega arith,
       omega (arith, u .high),
+      omega (arith, u .high, f .before .if1 .left),
       search needs,
-      push-next (freeAt (pagesOf small (a .image .now))) (l .p) (a .at * 32 + 32) (l .n) (p .push-if .result) (l .places) _ _ (i .loop-test .taken) (l .inv .4)
+      push-next (freeAt (pagesOf small (a .image .now))) (l .p) (a .at * 32 + 32) (l .n) (p .push-if .result) (l .places) _ _ (i .loop-test .taken) (l .inv .5)
           (u .list ∙ ap (λ (t : Bool). take (l .n) (l .places) ++ cond t (l .p ∷ []) []) (f .is-free-at .ensures)),
     )
 
--- src/places.rt:30:1
-same-length : tie.Need-same-length Inv-loop μ-loop
-same-length c = search needs
+-- src/places.rt:33:1
+same-length-2 : tie.Need-same-length-2 Inv-loop μ-loop
+same-length-2 c = search needs
 
--- src/places.rt:30:1
-returns : tie.Need-returns Inv-loop μ-loop
-returns c =
+-- src/places.rt:33:1
+returns-2 : tie.Need-returns-2 Inv-loop μ-loop
+returns-2 c =
     let l = c .before .loop in
     let k = c .before .before .before .before in
     let a = k .args in (
-      push-done (freeAt (pagesOf small (a .image .now))) (l .p) (a .at * 32 + 32) (take (l .n) (l .places)) _ (c .loop-test .left) (l .inv .4),
+      free-over (freeAt (pagesOf small (a .image .now))) (a .most) (l .p) (a .at * 32 + 32) (l .n) (l .places) _ (omega arith) (l .inv .5) (c .loop-test .left) (l .inv .3),
       omega arith,
-      l .inv .3 ∙ k .pre .3,
+      l .inv .3,
+      l .inv .4,
     )
 
 pub put-free-spec : {M : Type 1} → statement M
@@ -109,11 +128,13 @@ put-free-spec =
     mul-first
     add-end
     loop-holds
+    same-length
+    returns
     is-free-at-requires
     cast-push-if
     push-if-requires
     add-p
     loop-less
     loop-again
-    same-length
-    returns)
+    same-length-2
+    returns-2)

@@ -12,7 +12,6 @@ use Rattle.plan.proofs.survey.survey_in.Statement.{statement}
 use Rattle.plan.proofs.survey.survey_in.Tie as tie
 use Rattle.plan.proofs.survey.survey_in.Reads as reads
 use Rattle.plan.proofs.survey.survey_in.Lts as lts
-use Rattle.plan.proofs.survey.free_of.Reads as free-of-reads
 use Rattle.plan.proofs.survey.list_unused.Reads as list-unused-reads
 use Rattle.plan.proofs.survey.mark_used.Reads as mark-used-reads
 use Rattle.plan.proofs.survey.oldest_of.Reads as oldest-of-reads
@@ -41,14 +40,6 @@ list-unused-requires c κs =
     let on : u .mark-used .result < k .args .blocks = rw (u .mark-used .ensures .0) (survey-on (k .args .blocks) (k .args .image .now) (k .pre .0) (k .pre .1)) in
     (search needs, search needs, on, search needs)
 
--- src/survey.rt:237:9
-free-of-requires : tie.Need-free-of-requires
-free-of-requires c κs =
-    let u = c .before .before .before .before .before .before in
-    let k = u .before .before .before .before .before .before in
-    let on : u .mark-used .result < k .args .blocks = rw (u .mark-used .ensures .0) (survey-on (k .args .blocks) (k .args .image .now) (k .pre .0) (k .pre .1)) in
-    (omega (arith, k .pre .0), omega (arith, k .pre .0))
-
 -- src/survey.rt:283:28
 slice-aggregate-oldest-of : tie.Need-slice-aggregate-oldest-of
 slice-aggregate-oldest-of c = search needs
@@ -56,7 +47,7 @@ slice-aggregate-oldest-of c = search needs
 -- src/survey.rt:283:18
 oldest-of-requires : tie.Need-oldest-of-requires
 oldest-of-requires c κs =
-    let u = c .before .before .before .before .before .before .before .before in
+    let u = c .before .before .before .before .before .before .before in
     let k = u .before .before .before .before .before .before in
     let on : u .mark-used .result < k .args .blocks = rw (u .mark-used .ensures .0) (survey-on (k .args .blocks) (k .args .image .now) (k .pre .0) (k .pre .1)) in
     (search needs, on, k .pre .2)
@@ -68,8 +59,7 @@ same-length c = search needs
 -- src/survey.rt:221:1
 returns : tie.Need-returns
 returns c =
-    let f = c .before .before in
-    let l = f .before .before .before in
+    let l = c .before .before .before .before in
     let u = l .before .before .before .before in
     let k = u .before .before .before .before .before .before in
     let a = k .args in
@@ -83,8 +73,6 @@ returns c =
       list = list;
       size = sym (ap length list) ∙ length-take-le (l .list-unused .result) _ (omega (arith, l .list-unused .ensures .1, l .list-unused .ensures .2, k .pre .2));
       few = l .list-unused .ensures .1;
-      free = f .free-of .ensures .0;
-      most = f .free-of .ensures .1;
       nowhere = no-block (a .slots .now) (slot-bits (u .before .before .before)) (a .lens .now);
       oldest = c .oldest-of .ensures
           ∙ ap (firstOr 4294967295) (marked-used (a .blocks) (a .limit) (a .lens .now) (a .slots .now) (a .commit) ps _ head on (k .pre .2) (u .mark-used .ensures .1));
@@ -98,7 +86,6 @@ survey-in-spec =
     mark-used-requires
     slice-aggregate-list-unused
     list-unused-requires
-    free-of-requires
     slice-aggregate-oldest-of
     oldest-of-requires
     same-length
