@@ -1,8 +1,9 @@
 //! The proved library and the twin side by side: each call is made on both, and answers and images are compared byte for byte.
 
-use crate::library::{Library, Told};
+use crate::library::Library;
 use crate::random::Random;
 use crate::twin::{self, State};
+use model::twin::told::Told;
 
 pub const PAGE: usize = 528;
 pub const DATA: usize = 512;
@@ -39,11 +40,19 @@ impl Both {
     pub fn formatted(blocks: usize) -> Both {
         let image = vec![255; blocks * BLOCK];
         let mut both = Both { library: Library::new(), twin_image: image.clone(), image, twin: State::default(), pending: 0 };
-        let library = both.library.format(&mut both.image, &TORN, ALLOWANCE);
-        let twin = both.twin.format(&mut both.twin_image, &TORN, ALLOWANCE);
-        assert_eq!((library.refusal, library.ops), (twin.refusal, twin.ops), "format");
-        assert!(both.image == both.twin_image, "the images differ after a format");
+        both.format();
         both
+    }
+
+    /// Both formatted as they are.
+    pub fn format(&mut self) -> Told {
+        let told = self.library.format(&mut self.image, &TORN, ALLOWANCE);
+        let twin = self.twin.format(&mut self.twin_image, &TORN, ALLOWANCE);
+        assert_eq!(told, twin, "format");
+        assert_eq!(told.refusal, 0);
+        assert!(self.image == self.twin_image, "the images differ after a format");
+        self.pending = 0;
+        told
     }
 
     /// A tree filled with random keys, `limit` of them or until an insert is refused with 5, and its keys.
@@ -95,7 +104,7 @@ impl Both {
     pub fn commit(&mut self) -> Told {
         let told = self.library.commit(&mut self.image, &TORN, ALLOWANCE);
         let twin = self.twin.commit(&mut self.twin_image, &TORN, ALLOWANCE);
-        assert_eq!((told.refusal, told.ops), (twin.refusal, twin.ops), "commit");
+        assert_eq!(told, twin, "commit");
         assert_eq!(told.refusal, 0);
         assert!(self.image == self.twin_image, "the images differ after a commit");
         self.pending = 0;

@@ -1,10 +1,15 @@
 //! The proved library, called through its static library: a state in parts, which are lent, and the calls on it.
 
+use model::twin::told::{Counts, Told};
+
 /// The parts of a state: its numbers, the lengths and the pages of the lists, the reservation buffer.
 type Numbers = [u32; 6];
 type Lens = [u32; 256];
 type Slots = [u32; 1024];
 type Buffer = [u8; 11520];
+
+/// What a call counts: data programs, marks set, erases.
+type Ops = [u32; 3];
 
 extern "C" {
     fn vehinoke_look_up(
@@ -46,7 +51,7 @@ extern "C" {
         torn: *const u8,
         torn_len: usize,
         allowance: u32,
-        ops: &mut [u32; 1],
+        ops: &mut Ops,
     ) -> u32;
     fn vehinoke_mount(
         numbers: &mut Numbers,
@@ -57,7 +62,7 @@ extern "C" {
         torn: *const u8,
         torn_len: usize,
         allowance: u32,
-        ops: &mut [u32; 1],
+        ops: &mut Ops,
     ) -> u32;
     fn vehinoke_commit(
         numbers: &mut Numbers,
@@ -69,7 +74,7 @@ extern "C" {
         torn: *const u8,
         torn_len: usize,
         allowance: u32,
-        ops: &mut [u32; 1],
+        ops: &mut Ops,
     ) -> u32;
     pub fn vehinoke_is_free(page: *const u8, page_len: usize) -> u32;
 }
@@ -88,11 +93,9 @@ pub struct Library {
     buffer: Box<Buffer>,
 }
 
-/// What format, mount and commit tell: the refusal, 0 for none, and the operations done.
-#[derive(Clone, Copy, PartialEq, Eq, Debug)]
-pub struct Told {
-    pub refusal: u32,
-    pub ops: u32,
+/// What format, mount and commit tell, by the refusal that they return and the counts that they leave.
+fn told(refusal: u32, [programs, marks, erases]: Ops) -> Told {
+    Told { refusal, counts: Counts { programs, marks, erases } }
 }
 
 impl Library {
@@ -111,27 +114,27 @@ impl Library {
 
     /// Each pointer below is followed by the length of the slice that it comes from.
     pub fn format(&mut self, image: &mut [u8], torn: &[u8], allowance: u32) -> Told {
-        let mut ops = [0];
+        let mut ops = [0; 3];
         let (i, t) = (image.as_mut_ptr(), torn.as_ptr());
         let (n, l, s) = (&mut self.numbers, &mut self.lens, &mut self.slots);
         let refusal = unsafe { vehinoke_format(n, l, s, i, image.len(), t, torn.len(), allowance, &mut ops) };
-        Told { refusal, ops: ops[0] }
+        told(refusal, ops)
     }
 
     pub fn mount(&mut self, image: &mut [u8], torn: &[u8], allowance: u32) -> Told {
-        let mut ops = [0];
+        let mut ops = [0; 3];
         let (i, t) = (image.as_mut_ptr(), torn.as_ptr());
         let (n, l, s) = (&mut self.numbers, &mut self.lens, &mut self.slots);
         let refusal = unsafe { vehinoke_mount(n, l, s, i, image.len(), t, torn.len(), allowance, &mut ops) };
-        Told { refusal, ops: ops[0] }
+        told(refusal, ops)
     }
 
     pub fn commit(&mut self, image: &mut [u8], torn: &[u8], allowance: u32) -> Told {
-        let mut ops = [0];
+        let mut ops = [0; 3];
         let (i, t) = (image.as_mut_ptr(), torn.as_ptr());
         let (n, l, s, b) = (&mut self.numbers, &mut self.lens, &mut self.slots, &self.buffer);
         let refusal = unsafe { vehinoke_commit(n, l, s, b, i, image.len(), t, torn.len(), allowance, &mut ops) };
-        Told { refusal, ops: ops[0] }
+        told(refusal, ops)
     }
 
     /// The refusal, 0 for none, the value found and the pages read.

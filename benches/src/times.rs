@@ -114,10 +114,10 @@ pub fn one_commit(both: &mut Both, keys: &[u32], random: &mut Random) -> (f64, f
     let library = nanos(|| told = Some(both.library.commit(&mut both.image, &TORN, ALLOWANCE))) - clock;
     let twin = nanos(|| other = Some(both.twin.commit(&mut both.twin_image, &TORN, ALLOWANCE))) - clock;
     let (told, other) = (told.unwrap(), other.unwrap());
-    assert_eq!((told.refusal, told.ops), (other.refusal, other.ops));
+    assert_eq!(told, other);
     assert!(both.image == both.twin_image, "the images differ after a commit");
     both.pending = 0;
-    (library, twin, both.last_pages())
+    (library, twin, told.counts.programs)
 }
 
 /// Commits of 16 events, each a random key of the tree with another value; a round is 20 of them in turn.

@@ -3,6 +3,7 @@
 use crate::both::{Both, BLOCK, DATA, PAGE, PENDING};
 use crate::random::Random;
 use crate::reference::Reference;
+use model::twin::told::Counts;
 
 /// An event; a format empties the store; `Measured` says that the tree is filled and that what follows is counted.
 #[derive(Clone, Copy, PartialEq, Eq, Debug)]
@@ -48,22 +49,26 @@ struct Run {
 }
 
 impl Run {
-    /// A commit, with its pages and erases counted: it tells 3 operations a page, and one an erase.
+    /// The pages programmed and the blocks erased of a call added to those of the workload.
+    fn count(&mut self, counts: Counts) {
+        self.wear.pages += u64::from(counts.programs);
+        self.wear.erases += u64::from(counts.erases);
+    }
+
+    /// A commit, counted; the pages and the blocks erased that it tells are those found on the image.
     fn commit(&mut self) {
         if self.both.pending == 0 {
             return;
         }
         self.wear.reference.commit(self.both.twin.buffered());
         let before = self.both.image.clone();
-        let told = self.both.commit();
-        let pages = self.both.last_pages();
-        let erases = told.ops - 3 * pages;
+        let counts = self.both.commit().counts;
         let erased: Vec<usize> = (0..self.wear.blocks).filter(|&b| was_erased(&before, &self.both.image, b)).collect();
-        assert_eq!(erased.len(), erases as usize, "the blocks erased");
+        assert_eq!(self.both.last_pages(), counts.programs, "the pages programmed");
+        assert_eq!(erased.len(), counts.erases as usize, "the blocks erased");
         erased.iter().for_each(|&b| self.wear.worn[b] += 1);
         self.wear.commits += 1;
-        self.wear.pages += u64::from(pages);
-        self.wear.erases += u64::from(erases);
+        self.count(counts);
     }
 
     /// An event on both stores; true where it is accepted, and then it is kept, and the 16th is followed by a commit.
@@ -84,12 +89,11 @@ impl Run {
         true
     }
 
-    /// A chip formatted anew: all its blocks erased and one page written.
+    /// A chip formatted anew, counted.
     fn format(&mut self) {
         self.commit();
-        self.both = Both::formatted(self.wear.blocks);
-        self.wear.pages += 1;
-        self.wear.erases += self.wear.blocks as u64;
+        let counts = self.both.format().counts;
+        self.count(counts);
         self.wear.reference.format();
         self.wear.events.push(Event::Format);
         self.keys.clear();

@@ -51,8 +51,8 @@ impl Case {
             let need = writer.probe().need(4);
             let aimed = match aim {
                 Aim::Any => true,
-                Aim::Erase => !need.is_multiple_of(3),
-                Aim::Pages(pages) => need >= 3 * pages,
+                Aim::Erase => need.erases > 0,
+                Aim::Pages(pages) => need.programs >= pages,
             };
             if round >= rounds && aimed || round > 200 {
                 break;
@@ -130,7 +130,7 @@ impl Case {
     /// A replay for each allowance from 0 to what the commit needs, with torn bytes of a kind.
     fn cut_commits(&self, random: &mut Random, writer: &mut Writer, kind: u64) -> usize {
         self.replay(writer);
-        let need = writer.probe().need(4);
+        let need = writer.probe().need(4).total();
         let bytes = torn::bytes(random, writer, kind);
         writer.tear(&bytes);
         for allowance in 0..=need {
@@ -151,10 +151,10 @@ impl Case {
         let mut allowance = 0;
         loop {
             self.replay(writer);
-            let need = writer.probe().need(4);
+            let need = writer.probe().need(4).total();
             writer.tear(&[1]);
             writer.commit(need - 1);
-            let voids = writer.probe().need(5);
+            let voids = writer.probe().need(5).total();
             writer.tear(&bytes[..1]);
             writer.mount(allowance);
             self.check(writer);

@@ -2,8 +2,8 @@
 
 use model::crash::Case;
 use model::random::Random;
-use model::scripts::{self, KINDS};
 use model::runner;
+use model::scripts::{self, KINDS};
 use std::path::{Path, PathBuf};
 use std::process::ExitCode;
 use std::time::{Duration, Instant, SystemTime, UNIX_EPOCH};

@@ -2,9 +2,10 @@
 
 use crate::crc::crc32;
 use crate::frame::parse;
-use crate::twin::chip::{Told, BLOCK, PAGE};
+use crate::twin::chip::{BLOCK, PAGE};
 use crate::twin::show::show;
 use crate::twin::state::State;
+use crate::twin::told::{Counts, Told};
 
 /// Blocks of the image buffer.
 const BLOCKS: usize = 40;
@@ -27,9 +28,10 @@ impl Default for Probe {
     }
 }
 
-/// A call that did operations: the refusal and their number.
+/// A call that did operations: the refusal, and their numbers by kind.
 fn wrote(told: Told) -> String {
-    format!("{:02X}{:08X}", told.refusal, told.ops)
+    let Counts { programs, marks, erases } = told.counts;
+    format!("{:02X}{programs:08X}{marks:08X}{erases:08X}", told.refusal)
 }
 
 /// A call that tells a refusal alone.
@@ -144,14 +146,15 @@ impl Probe {
         true
     }
 
-    /// The operations that a commit, a mount or a format would take, by its kind; the image is not changed.
-    pub fn need(&self, kind: u32) -> u32 {
+    /// The operations that a format (0), a commit (4) or a mount would do; the image is not changed.
+    pub fn need(&self, kind: u32) -> Counts {
         let (mut state, mut image) = (self.state.clone(), self.image().to_vec());
-        match kind {
-            0 => state.format(&mut image, self.torn(), u32::MAX).ops,
-            4 => state.commit(&mut image, self.torn(), u32::MAX).ops,
-            _ => state.mount(&mut image, self.torn(), u32::MAX).ops,
-        }
+        let told = match kind {
+            0 => state.format(&mut image, self.torn(), u32::MAX),
+            4 => state.commit(&mut image, self.torn(), u32::MAX),
+            _ => state.mount(&mut image, self.torn(), u32::MAX),
+        };
+        told.counts
     }
 
     /// The image that a commit with this allowance would leave.

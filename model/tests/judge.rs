@@ -10,6 +10,15 @@ use std::collections::BTreeMap;
 use std::time::{Duration, Instant};
 use tiny::{Bug, Tiny};
 
+/// Format of 3 blocks finished: a data program, 2 marks set, 3 erases.
+const FORMATTED: &str = "00000000010000000200000003";
+/// Finished without an operation.
+const NOTHING_DONE: &str = "00000000000000000000000000";
+/// Refused with 1.
+const WRONG_SIZE: &str = "01000000000000000000000000";
+/// Cut with an allowance of 0.
+const CUT_AT_ONCE: &str = "0A000000000000000000000000";
+
 /// A script under way: the tiny store and the judge.
 struct Run {
     tiny: Tiny,
@@ -165,6 +174,28 @@ fn right_answers_pass() {
     }
 }
 
+/// Sets all torn bytes: to 255, to 0, at random or to 5A; then the first of them.
+fn set_torn(run: &mut Run, random: &mut Random, kind: u64) -> Result<(), String> {
+    for at in 0..528 {
+        let byte = [255, 0, random.byte(), 0x5A][kind as usize % 4];
+        run.frame(Frame::SetTorn(at, byte))?;
+    }
+    run.frame(Frame::SetTorn(0, [0, 255, 1, 0x5A][random.index(4)])).map(|_| ())
+}
+
+/// A store that is right passes with torn bytes that make torn operations look whole or not show.
+#[test]
+fn right_answers_pass_with_other_torn_bytes() {
+    let mut random = Random::new(14);
+    let mut run = Run::new(Bug::None);
+    for kind in 0..16 {
+        run.frame(Frame::TornLength(528)).unwrap();
+        run.frame(Frame::Blocks(3)).unwrap();
+        set_torn(&mut run, &mut random, kind).unwrap();
+        script(&mut run, &mut random, 2000).unwrap();
+    }
+}
+
 /// Every fault of the tiny store is seen by the judge.
 #[test]
 fn each_fault_is_seen() {
@@ -219,7 +250,7 @@ fn replies(run: &mut Run, lines: &[(&str, &str)]) {
 #[test]
 fn image_set_back_is_fixed_again() {
     let mut run = Run::new(Bug::None);
-    replies(&mut run, &[("00000007D0", "0000000006"), ("010000000700000063", "00"), ("0300000007", "000000006301")]);
+    replies(&mut run, &[("00000007D0", FORMATTED), ("010000000700000063", "00"), ("0300000007", "000000006301")]);
     assert!(run.judge.all_fixed());
     run.frame(Frame::SetImage(40000, 1)).unwrap();
     assert!(!run.judge.all_fixed());
@@ -229,21 +260,21 @@ fn image_set_back_is_fixed_again() {
     assert!(run.judge.line(b"0300000007", "000000006401", run.tiny.image()).is_err());
     assert!(run.judge.all_fixed());
     run.frame(Frame::Length(PAGE as u32)).unwrap();
-    replies(&mut run, &[("0300000007", "01"), ("0400000007", "0100000000"), ("0500000007", "0100000000")]);
+    replies(&mut run, &[("0300000007", "01"), ("0400000007", WRONG_SIZE), ("0500000007", WRONG_SIZE)]);
     run.frame(Frame::Length(3 * BLOCK as u32)).unwrap();
     assert!(run.judge.all_fixed());
-    replies(&mut run, &[("0300000007", "000000006301"), ("0400000000", "0A00000000"), ("0300000007", "02")]);
-    replies(&mut run, &[("05000000FF", "0000000000"), ("0300000007", "0401")]);
+    replies(&mut run, &[("0300000007", "000000006301"), ("0400000000", CUT_AT_ONCE), ("0300000007", "02")]);
+    replies(&mut run, &[("05000000FF", NOTHING_DONE), ("0300000007", "0401")]);
 }
 
 /// An update accepted on a changed image leaves a state that only mount or format fixes.
 #[test]
 fn open_update_leaves_a_state_that_is_open() {
     let mut run = Run::new(Bug::None);
-    replies(&mut run, &[("00000007D0", "0000000006"), ("12000000FF01", "00"), ("010000000700000063", "00"), ("12000000FFFF", "00")]);
+    replies(&mut run, &[("00000007D0", FORMATTED), ("12000000FF01", "00"), ("010000000700000063", "00"), ("12000000FFFF", "00")]);
     assert!(!run.judge.all_fixed());
     assert!(run.judge.line(b"0300000007", "000000009901", run.tiny.image()).is_ok());
-    replies(&mut run, &[("05000000FF", "0000000000")]);
+    replies(&mut run, &[("05000000FF", NOTHING_DONE)]);
     assert!(run.judge.all_fixed());
     assert!(run.judge.line(b"0300000007", "000000009901", run.tiny.image()).is_err());
 }

@@ -7,6 +7,7 @@ use native.Mathlib.Omega.{arith}
 use lib.ListN.{length, getD, drop}
 use lib.Seq.{drop-length}
 use Rattle.lists.proofs.Flats.{flat-append}
+use Rattle.chip.specs.Counts.{total}
 use Rattle.store.specs.declared.state.State.{State}
 use Rattle.store.specs.declared.step.Call.{Call}
 use Rattle.store.specs.declared.step.Stepped.{Stepped}
@@ -57,7 +58,7 @@ module _ (torn : List ℕ) where
   ends-one l f s i r i' h e d bs k =
       subst (λ (cs : List Call). RunsTo torn cs s i (r .state) i')
       (sym (call-one bs (f .call) (frame-is l f bs h k ∙ is-frame (f .good) (f .call) e)))
-      (runs-one torn (f .call) s i (answerOf (r .answer)) (r .ops) (r .state) i' (step-allowed (f .call) torn s i r i' d))
+      (runs-one torn (f .call) s i (answerOf (r .answer)) (total (r .ops)) (r .state) i' (step-allowed (f .call) torn s i r i' d))
 
   -- ---- the bytes from index k on: what they do from here is what all bytes do from the start
   pub record Left (bytes begun₀ : List ℕ) (s₀ : State) (i₀ : List ℕ) (k : ℕ) (l : Line) (s : State) (i : List ℕ) : Type 0 where

@@ -1,4 +1,5 @@
 // The cases of the first demand, each as a call: a line for each with the refusal in two digits, and behind it what the call tells.
+use chip::progress::Counts;
 use store::answer;
 use store::answer::Look;
 use store::answer::Report;
@@ -16,13 +17,33 @@ fn say(text: &[u8]) {
     io::write_all(1, b"\n");
 }
 
-// The refusal in two digits, and a number that the call tells.
-fn tell(refusal: u32, told: u32) {
+// The refusal in two digits.
+fn tell_refusal(refusal: u32) {
     let tens = 48 + ((refusal / 10 % 10) as u8);
     let ones = 48 + ((refusal % 10) as u8);
-    let digits = [tens, ones, 32];
+    let digits = [tens, ones];
     io::write_all(1, &digits);
-    io::print_decimal(1, told as u64);
+}
+
+// A number behind a space.
+fn tell_number(n: u32) {
+    io::write_all(1, b" ");
+    io::print_decimal(1, n as u64);
+}
+
+// The refusal, and a number that the call tells.
+fn tell(refusal: u32, told: u32) {
+    tell_refusal(refusal);
+    tell_number(told);
+    io::write_all(1, b"\n");
+}
+
+// The refusal, and the operations that the call tells by kind.
+fn tell_counts(refusal: u32, ops: Counts) {
+    tell_refusal(refusal);
+    tell_number(ops.programs);
+    tell_number(ops.marks);
+    tell_number(ops.erases);
     io::write_all(1, b"\n");
 }
 
@@ -73,7 +94,7 @@ fn format_chip(state: State, image: &mut [u8], torn: &[u8], allowance: u32) -> S
     let r = format::format(state, image, torn, allowance);
     let answer = r.answer;
     let ops = r.ops;
-    tell(answer::number(answer), ops);
+    tell_counts(answer::number(answer), ops);
     r.state
 }
 
@@ -82,7 +103,7 @@ fn mount_chip(state: State, image: &mut [u8], torn: &[u8], allowance: u32) -> St
     let r = mount::mount(state, image, torn, allowance);
     let answer = r.answer;
     let ops = r.ops;
-    tell(answer::number(answer), ops);
+    tell_counts(answer::number(answer), ops);
     r.state
 }
 

@@ -3,11 +3,14 @@ use mathlib.Core.Path.{_≡_, refl}
 use mathlib.Core.Bool.{true, false}
 use mathlib.Core.List.{List, [], _∷_}
 use Prim.Native.Nat.{ℕ}
+use lib.ListN.{take}
 use Rattle.chip.specs.declared.page.Mark.the-variants.{Used, Valid}
 use Rattle.chip.specs.declared.power.Power.the-variants.{Left, Gone}
 use Rattle.chip.specs.Geometry.{Geometry, small, blocksOf}
+use Rattle.chip.specs.Counts.{countsOf, nothing}
 use Rattle.chip.specs.Page.{Page, isSet, isLive, isFree, tornPage}
-use Rattle.chip.specs.Chip.{program, mark, erase, inBlock, tear, run, pagesOf}
+use Rattle.chip.specs.Chip.{Op, program, mark, erase, kindsOf, inBlock, tear, run, pagesOf}
+use Rattle.chip.specs.RunCode.{countedAll, wholes}
 
 abbrev tiny : Geometry
 tiny = record { area = 4; spare = 3; pages = 2; units = 1 }
@@ -44,11 +47,20 @@ erases : (tear tiny torn (erase 0) (a ∷ b ∷ a ∷ b ∷ [])
 unfolding inBlock tornPage
 erases = (refl, refl)
 
--- a page written with power for two operations: used mark, data, and a valid mark that became torn byte 0
-cut-write : run tiny torn (record { power = Left 2; pages = e ∷ a ∷ [] }) (mark 0 Used ∷ program 0 (1 ∷ 2 ∷ 3 ∷ 4 ∷ []) ∷ mark 0 Valid ∷ erase 0 ∷ [])
+-- a page written, and a block erased
+abbrev written : List Op
+written = mark 0 Used ∷ program 0 (1 ∷ 2 ∷ 3 ∷ 4 ∷ []) ∷ mark 0 Valid ∷ erase 0 ∷ []
+
+-- with power for two operations: used mark, data, and a valid mark that became torn byte 0
+cut-write : run tiny torn (record { power = Left 2; pages = e ∷ a ∷ [] }) written
     ≡ record { power = Gone; pages = (1 ∷ 2 ∷ 3 ∷ 4 ∷ 0 ∷ 90 ∷ 255 ∷ []) ∷ a ∷ [] }
 unfolding run
 cut-write = refl
+
+-- the same operations by kind: one program, two marks, an erase; with power for two of them, one program and one mark
+kinds : (countsOf (kindsOf written) ≡ record { programs = 1; marks = 2; erases = 1 }) × (countsOf (take 2 (kindsOf written)) ≡ record { programs = 1; marks = 1; erases = 0 })
+    × (countedAll nothing (wholes (Left 2) (kindsOf written)) ≡ record { programs = 1; marks = 1; erases = 0 }) × (countedAll nothing (wholes Gone (kindsOf written)) ≡ nothing)
+kinds = (refl, refl, refl, refl)
 
 -- an image cut into pages
 cuts : pagesOf tiny (1 ∷ 2 ∷ 3 ∷ 4 ∷ 0 ∷ 0 ∷ 255 ∷ 5 ∷ 6 ∷ 7 ∷ 8 ∷ 9 ∷ 255 ∷ 255 ∷ []) ≡ a ∷ b ∷ []

@@ -16,10 +16,15 @@ use Rattle.lists.proofs.Parts.{length-part, length-patch, patch-same, lent, len
 use Rattle.chip.specs.declared.power.Power.{Power}
 use Rattle.chip.specs.declared.power.Outcome.{Outcome}
 use Rattle.chip.specs.declared.power.Outcome.the-variants.{Whole, Torn, Nothing}
+use Rattle.chip.specs.declared.operation.Kind.the-variants as K
+use Rattle.chip.specs.declared.operation.Operation.{Operation}
+use Rattle.chip.specs.declared.progress.Progress.{Progress}
 use Rattle.chip.specs.Geometry.{Geometry, pageSize, blockSize}
 use Rattle.chip.specs.Power.{outcome, choose, effect}
 use Rattle.chip.specs.Page.{Page, isFree, blank, tornPage}
-use Rattle.chip.specs.Chip.{pagesOf, inBlock, filled, Op, erase, whole, tear, wholeBlock, tornBlock, Operated, Stepped, step}
+use Rattle.chip.specs.Chip.{pagesOf, inBlock, filled, Op, erase, kindOf, whole, tear, wholeBlock, tornBlock, step}
+use Rattle.chip.specs.RunCode.{progressed, Operated, Stepped}
+use Rattle.chip.proofs.CountLaws.{progressed-told}
 use Rattle.chip.proofs.PageLaws.{length-blank, length-torn}
 
 -- what an operation leaves, by its outcome: where something holds of all three results, it holds of the one
@@ -120,12 +125,14 @@ module _ (g : Geometry) (xs : List ℕ) where
         → p < n
         → length (w (part (p * pageSize g) (pageSize g) xs)) ≡ pageSize g
         → length (t (part (p * pageSize g) (pageSize g) xs)) ≡ pageSize g
-        → (pw r : Power) (last : List ℕ)
-        → Operated pw r last (w (part (p * pageSize g) (p * pageSize g + pageSize g - p * pageSize g) xs))
+        → (pr q : Progress) (r : Operation) (last : List ℕ)
+        → q ≡ progressed (pr .done) r
+        → Operated (kindOf o) (pr .left) r last (w (part (p * pageSize g) (p * pageSize g + pageSize g - p * pageSize g) xs))
         (t (part (p * pageSize g) (p * pageSize g + pageSize g - p * pageSize g) xs)) (part (p * pageSize g) (p * pageSize g + pageSize g - p * pageSize g) xs)
-        → Stepped g torn o pw r xs (patch xs (p * pageSize g) (p * pageSize g + pageSize g - p * pageSize g) last)
-    page-stepped torn o p w t ew et h lw lt pw r last op =
+        → Stepped g torn o pr q xs (patch xs (p * pageSize g) (p * pageSize g + pageSize g - p * pageSize g) last)
+    page-stepped torn o p w t ew et h lw lt pr q r last e op =
         let k : ℕ = pageSize g in
+        let pw : Power = pr .left in
         let f : Page → Page = λ (x : Page). effect pw (w x) (t x) x in
         let x : Page = part (p * k) k xs in
         let size : length (f x) ≡ k = effect-has (λ (z : Page). length z ≡ k) (outcome pw) (w x) (t x) x lw lt (length-part xs (p * k) k (page-fits p h)) in
@@ -133,11 +140,12 @@ module _ (g : Geometry) (xs : List ℕ) where
         record {
           is =
               ap₂ (λ (q : Power) (ps : List Page). record { power = q; pages = ps })
-              (op .power)
+              (ap (λ (x : Progress). x .left) e ∙ ap (λ (x : Operation). x .left) (op .told))
               (put .0
               ∙ effect-modify (outcome pw) p w t (pagesOf g xs)
               ∙ ap₂ (λ (u v : List Page). effect pw u v (pagesOf g xs)) (sym (ew (pagesOf g xs))) (sym (et (pagesOf g xs))));
           size = put .1;
+          told = ap (λ (x : Progress). x .done) e ∙ progressed-told (pr .done) pw (kindOf o) r (op .told);
         }
 
     -- an erase of block b, done on its part
@@ -182,11 +190,13 @@ module _ (g : Geometry) (xs : List ℕ) where
       torn-size : length (tornBlock g torn (part (b * blockSize g) (blockSize g) xs)) ≡ blockSize g
       torn-size = cases (eqb (getD torn 0 0) 0) (λ t. rw t part-size) (λ t. rw t (block-size (tornPage g torn) (length-torn g torn lt)))
 
-      pub block-stepped : (p q : Power) (last : List ℕ)
-          → Operated p q last (wholeBlock g) (tornBlock g torn (part (b * blockSize g) (b * blockSize g + blockSize g - b * blockSize g) xs))
+      pub block-stepped : (pr q : Progress) (o : Operation) (last : List ℕ)
+          → q ≡ progressed (pr .done) o
+          → Operated K.Erase (pr .left) o last (wholeBlock g) (tornBlock g torn (part (b * blockSize g) (b * blockSize g + blockSize g - b * blockSize g) xs))
           (part (b * blockSize g) (b * blockSize g + blockSize g - b * blockSize g) xs)
-          → Stepped g torn (erase b) p q xs (patch xs (b * blockSize g) (b * blockSize g + blockSize g - b * blockSize g) last)
-      block-stepped p q last h =
+          → Stepped g torn (erase b) pr q xs (patch xs (b * blockSize g) (b * blockSize g + blockSize g - b * blockSize g) last)
+      block-stepped pr q o last e h =
+          let p : Power = pr .left in
           let k : ℕ = pageSize g in
           let a : ℕ = b * blockSize g in
           let s : ℕ = blockSize g in
@@ -198,7 +208,7 @@ module _ (g : Geometry) (xs : List ℕ) where
           record {
             is =
                 ap₂ (λ (r : Power) (ps : List Page). record { power = r; pages = ps })
-                (h .power)
+                (ap (λ (x : Progress). x .left) e ∙ ap (λ (x : Operation). x .left) (h .told))
                 (ap (pagesOf g) is
                 ∙ same-cut (patch xs a s (f x)) same
                 ∙ effect-map (λ (z : List ℕ). cut k n (patch xs a s z)) (outcome p) (wholeBlock g) (tornBlock g torn x) x
@@ -206,4 +216,5 @@ module _ (g : Geometry) (xs : List ℕ) where
                 ∙ ap (λ (v : List Page). choose (outcome p) (mapFrom 0 (filled g b (blank g)) (cut k n xs)) (cond (eqb (getD torn 0 0) 0) (cut k n xs) (mapFrom 0 (filled g b (tornPage g torn)) (cut k n xs))) v) same-pages
                 ∙ ap (λ (ps : List Page). step g torn (record { power = p; pages = ps }) (erase b) .pages) (sym (same-cut xs refl)));
             size = ap length is ∙ same;
+            told = ap (λ (x : Progress). x .done) e ∙ progressed-told (pr .done) p K.Erase o (h .told);
           }

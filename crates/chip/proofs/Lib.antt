@@ -1,4 +1,5 @@
 pub mod PowerLaws
+pub mod CountLaws
 pub mod PageLaws
 pub mod SetLaws
 pub mod BlockLaws

@@ -2,22 +2,29 @@
 use mathlib.Core.Path.{_≡_, refl, sym, ap, _∙_}
 use mathlib.Core.Bool.{false}
 use mathlib.Core.List.{List, [], _∷_, _++_, foldl, foldl-append}
-use Prim.Native.Nat.{ℕ, zero, suc, _+_, _-_, _≤_, min}
+use Prim.Native.Nat.{ℕ, zero, suc, _+_, _^_, _<_, min}
 use native.Mathlib.Omega.{arith}
 use lib.Dec.{ltb, eqb, leb·suc-suc}
-use lib.ListN.{length, take, getD}
+use lib.ListN.{length, take, getD, length-map}
 use lib.Seq.{length-take-le}
 use borrow.Author.Tests.{lt-ltb, le-ltb, eqb-false}
 use Rattle.lists.specs.Lists.{All, none, more, At, modify, mapFrom}
 use Rattle.lists.proofs.Tests.{cases}
 use Rattle.lists.proofs.Alls.{All-head, All-tail, All-modify, All-mapFrom}
+use Rattle.lists.proofs.Flats.{map-append}
 use Rattle.lists.proofs.Places.{length-modify, length-mapFrom, At-other, At-mapFrom}
 use Rattle.chip.specs.declared.power.Power.{Power}
 use Rattle.chip.specs.declared.power.Power.the-variants.{Left, Gone}
+use Rattle.chip.specs.declared.operation.Kind.{Kind}
+use Rattle.chip.specs.declared.progress.Counts.{Counts}
+use Rattle.chip.specs.declared.progress.Progress.{Progress}
 use Rattle.chip.specs.Geometry.{Geometry, pageSize}
-use Rattle.chip.specs.Power.{outcome, effect, done, isGone}
+use Rattle.chip.specs.Power.{outcome, effect, isGone}
+use Rattle.chip.specs.Counts.{countsOf, total}
 use Rattle.chip.specs.Page.{Page, blank, tornPage, marked, programmed}
-use Rattle.chip.specs.Chip.{Op, program, mark, erase, whole, tear, filled, inBlock, touches, Machine, machine, step, run, Stepped, Ran}
+use Rattle.chip.specs.Chip.{Op, program, mark, erase, kindOf, kindsOf, whole, tear, filled, inBlock, touches, Machine, step, run}
+use Rattle.chip.specs.RunCode.{atStart, wholes, counted, countedAll, machine, Stepped, Ran}
+use Rattle.chip.proofs.CountLaws.{told-first, told-sum, wholes-none}
 use Rattle.chip.proofs.PageLaws.{length-blank, length-torn, length-marked, length-programmed}
 use Rattle.chip.proofs.ImageLaws.{effect-has}
 
@@ -60,16 +67,6 @@ module _ (g : Geometry) (torn : List ℕ) where
       → run g torn (with-power n ps) os ≡ record { power = left n os; pages = after n ps os }
   unfolding run
   run-parts n ps os = parts n ps os
-
-  -- ---- the operations told are the smaller of the allowance and the list's length
-  left-most : (n k : ℕ) (os : List Op) → k ≤ n → done n (left k os) ≡ n - k + min k (length os)
-  left-most n k [] h = omega arith
-  left-most n zero (o ∷ os) h = omega arith
-  left-most n (suc k) (o ∷ os) h = left-most n k os (omega arith) ∙ omega arith
-
-  pub run-done : (n : ℕ) (ps : List Page) (os : List Op) → done n (run g torn (with-power n ps) os .power) ≡ min n (length os)
-  run-done n ps os =
-      ap (λ (m : Machine). done n (m .power)) (run-parts n ps os) ∙ left-most n n os (omega arith) ∙ omega arith
 
   -- power is gone exactly when the allowance is smaller than the list
   left-gone : (n : ℕ) (os : List Op) → isGone (left n os) ≡ ltb n (length os)
@@ -140,21 +137,57 @@ module _ (g : Geometry) (torn : List ℕ) where
       map-all none = none
       map-all (more {x = o} t ts) = more (λ ps b. (whole-other o n x ps t b, tear-other o n x ps t b)) (map-all ts)
 
+-- ---- the kinds of the operations done whole
+module _ (g : Geometry) (torn : List ℕ) where
+  gone-wholes : {A : Type 0} (ps : List Page) (os : List Op) (ys : List A) → wholes (foldl (step g torn) (record { power = Gone; pages = ps }) os .power) ys ≡ []
+  gone-wholes ps [] ys = refl
+  gone-wholes ps (o ∷ os) ys = gone-wholes ps os ys
+
+  -- of two lists of operations, one after the other
+  wholes-after : (p : Power) (ps : List Page) (os : List Op) (ks : List Kind)
+      → wholes p (kindsOf os ++ ks) ≡ wholes p (kindsOf os) ++ wholes (foldl (step g torn) (record { power = p; pages = ps }) os .power) ks
+  wholes-after (Left n) ps [] ks = ap (λ (l : List Kind). l ++ take n ks) (sym (wholes-none (Left n)))
+  wholes-after Gone ps [] ks = refl
+  wholes-after (Left zero) ps (o ∷ os) ks = sym (gone-wholes (tear g torn o ps) os ks)
+  wholes-after (Left (suc n)) ps (o ∷ os) ks = ap (λ (l : List Kind). kindOf o ∷ l) (wholes-after (Left n) (whole g o ps) os ks)
+  wholes-after Gone ps (o ∷ os) ks = sym (gone-wholes ps os ks)
+
+  pub run-wholes : (m : Machine) (os : List Op) (ks : List Kind)
+      → wholes (m .power) (kindsOf os ++ ks) ≡ wholes (m .power) (kindsOf os) ++ wholes (run g torn m os .power) ks
+  unfolding run
+  run-wholes m os ks = wholes-after (m .power) (m .pages) os ks
+
 -- ---- runs on a whole image, one after the other
 module _ (g : Geometry) (torn : List ℕ) where
-  pub ran-none : (p : Power) (xs : List ℕ) → Ran g torn [] p p xs xs
+  pub ran-none : (p : Progress) (xs : List ℕ) → Ran g torn [] p p xs xs
   unfolding run
-  ran-none p xs = record { is = refl; size = refl }
+  ran-none p xs = record { is = refl; size = refl; told = ap (countedAll (p .done)) (sym (wholes-none (p .left))) }
 
-  pub ran-append : (os qs : List Op) (p q r : Power) (xs ys zs : List ℕ) → Ran g torn os p q xs ys → Ran g torn qs q r ys zs → Ran g torn (os ++ qs) p r xs zs
+  pub ran-append : (os qs : List Op) (p q r : Progress) (xs ys zs : List ℕ) → Ran g torn os p q xs ys → Ran g torn qs q r ys zs → Ran g torn (os ++ qs) p r xs zs
   ran-append os qs p q r xs ys zs a b =
+      let between : q .left ≡ run g torn (machine g (p .left) xs) os .power = ap (λ (m : Machine). m .power) (a .is) in
+      let kinds : wholes (p .left) (kindsOf (os ++ qs)) ≡ wholes (p .left) (kindsOf os) ++ wholes (q .left) (kindsOf qs) =
+      ap (wholes (p .left)) (map-append kindOf os qs) ∙ run-wholes g torn (machine g (p .left) xs) os (kindsOf qs)
+      ∙ ap (λ (l : Power). wholes (p .left) (kindsOf os) ++ wholes l (kindsOf qs)) (sym between) in
       record {
-        is = b .is ∙ ap (λ (m : Machine). run g torn m qs) (a .is) ∙ sym (run-append g torn (machine g p xs) os qs);
+        is = b .is ∙ ap (λ (m : Machine). run g torn m qs) (a .is) ∙ sym (run-append g torn (machine g (p .left) xs) os qs);
         size = b .size ∙ a .size;
+        told =
+            b .told
+            ∙ ap (λ (c : Counts). countedAll c (wholes (q .left) (kindsOf qs))) (a .told)
+            ∙ sym (foldl-append (λ (c : Counts) (k : Kind). counted k c) (p .done) (wholes (p .left) (kindsOf os)) (wholes (q .left) (kindsOf qs)))
+            ∙ ap (countedAll (p .done)) (sym kinds);
       }
 
-  pub ran-one : (o : Op) (p q : Power) (xs ys : List ℕ) → Stepped g torn o p q xs ys → Ran g torn (o ∷ []) p q xs ys
-  ran-one o p q xs ys s = record { is = s .is ∙ sym (run-one g torn (machine g p xs) o); size = s .size }
+  pub ran-one : (o : Op) (p q : Progress) (xs ys : List ℕ) → Stepped g torn o p q xs ys → Ran g torn (o ∷ []) p q xs ys
+  ran-one o p q xs ys s = record { is = s .is ∙ sym (run-one g torn (machine g (p .left) xs) o); size = s .size; told = s .told }
+
+  -- from the start: the counts are those of the first n operations, and their sum is the smaller of the allowance and the list's length
+  pub ran-told : (n : ℕ) (os : List Op) (r : Progress) (xs ys : List ℕ) → n < 2 ^ 32 → Ran g torn os (atStart n) r xs ys → r .done ≡ countsOf (take n (kindsOf os))
+  ran-told n os r xs ys h x = x .told ∙ told-first n (kindsOf os) h
+
+  pub ran-total : (n : ℕ) (os : List Op) (r : Progress) (xs ys : List ℕ) → n < 2 ^ 32 → Ran g torn os (atStart n) r xs ys → total (r .done) ≡ min n (length os)
+  ran-total n os r xs ys h x = ap total (ran-told n os r xs ys h x) ∙ told-sum n (kindsOf os) ∙ ap (min n) (length-map os kindOf)
 
 -- ---- every page keeps its size
 abbrev pub Sized : Geometry → Page → Type 0

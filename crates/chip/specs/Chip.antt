@@ -1,13 +1,15 @@
 -- The chip as a list of pages: operations on it, done whole or torn, and a run of them under an allowance.
 use mathlib.Core.Path.{_≡_}
 use mathlib.Core.Bool.{Bool, cond, _&&_}
-use mathlib.Core.List.{List, [], _∷_, foldl}
+use mathlib.Core.List.{List, [], _∷_, foldl, map}
 use Prim.Native.Nat.{ℕ, _+_, _*_, _/_, _≤_}
 use lib.Dec.{ltb, leb, eqb}
 use lib.ListN.{length, take, getD, replicate}
 use Rattle.lists.specs.Lists.{At, modify, mapFrom, cut, repeat}
 use Rattle.chip.specs.declared.power.Power.{Power}
 use Rattle.chip.specs.declared.page.Mark.{Mark}
+use Rattle.chip.specs.declared.operation.Kind.{Kind}
+use Rattle.chip.specs.declared.operation.Kind.the-variants as K
 use Rattle.chip.specs.Geometry.{Geometry, pageSize}
 use Rattle.chip.specs.Power.{spend, effect}
 use Rattle.chip.specs.Page.{Page, blank, marked, programmed, tornPage}
@@ -21,6 +23,15 @@ pub data Op : Type 0 where
   program : (page : ℕ) (bytes : List ℕ) → Op
   mark : (page : ℕ) (which : Mark) → Op
   erase : (block : ℕ) → Op
+
+-- which kind it is
+abbrev pub kindOf : Op → Kind
+kindOf (program p bytes) = K.Program
+kindOf (mark p m) = K.Mark
+kindOf (erase b) = K.Erase
+
+abbrev pub kindsOf : List Op → List Kind
+kindsOf os = map kindOf os
 
 -- page i is in block b
 unfoldable pub inBlock : Geometry → ℕ → ℕ → Bool
@@ -91,23 +102,3 @@ Allowed g (erase b) ps = b * g .pages + g .pages ≤ length ps
 abbrev pub Legal : Geometry → List Page → List Op → Type 0
 Legal g ps [] = Unit {0}
 Legal g ps (o ∷ os) = Allowed g o ps × Legal g (whole g o ps) os
-
--- ---- what a function that does one operation ensures
--- on a part: the power left, and the part's bytes, w done whole, t torn, s as they were
-pub record Operated (p r : Power) (bytes w t s : List ℕ) : Type 0 where
-  pub power : r ≡ spend p
-  pub left : bytes ≡ effect p w t s
-
--- the machine with this power and this image
-abbrev pub machine : Geometry → Power → List ℕ → Machine
-machine g p image = record { power = p; pages = pagesOf g image }
-
--- on a whole image
-pub record Stepped (g : Geometry) (torn : List ℕ) (o : Op) (p r : Power) (before after : List ℕ) : Type 0 where
-  pub is : machine g r after ≡ step g torn (machine g p before) o
-  pub size : length after ≡ length before
-
--- a list of operations on a whole image
-pub record Ran (g : Geometry) (torn : List ℕ) (os : List Op) (p r : Power) (before after : List ℕ) : Type 0 where
-  pub is : machine g r after ≡ run g torn (machine g p before) os
-  pub size : length after ≡ length before

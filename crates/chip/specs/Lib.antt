@@ -1,5 +1,7 @@
 pub mod Geometry
 pub mod Power
+pub mod Counts
 pub mod Page
 pub mod Chip
+pub mod RunCode
 pub mod SetCode

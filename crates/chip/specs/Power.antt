@@ -1,6 +1,6 @@
 -- Power: the allowance of format, commit and mount as it is spent, operation by operation.
 use mathlib.Core.Bool.{Bool, true, false, _&&_, _||_}
-use Prim.Native.Nat.{ℕ, zero, suc, _-_}
+use Prim.Native.Nat.{ℕ, zero, suc}
 use lib.Dec.{leb, eqb}
 use Rattle.chip.specs.declared.power.Power.{Power}
 use Rattle.chip.specs.declared.power.Power.the-variants.{Left, Gone}
@@ -28,11 +28,6 @@ choose Nothing w t s = s
 -- what an operation leaves: w done whole, t torn, s as it was
 abbrev pub effect : {A : Type 0} → Power → A → A → A → A
 effect p w t s = choose (outcome p) w t s
-
--- the operations done whole of an allowance of n
-abbrev pub done : ℕ → Power → ℕ
-done n (Left k) = n - k
-done n Gone = n
 
 -- power ran out: refusal 10
 abbrev pub isGone : Power → Bool

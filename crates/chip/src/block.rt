@@ -3,13 +3,18 @@ ghost use mathlib.Core.Path.{_≡_};
 ghost use Prim.Native.Nat.{_<_};
 ghost use lib.ListN.{length, getD};
 ghost use Rattle.lists.specs.Lists.{count, first, repeat};
+ghost use Rattle.chip.specs.declared.operation.Kind.the-variants as K;
 ghost use Rattle.chip.specs.Geometry.{small};
 ghost use Rattle.chip.specs.Page.{blank, isFree, tornPage};
-ghost use Rattle.chip.specs.Chip.{Operated, pagesOf, tornBlock, wholeBlock};
+ghost use Rattle.chip.specs.Chip.{pagesOf, tornBlock, wholeBlock};
+ghost use Rattle.chip.specs.RunCode.{Operated};
 ghost use Rattle.chip.specs.SetCode.{setOf};
 use crate::geometry::DATA;
 use crate::geometry::PAGE;
 use crate::geometry::PAGES;
+use crate::operation;
+use crate::operation::Kind;
+use crate::operation::Operation;
 use crate::page;
 use crate::power;
 use crate::power::Outcome;
@@ -64,28 +69,28 @@ fn blank_page() -> [u8; 528]
 }
 
 // The block erased; where power runs out, untouched if torn byte 0 is 0 and else full of torn pages.
-pub fn erase(block: &mut [u8], torn: &[u8], power: Power) -> Power
+pub fn erase(block: &mut [u8], torn: &[u8], power: Power) -> Operation
     requires { ⌜ (length (now block) ≡ 16896) × (length (now torn) ≡ 528) ⌝ }
-    ensures { λ r. ⌜ Operated power r (now (block .exit)) (wholeBlock small)
+    ensures { λ r. ⌜ Operated K.Erase power r (now (block .exit)) (wholeBlock small)
         (tornBlock small (now (torn .entry)) (now (block .entry))) (now (block .entry)) ⌝ }
 {
-    let left = power::spent(power);
+    let told = operation::tell(Kind::Erase, power);
     match power::next(power) {
         Outcome::Whole => {
             let page = blank_page();
             fill(block, &page);
-            left
+            told
         }
         Outcome::Torn => {
             if torn[0] == 0 {
-                return left;
+                return told;
             }
             let mut page = blank_page();
             put_torn(&mut page, torn);
             fill(block, &page);
-            left
+            told
         }
-        Outcome::Nothing => left,
+        Outcome::Nothing => told,
     }
 }
 

@@ -5,5 +5,7 @@
 pub mod block;
 pub mod geometry;
 pub mod image;
+pub mod operation;
 pub mod page;
 pub mod power;
+pub mod progress;

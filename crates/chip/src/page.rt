@@ -3,10 +3,14 @@ ghost use mathlib.Core.Path.{_≡_};
 ghost use Prim.Native.Nat.{_+_, _≤_};
 ghost use lib.ListN.{length, take, drop, getD};
 ghost use Rattle.lists.specs.Lists.{part};
+ghost use Rattle.chip.specs.declared.operation.Kind.the-variants as K;
 ghost use Rattle.chip.specs.Geometry.{small};
 ghost use Rattle.chip.specs.Page.{isFree, isLive, marked, programmed, spareByte};
-ghost use Rattle.chip.specs.Chip.{Operated};
+ghost use Rattle.chip.specs.RunCode.{Operated};
 use crate::geometry::DATA;
+use crate::operation;
+use crate::operation::Kind;
+use crate::operation::Operation;
 use crate::power;
 use crate::power::Outcome;
 use crate::power::Power;
@@ -30,43 +34,43 @@ fn spare_byte(mark: Mark) -> usize
 }
 
 // One mark made 0, or torn byte 0 where power runs out.
-pub fn set_mark(page: &mut [u8], mark: Mark, torn: &[u8], power: Power) -> Power
+pub fn set_mark(page: &mut [u8], mark: Mark, torn: &[u8], power: Power) -> Operation
     requires { ⌜ (length (now page) ≡ 528) × (length (now torn) ≡ 528) ⌝ }
-    ensures { λ r. ⌜ Operated power r (now (page .exit)) (marked small mark 0 (now (page .entry)))
+    ensures { λ r. ⌜ Operated K.Mark power r (now (page .exit)) (marked small mark 0 (now (page .entry)))
         (marked small mark (getD (now (torn .entry)) 0 0) (now (page .entry))) (now (page .entry)) ⌝ }
 {
     let at = DATA + spare_byte(mark);
-    let left = power::spent(power);
+    let told = operation::tell(Kind::Mark, power);
     match power::next(power) {
         Outcome::Whole => {
             page[at] = 0;
-            left
+            told
         }
         Outcome::Torn => {
             page[at] = torn[0];
-            left
+            told
         }
-        Outcome::Nothing => left,
+        Outcome::Nothing => told,
     }
 }
 
 // The data area made `bytes`, or the first torn bytes where power runs out.
-pub fn program(page: &mut [u8], bytes: &[u8], torn: &[u8], power: Power) -> Power
+pub fn program(page: &mut [u8], bytes: &[u8], torn: &[u8], power: Power) -> Operation
     requires { ⌜ (length (now page) ≡ 528) × (length (now bytes) ≡ 512) × (length (now torn) ≡ 528) ⌝ }
-    ensures { λ r. ⌜ Operated power r (now (page .exit)) (programmed small (now (bytes .entry)) (now (page .entry)))
+    ensures { λ r. ⌜ Operated K.Program power r (now (page .exit)) (programmed small (now (bytes .entry)) (now (page .entry)))
         (programmed small (take 512 (now (torn .entry))) (now (page .entry))) (now (page .entry)) ⌝ }
 {
-    let left = power::spent(power);
+    let told = operation::tell(Kind::Program, power);
     match power::next(power) {
         Outcome::Whole => {
             bytes::copy(bytes, page);
-            left
+            told
         }
         Outcome::Torn => {
             bytes::copy(&torn[0..DATA], page);
-            left
+            told
         }
-        Outcome::Nothing => left,
+        Outcome::Nothing => told,
     }
 }
 

@@ -1,6 +1,6 @@
 // Power: how many operations it still allows.
 ghost use mathlib.Core.Path.{_≡_};
-ghost use Rattle.chip.specs.Power.{spend, outcome, done, isGone};
+ghost use Rattle.chip.specs.Power.{spend, outcome, isGone};
 
 // `Left(n)`: n operations are done whole and the next is torn. `Gone`: nothing is done any more.
 pub enum Power {
@@ -42,21 +42,6 @@ pub fn next(power: Power) -> Outcome
             Outcome::Whole
         }
         Power::Gone => Outcome::Nothing,
-    }
-}
-
-// The operations done whole, of an allowance of which `power` is left.
-pub fn done_of(allowance: u32, power: Power) -> u32
-    ensures { λ r. ⌜ r ≡ done allowance power ⌝ }
-{
-    match power {
-        Power::Left(n) => {
-            if n <= allowance {
-                return allowance - n;
-            }
-            0
-        }
-        Power::Gone => allowance,
     }
 }
 

@@ -12,10 +12,11 @@ use Rattle.lists.specs.Lists.{All, none, tab}
 use Rattle.lists.proofs.Flats.{length-tab, tab-same}
 use Rattle.lists.proofs.Alls.{All-take}
 use Rattle.lists.proofs.Tests.{clash}
-use Rattle.chip.specs.declared.power.Power.{Power}
+use Rattle.chip.specs.declared.progress.Progress.{Progress}
 use Rattle.chip.specs.Geometry.{small}
 use Rattle.chip.specs.Page.{Page}
-use Rattle.chip.specs.Chip.{Ran, pagesOf}
+use Rattle.chip.specs.Chip.{pagesOf}
+use Rattle.chip.specs.RunCode.{Ran}
 use Rattle.pages.specs.declared.unit.Unit as U
 use Rattle.pages.specs.declared.unit.Update.{Update}
 use Rattle.pages.specs.Steps.{Live}
@@ -38,7 +39,7 @@ use Rattle.plan.specs.MakeCode.{HoldsAssignment, LaysPlan, Makes, decisionOf, p
 use Rattle.plan.proofs.PlaceLaws.{first-erases-is, first-places-is}
 use Rattle.execution.specs.ExecutionCode.{CarriesOut, namedPlan}
 use Rattle.execution.specs.WriteCode.{Holds}
-use Rattle.commits.specs.Execute.{Executed, Executes, Plannable}
+use Rattle.commits.specs.ExecuteCode.{Executed, Executes, Plannable}
 use Rattle.commits.proofs.HeldLaws.{held-contents, held-unused, held-used}
 
 -- ---- places beyond the pages are of no account
@@ -204,16 +205,16 @@ module _ {limit B : ℕ} {lens slots : List ℕ} {count : ℕ} {bytes : List ℕ
         ap (λ (q : Plan). isEmpty (q .written)) (plan-is (follow (x .0)) (x .1)) ∙ read-some (x .0) (x .1) h
 
     -- carried out
-    pub executed : 0 < r .pages → (torn : List ℕ) → length torn ≡ 528 → 3 ≤ B → B ≤ 32 → {p left : Power} {before after u v : List ℕ}
-        → CarriesOut limit G r targets sizes units torn p left before after lens slots u v
-        → Executed limit G tb (planOf small limit B ps tb G us) torn p before after u v left
-    executed h torn size many most {p} {left} {before} {after} {u} {v} c =
+    pub executed : 0 < r .pages → (torn : List ℕ) → length torn ≡ 528 → 3 ≤ B → B ≤ 32 → {p reached : Progress} {before after u v : List ℕ}
+        → CarriesOut limit G r targets sizes units torn p reached before after lens slots u v
+        → Executed limit G tb (planOf small limit B ps tb G us) torn p before after u v reached
+    executed h torn size many most {p} {reached} {before} {after} {u} {v} c =
         let x = follows (decisionOf limit B lens slots count bytes G ps) refl h in
         let A = x .0 in
         let e : namedPlan limit (f A (x .1) h) targets r ≡ planOf small limit B ps tb G us = named-is A (x .1) h ∙ sym (plan-is (follow A) (x .1)) in
         let hold = named-holds A (x .1) h in
-        let ran : Ran small torn (opsOf small G (planOf small limit B ps tb G us)) p left before after =
-        subst (λ (q : Plan). Ran small torn (opsOf small G q) p left before after) e (c .ran (f A (x .1) h) hold) in
+        let ran : Ran small torn (opsOf small G (planOf small limit B ps tb G us)) p reached before after =
+        subst (λ (q : Plan). Ran small torn (opsOf small G q) p reached before after) e (c .ran (f A (x .1) h) hold) in
         let valid : All (ValidSheet small limit) (namedPlan limit (f A (x .1) h) targets r .written) =
         subst (λ (q : Plan). All (ValidSheet small limit) (q .written)) (sym e) (plan-holds torn size many) in
         let turned : Turned (events limit (newsOf small G (planOf small limit B ps tb G us))) lens slots u v =
@@ -227,28 +228,30 @@ module _ {limit B : ℕ} {lens slots : List ℕ} {count : ℕ} {bytes : List ℕ
 module _ {limit B : ℕ} {lens slots : List ℕ} {count : ℕ} {bytes : List ℕ} {G : ℕ} (before : List ℕ) {targets sizes units : List ℕ} {r : M.Plan}
     (m : Makes limit B lens slots count bytes G (pagesOf small before) targets sizes units r) where
   -- no page: nothing is done
-  pub executes-none : r .pages ≡ 0 → (torn : List ℕ) (p : Power) (l s u v : List ℕ)
-      → Executes limit B lens slots count bytes G torn p before before l s u v (record { stuck = true; left = p })
+  pub executes-none : r .pages ≡ 0 → (torn : List ℕ) (p : Progress) (l s u v : List ℕ)
+      → Executes limit B lens slots count bytes G torn p before before l s u v (record { stuck = true; reached = p })
   executes-none z torn p l s u v =
       record {
         size = refl;
         still = λ e. refl;
+        some = λ e. clash refl e;
         stuck = λ tb us pl. sym (empty-none m pl z);
         is = λ tb us pl a b e. clash refl e;
       }
 
   -- pages: the plan is carried out
-  pub executes-some : 0 < r .pages → (torn : List ℕ) → length torn ≡ 528 → 3 ≤ B → B ≤ 32 → {p left : Power} {after l s u v : List ℕ}
-      → CarriesOut limit G r targets sizes units torn p left before after l s u v
-      → Executes limit B lens slots count bytes G torn p before after l s u v (record { stuck = false; left = left })
-  executes-some h torn size many most {p} {left} {after} {l} {s} {u} {v} c =
+  pub executes-some : 0 < r .pages → (torn : List ℕ) → length torn ≡ 528 → 3 ≤ B → B ≤ 32 → {p reached : Progress} {after l s u v : List ℕ}
+      → CarriesOut limit G r targets sizes units torn p reached before after l s u v
+      → Executes limit B lens slots count bytes G torn p before after l s u v (record { stuck = false; reached = reached })
+  executes-some h torn size many most {p} {reached} {after} {l} {s} {u} {v} c =
       record {
         size = c .size;
         still = λ e. clash e refl;
+        some = λ e. (take (r .erases) (r .erased), c .some .0, c .some .1);
         stuck = λ tb us pl. sym (empty-some m pl h);
         is = λ tb us pl a b e. executed m pl h torn size many most
-            (subst (λ (x : List ℕ). CarriesOut limit G r targets sizes units torn p left before after x slots u v) a
-            (subst (λ (y : List ℕ). CarriesOut limit G r targets sizes units torn p left before after l y u v) b c));
+            (subst (λ (x : List ℕ). CarriesOut limit G r targets sizes units torn p reached before after x slots u v) a
+            (subst (λ (y : List ℕ). CarriesOut limit G r targets sizes units torn p reached before after l y u v) b c));
       }
 
   -- what the execution asks of the plan

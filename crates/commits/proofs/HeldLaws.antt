@@ -21,7 +21,7 @@ use Rattle.contents.specs.ContentsCode.{contentsIn}
 use Rattle.contents.proofs.OwnLaws.{after-is, own-is}
 use Rattle.plan.specs.SurveyCode.{unusedIn, usedAround}
 use Rattle.plan.proofs.SurveyLaws.{any-reverse, around-is, unused-is}
-use Rattle.commits.specs.Execute.{HoldsTable}
+use Rattle.commits.specs.ExecuteCode.{HoldsTable}
 
 module _ {g : Geometry} {limit : ℕ} {ps : List Page} {lens slots : List ℕ} {count : ℕ} {bytes : List ℕ} {tb : List Node} {G : ℕ} {us : List U.Unit}
     (h : HoldsTable g limit ps lens slots count bytes tb G us) where

@@ -1,1 +1,1 @@
-pub mod Execute
+pub mod ExecuteCode

@@ -2,17 +2,17 @@
 ghost use mathlib.Core.Path.{_≡_};
 ghost use Prim.Native.Nat.{_*_, _<_, _≤_};
 ghost use lib.ListN.{length};
-ghost use Rattle.commits.specs.Execute.{Executes};
-use chip::power::Power;
+ghost use Rattle.commits.specs.ExecuteCode.{Executes};
+use chip::progress::Progress;
 use execution::execute as carry;
 use execution::execute::Commit;
 use plan::make;
 use plan::make::Basis;
 
-// Whether the commit was stuck, for want of room or of a page to write, and the power that it left.
+// Whether the commit was stuck, for want of room or of a page to write, and how far it came.
 pub struct Ended {
     pub stuck: bool,
-    pub left: Power,
+    pub reached: Progress,
 }
 
 // A commit of the units of the buffer, numbered one above the last: the image, and the node table that it leaves.
@@ -23,13 +23,13 @@ pub fn execute(
     buffer: &[u8; 11520],
     basis: Basis,
     torn: &[u8],
-    power: Power,
+    progress: Progress,
     new_lens: &mut [u32; 256],
     new_slots: &mut [u32; 1024],
 ) -> Ended
     requires { ⌜ (length (now image) ≡ basis .blocks * 16896) × (3 ≤ basis .blocks) × (basis .blocks ≤ 32) × (basis .count ≤ 960) × (length (now torn) ≡ 528)
         × (basis .commit < 4294967295) ⌝ }
-    ensures { λ r. ⌜ Executes (8 * basis .blocks) (basis .blocks) (now (lens .entry)) (now (slots .entry)) (basis .count) (now (buffer .entry)) (basis .commit) (now (torn .entry)) power
+    ensures { λ r. ⌜ Executes (8 * basis .blocks) (basis .blocks) (now (lens .entry)) (now (slots .entry)) (basis .count) (now (buffer .entry)) (basis .commit) (now (torn .entry)) progress
         (now (image .entry)) (now (image .exit)) (now («new_lens» .entry)) (now («new_slots» .entry)) (now («new_lens» .exit)) (now («new_slots» .exit)) r ⌝ }
 {
     let mut targets = [0; 256];
@@ -48,14 +48,14 @@ pub fn execute(
     if plan.pages == 0 {
         return Ended {
             stuck: true,
-            left: power,
+            reached: progress,
         };
     }
     let commit = Commit {
         blocks: basis.blocks,
         number: basis.commit,
     };
-    let left = carry::execute(
+    let reached = carry::execute(
         image,
         plan,
         commit,
@@ -63,9 +63,12 @@ pub fn execute(
         &sizes,
         &units,
         torn,
-        power,
+        progress,
         new_lens,
         new_slots,
     );
-    Ended { stuck: false, left }
+    Ended {
+        stuck: false,
+        reached,
+    }
 }

@@ -8,9 +8,10 @@ use lib.ListN.{length, take, getD}
 use lib.Seq.{take-suc}
 use Rattle.lists.specs.Lists.{All, more}
 use Rattle.lists.proofs.Flats.{map-append}
-use Rattle.chip.specs.declared.power.Power.{Power}
+use Rattle.chip.specs.declared.progress.Progress.{Progress}
 use Rattle.chip.specs.Geometry.{Geometry}
-use Rattle.chip.specs.Chip.{Ran, Stepped, erase}
+use Rattle.chip.specs.Chip.{erase}
+use Rattle.chip.specs.RunCode.{Ran, Stepped}
 use Rattle.chip.proofs.Runs.{ran-append, ran-one}
 
 -- what holds of the first n holds of each of them
@@ -21,7 +22,7 @@ first-at (suc n) zero (x ∷ xs) (more h hs) l k = h
 first-at (suc n) (suc i) (x ∷ xs) (more h hs) l k = first-at n i xs hs (omega arith) (omega arith)
 
 -- one block more
-pub erased-more : (g : Geometry) (torn bs : List ℕ) (i : ℕ) (p q r : Power) (xs ys zs : List ℕ) → i < length bs
+pub erased-more : (g : Geometry) (torn bs : List ℕ) (i : ℕ) (p q r : Progress) (xs ys zs : List ℕ) → i < length bs
     → Ran g torn (map erase (take i bs)) p q xs ys → Stepped g torn (erase (getD bs i 0)) q r ys zs → Ran g torn (map erase (take (i + 1) bs)) p r xs zs
 erased-more g torn bs i p q r xs ys zs h a s =
     let t : map erase (take (i + 1) bs) ≡ map erase (take i bs) ++ (erase (getD bs i 0) ∷ []) =

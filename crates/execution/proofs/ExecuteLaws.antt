@@ -9,9 +9,10 @@ use lib.Seq.{drop-cons, length-take-le}
 use Rattle.lists.specs.Lists.{All, flat, tab}
 use Rattle.lists.proofs.Alls.{All-head, All-map, All-tail}
 use Rattle.lists.proofs.Flats.{length-tab}
-use Rattle.chip.specs.declared.power.Power.{Power}
+use Rattle.chip.specs.declared.progress.Progress.{Progress}
 use Rattle.chip.specs.Geometry.{Geometry, small}
-use Rattle.chip.specs.Chip.{Ran, erase}
+use Rattle.chip.specs.Chip.{erase}
+use Rattle.chip.specs.RunCode.{Ran}
 use Rattle.chip.proofs.Runs.{ran-append}
 use Rattle.pages.specs.declared.unit.Update.{Update}
 use Rattle.pages.specs.Units.{Valid}
@@ -74,7 +75,7 @@ module _ (limit : ℕ) (f : ℕ → List Update) (targets places : List ℕ) (n 
       subst (λ (j : ℕ). All (Valid limit) (unitsOfPacks (packs j))) e (sheets-all small limit packs (take n places) n 0 (omega (arith, many)) h p l)
 
 -- ---- erases, then pages
-module _ (limit G : ℕ) (plan : Plan) (targets sizes units torn : List ℕ) (p p' p'' : Power) (xs ys zs l s u v : List ℕ) (few : plan .pages ≤ length (plan .places)) where
+module _ (limit G : ℕ) (plan : Plan) (targets sizes units torn : List ℕ) (p p' p'' : Progress) (xs ys zs l s u v : List ℕ) (few : plan .pages ≤ length (plan .places)) where
   abbrev its : ℕ → Pages
   its c = record { limit = limit; commit = c; total = plan .pages }
 
@@ -96,6 +97,10 @@ module _ (limit G : ℕ) (plan : Plan) (targets sizes units torn : List ℕ) (p 
         turned = λ f h valid.
             subst (λ (ns : List Live). Turned (events limit ns) l s u v) (news-is f)
             (w .turned f h (valid-in limit f targets (plan .places) (plan .pages) few valid));
+        some = (
+          w .some .0,
+          ran-append small torn (map erase (take (plan .erases) (plan .erased))) (flat writesOf (w .some .0)) p p' p'' xs ys zs e (w .some .1),
+        );
       }
 
   pub executes : Ran small torn (map erase (take (plan .erases) (plan .erased))) p p' xs ys

@@ -1,16 +1,17 @@
 -- The pages of a commit written and noted, one after the other. Assumes nothing.
 use mathlib.Core.Path.{_≡_, refl, sym, ap, _∙_, subst}
 use mathlib.Core.Bool.{Bool, true}
-use mathlib.Core.List.{List, [], _++_, foldl, foldl-append, append-nil}
+use mathlib.Core.List.{List, [], _∷_, _++_, foldl, foldl-append, append-nil}
 use Prim.Native.Nat.{ℕ, _+_, _*_, _%_, _^_, _<_, _≤_}
 use native.Mathlib.Numerals.{add-one}
 use native.Mathlib.Omega.{arith}
 use lib.ListN.{getD, length}
 use Rattle.lists.specs.Lists.{All, all, flat, tab}
 use Rattle.lists.proofs.Flats.{flat-append, tab-last}
-use Rattle.chip.specs.declared.power.Power.{Power}
+use Rattle.chip.specs.declared.progress.Progress.{Progress}
 use Rattle.chip.specs.Geometry.{small}
-use Rattle.chip.specs.Chip.{Op, Ran}
+use Rattle.chip.specs.Chip.{Op}
+use Rattle.chip.specs.RunCode.{Ran}
 use Rattle.chip.proofs.Runs.{ran-append, ran-none}
 use Rattle.pages.specs.declared.header.Head.{Head}
 use Rattle.pages.specs.declared.unit.Unit as U
@@ -57,7 +58,7 @@ module _ (limit p c i n : ℕ) (us : List U.Unit) (hc : c < 2 ^ 32) where
 
 -- ---- pages written
 -- page i
-module _ (pages : Pages) (targets sizes units torn places : List ℕ) (i : ℕ) (hc : pages .commit < 2 ^ 32) (on : i < pages .total) (p p' : Power)
+module _ (pages : Pages) (targets sizes units torn places : List ℕ) (i : ℕ) (hc : pages .commit < 2 ^ 32) (on : i < pages .total) (p p' : Progress)
     (xs ys l s u v page : List ℕ) (b : Built (pages .limit) targets sizes units (pages .commit) i (pages .total) page) where
   abbrev live : (ℕ → List Update) → Live
   live f = liveIn pages f targets places i
@@ -75,12 +76,13 @@ module _ (pages : Pages) (targets sizes units torn places : List ℕ) (i : ℕ) 
             subst (λ (es : List Event). Turned es l s u v) (sym (append-nil (eventsOf (pages .limit) (live f))))
             (page-turned (pages .limit) (getD places i 0) (pages .commit) i (pages .total) (pageUnits f (targetIn targets) (pages .limit) i) hc l s u v (h .fits i on) (valid i on)
             (subst (λ (x : List ℕ). NotesPage (pages .limit) (getD places i 0) x l s u v) (page-is f h) t));
+        some = (record { place = getD places i 0; bytes = page } ∷ [], w);
       }
 
 module _ {pages : Pages} {targets sizes units places torn : List ℕ} where
   -- none
-  pub writes-none : (p : Power) (xs l s : List ℕ) → Writes pages targets sizes units places torn 0 0 p p xs xs l s l s
-  writes-none p xs l s = record { size = refl; ran = λ f h. ran-none small torn p xs; turned = λ f h v. turned-none l s }
+  pub writes-none : (p : Progress) (xs l s : List ℕ) → Writes pages targets sizes units places torn 0 0 p p xs xs l s l s
+  writes-none p xs l s = record { size = refl; ran = λ f h. ran-none small torn p xs; turned = λ f h v. turned-none l s; some = ([], ran-none small torn p xs) }
 
 -- the pages so far, and one more
 module _ (pages : Pages) (targets sizes units places torn : List ℕ) (i : ℕ) where
@@ -96,7 +98,7 @@ module _ (pages : Pages) (targets sizes units places torn : List ℕ) (i : ℕ) 
       ap (λ (m : ℕ). tab 0 m (liveIn pages f targets places)) (add-one i) ∙ tab-last (liveIn pages f targets places) 0 i
       ∙ ap (λ (j : ℕ). done f ++ tab j 1 (liveIn pages f targets places)) e
 
-  pub writes-more : {p p' p'' : Power} {xs ys zs l s u v l' s' : List ℕ} → Writes pages targets sizes units places torn 0 i p p' xs ys l s u v
+  pub writes-more : {p p' p'' : Progress} {xs ys zs l s u v l' s' : List ℕ} → Writes pages targets sizes units places torn 0 i p p' xs ys l s u v
       → Writes pages targets sizes units places torn i 1 p' p'' ys zs u v l' s' → Writes pages targets sizes units places torn 0 (i + 1) p p'' xs zs l s l' s'
   writes-more {p} {p'} {p''} {xs} {ys} {zs} {l} {s} {u} {v} {l'} {s'} a b =
       record {
@@ -108,6 +110,11 @@ module _ (pages : Pages) (targets sizes units places torn : List ℕ) (i : ℕ) 
             subst (λ (es : List Event). Turned es l s l' s')
             (sym (ap (events (pages .limit)) (done-more f) ∙ flat-append (eventsOf (pages .limit)) (done f) (next f)))
             (turned-append (events (pages .limit) (done f)) (events (pages .limit) (next f)) l s u v l' s' (a .turned f h valid) (b .turned f h valid));
+        some = (
+          a .some .0 ++ b .some .0,
+          subst (λ (os : List Op). Ran small torn os p p'' xs zs) (sym (flat-append writesOf (a .some .0) (b .some .0)))
+              (ran-append small torn (flat writesOf (a .some .0)) (flat writesOf (b .some .0)) p p' p'' xs ys zs (a .some .1) (b .some .1)),
+        );
       }
 
 -- ---- on the image

@@ -5,9 +5,9 @@ use mathlib.Core.List.{List}
 use Prim.Native.Nat.{ℕ, _<_, _≤_}
 use lib.ListN.{getD, length}
 use Rattle.lists.specs.Lists.{All, all, flat, tab}
-use Rattle.chip.specs.declared.power.Power.{Power}
+use Rattle.chip.specs.declared.progress.Progress.{Progress}
 use Rattle.chip.specs.Geometry.{small}
-use Rattle.chip.specs.Chip.{Ran}
+use Rattle.chip.specs.RunCode.{Ran}
 use Rattle.pages.specs.declared.unit.Update.{Update}
 use Rattle.pages.specs.Units.{Valid, half}
 use Rattle.pages.specs.Data.{dataOf}
@@ -39,10 +39,11 @@ NotesPage limit place page l s u v =
     half page 6 ≤ 42 → all isSound (eventsOf limit (record { place = place; bytes = page })) ≡ true
     → Turned (eventsOf limit (record { place = place; bytes = page })) l s u v
 
--- pages k, k + 1, .., m of them, written and noted, for every f that the arrays hold
-pub record Writes (pages : Pages) (targets sizes units places torn : List ℕ) (k m : ℕ) (p left : Power) (before after l s u v : List ℕ) : Type 0 where
+-- pages k, k + 1, .., m of them, written and noted, for every f that the arrays hold; whatever they hold, some pages were written
+pub record Writes (pages : Pages) (targets sizes units places torn : List ℕ) (k m : ℕ) (p reached : Progress) (before after l s u v : List ℕ) : Type 0 where
   pub size : length after ≡ length before
   pub ran : (f : ℕ → List Update) → Holds (pages .limit) f targets sizes units (pages .total)
-      → Ran small torn (flat writesOf (tab k m (liveIn pages f targets places))) p left before after
+      → Ran small torn (flat writesOf (tab k m (liveIn pages f targets places))) p reached before after
   pub turned : (f : ℕ → List Update) → Holds (pages .limit) f targets sizes units (pages .total) → ValidPages (pages .limit) f targets (pages .total)
       → Turned (events (pages .limit) (tab k m (liveIn pages f targets places))) l s u v
+  pub some : (news : List Live) × Ran small torn (flat writesOf news) p reached before after

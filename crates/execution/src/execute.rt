@@ -7,7 +7,7 @@ ghost use Rattle.execution.specs.ExecutionCode.{CarriesOut};
 use crate::erase;
 use crate::write;
 use crate::write::Pages;
-use chip::power::Power;
+use chip::progress::Progress;
 use plan::make::Plan;
 
 // The blocks of the chip, and the number of the last commit.
@@ -25,18 +25,25 @@ pub fn execute(
     sizes: &[u32; 256],
     units: &[u8; 52224],
     torn: &[u8],
-    power: Power,
+    progress: Progress,
     new_lens: &mut [u32; 256],
     new_slots: &mut [u32; 1024],
-) -> Power
+) -> Progress
     requires { ⌜ (length (now image) ≡ commit .blocks * 16896) × (commit .blocks ≤ 32) × (commit .number < 4294967295) × (plan .pages ≤ 128)
         × (plan .erases ≤ 32) × (length (now torn) ≡ 528) × All (_< commit .blocks * 32) (take (plan .pages) (plan .places))
         × All (_< commit .blocks) (take (plan .erases) (plan .erased)) ⌝ }
     ensures { λ r. ⌜ CarriesOut (8 * commit .blocks) (commit .number) plan (now (targets .entry)) (now (sizes .entry)) (now (units .entry)) (now (torn .entry))
-        power r (now (image .entry)) (now (image .exit))
+        progress r (now (image .entry)) (now (image .exit))
         (now («new_lens» .entry)) (now («new_slots» .entry)) (now («new_lens» .exit)) (now («new_slots» .exit)) ⌝ }
 {
-    let cleared = erase::erase_blocks(image, commit.blocks, &plan.erased, plan.erases, torn, power);
+    let cleared = erase::erase_blocks(
+        image,
+        commit.blocks,
+        &plan.erased,
+        plan.erases,
+        torn,
+        progress,
+    );
     let pages = Pages {
         limit: (8 * commit.blocks) as u32,
         commit: commit.number + 1,

@@ -4,11 +4,11 @@ ghost use Prim.Native.Nat.{_+_, _*_, _%_, _<_, _≤_};
 ghost use lib.ListN.{length, take};
 ghost use Rattle.lists.specs.Lists.{All};
 ghost use Rattle.chip.specs.Geometry.{small};
-ghost use Rattle.chip.specs.Chip.{Ran};
+ghost use Rattle.chip.specs.RunCode.{Ran};
 ghost use Rattle.pages.specs.Write.{writes};
 ghost use Rattle.execution.specs.WriteCode.{NotesPage, Writes};
 use crate::gather;
-use chip::power::Power;
+use chip::progress::Progress;
 use pages::unit;
 use pages::write;
 use views::table;
@@ -37,11 +37,17 @@ fn note(lens: &mut [u32; 256], slots: &mut [u32; 1024], page: &[u8; 512], place:
 }
 
 // A page written at its place.
-fn put_page(image: &mut [u8], page: &[u8; 512], place: u32, torn: &[u8], power: Power) -> Power
+fn put_page(
+    image: &mut [u8],
+    page: &[u8; 512],
+    place: u32,
+    torn: &[u8],
+    progress: Progress,
+) -> Progress
     requires { ⌜ (place * 528 + 528 ≤ length (now image)) × (length (now image) % 528 ≡ 0) × (length (now torn) ≡ 528) ⌝ }
-    ensures { λ r. ⌜ Ran small (now (torn .entry)) (writes place (now (page .entry))) power r (now (image .entry)) (now (image .exit)) ⌝ }
+    ensures { λ r. ⌜ Ran small (now (torn .entry)) (writes place (now (page .entry))) progress r (now (image .entry)) (now (image .exit)) ⌝ }
 {
-    write::write_at(image, place as usize, page, torn, power)
+    write::write_at(image, place as usize, page, torn, progress)
 }
 
 // One page built, written at its place and noted.
@@ -53,14 +59,14 @@ fn write_page(
     places: &[u32],
     part: Part,
     torn: &[u8],
-    power: Power,
+    progress: Progress,
     new_lens: &mut [u32; 256],
     new_slots: &mut [u32; 1024],
-) -> Power
+) -> Progress
     requires { ⌜ (length (now image) ≡ part .pages .limit * 2112) × (part .pages .limit ≤ 256) × (length (now places) ≡ 160) × (part .pages .total ≤ 128)
         × (part .index < part .pages .total) × (part .pages .commit < 4294967296) × (length (now torn) ≡ 528) × All (_< part .pages .limit * 4) (take (part .pages .total) (now places)) ⌝ }
     ensures { λ r. ⌜ Writes (part .pages) (now (targets .entry)) (now (sizes .entry)) (now (units .entry)) (now (places .entry)) (now (torn .entry)) (part .index) 1
-        power r (now (image .entry)) (now (image .exit))
+        progress r (now (image .entry)) (now (image .exit))
         (now («new_lens» .entry)) (now («new_slots» .entry)) (now («new_lens» .exit)) (now («new_slots» .exit)) ⌝ }
 {
     let pages = part.pages;
@@ -77,9 +83,9 @@ fn write_page(
         pages.total as u32,
         &mut page,
     );
-    let left = put_page(image, &page, place, torn, power);
+    let reached = put_page(image, &page, place, torn, progress);
     note(new_lens, new_slots, &page, place, pages.limit);
-    left
+    reached
 }
 
 // The pages of a commit in order of their index, with their places as a slice.
@@ -91,22 +97,22 @@ fn write_listed(
     places: &[u32],
     pages: Pages,
     torn: &[u8],
-    power: Power,
+    progress: Progress,
     new_lens: &mut [u32; 256],
     new_slots: &mut [u32; 1024],
-) -> Power
+) -> Progress
     requires { ⌜ (length (now image) ≡ pages .limit * 2112) × (pages .limit ≤ 256) × (length (now places) ≡ 160) × (pages .total ≤ 128)
         × (pages .commit < 4294967296) × (length (now torn) ≡ 528) × All (_< pages .limit * 4) (take (pages .total) (now places)) ⌝ }
     ensures { λ r. ⌜ Writes pages (now (targets .entry)) (now (sizes .entry)) (now (units .entry)) (now (places .entry)) (now (torn .entry)) 0 (pages .total)
-        power r (now (image .entry)) (now (image .exit))
+        progress r (now (image .entry)) (now (image .exit))
         (now («new_lens» .entry)) (now («new_slots» .entry)) (now («new_lens» .exit)) (now («new_slots» .exit)) ⌝ }
 {
     let total = pages.total;
-    let mut left = power;
+    let mut reached = progress;
     let mut i = 0;
     while i < total {
         let part = Part { pages, index: i };
-        left = write_page(
+        reached = write_page(
             image,
             targets,
             sizes,
@@ -114,13 +120,13 @@ fn write_listed(
             places,
             part,
             torn,
-            left,
+            reached,
             new_lens,
             new_slots,
         );
         i += 1;
     }
-    left
+    reached
 }
 
 // The pages of a commit in order of their index, as far as the power goes.
@@ -132,14 +138,14 @@ pub fn write_pages(
     places: &[u32; 160],
     pages: Pages,
     torn: &[u8],
-    power: Power,
+    progress: Progress,
     new_lens: &mut [u32; 256],
     new_slots: &mut [u32; 1024],
-) -> Power
+) -> Progress
     requires { ⌜ (length (now image) ≡ pages .limit * 2112) × (pages .limit ≤ 256) × (pages .total ≤ 128)
         × (pages .commit < 4294967296) × (length (now torn) ≡ 528) × All (_< pages .limit * 4) (take (pages .total) (now places)) ⌝ }
     ensures { λ r. ⌜ (length (now (places .entry)) ≡ 160) × Writes pages (now (targets .entry)) (now (sizes .entry)) (now (units .entry)) (now (places .entry)) (now (torn .entry)) 0 (pages .total)
-        power r (now (image .entry)) (now (image .exit))
+        progress r (now (image .entry)) (now (image .exit))
         (now («new_lens» .entry)) (now («new_slots» .entry)) (now («new_lens» .exit)) (now («new_slots» .exit)) ⌝ }
 {
     write_listed(
@@ -150,7 +156,7 @@ pub fn write_pages(
         places,
         pages,
         torn,
-        power,
+        progress,
         new_lens,
         new_slots,
     )

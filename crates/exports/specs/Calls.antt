@@ -43,11 +43,11 @@ pub record DeletesTold (key : ℕ) (words buffer lens slots image : List ℕ) (r
   pub saved : words' ≡ wordsOf (result .numbers)
   pub exact : numbersIn words' ≡ result .numbers
 
--- what format, mount and commit tell of a result: the refusal r, the operations, and the words
+-- what format, mount and commit tell of a result: the refusal r, the operations by kind, and the words
 pub record Tells (result : WroteParts) (r : ℕ) (ops words' : List ℕ) : Type 0 where
   pub refusal : r ≡ refusalNumber (result .answer)
   pub saved : words' ≡ wordsOf (result .numbers)
-  pub done : ops ≡ result .ops ∷ []
+  pub done : ops ≡ result .ops .programs ∷ result .ops .marks ∷ result .ops .erases ∷ []
 
 -- format, whatever the buffer: the node table and the image that it leaves
 pub record FormatsTold (allowance : ℕ) (torn words lens slots image : List ℕ) (r : ℕ) (ops words' lens' slots' image' : List ℕ) : Type 0 where

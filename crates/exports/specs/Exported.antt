@@ -4,7 +4,9 @@ use mathlib.Core.Bool.{false}
 use mathlib.Core.List.{List, [], _∷_}
 use Prim.Native.Nat.{ℕ}
 use lib.ListN.{getD}
+use Rattle.chip.specs.declared.progress.Counts.{Counts}
 use Rattle.chip.specs.Geometry.{small}
+use Rattle.chip.specs.Counts.{nothing}
 use Rattle.promise.specs.Plain as P
 use Rattle.promise.specs.Plain.{Plain}
 use Rattle.promise.specs.Calls.{means}
@@ -55,13 +57,13 @@ module _ (torn : List ℕ) (m : Memory) (i : List ℕ) (r : ℕ) (told : List �
   answerBy (Delete k) h = h .0 .result .answer
   answerBy (LookUp k) h = answerIn (h .0 .look)
 
-  abbrev pub opsBy : (c : Call) → Ensures c → ℕ
+  abbrev pub opsBy : (c : Call) → Ensures c → Counts
   opsBy (Format n) h = h .0 .result .ops
   opsBy (Mount n) h = h .0 .result .ops
   opsBy (Commit n) h = h .0 .result .ops
-  opsBy (Insert k v) h = 0
-  opsBy (Delete k) h = 0
-  opsBy (LookUp k) h = 0
+  opsBy (Insert k v) h = nothing
+  opsBy (Delete k) h = nothing
+  opsBy (LookUp k) h = nothing
 
 -- one call as it happened: the memory given and the image lent to it, what it left of that, the refusal, the numbers told, the memory then; and the one
 -- image after the call

@@ -7,18 +7,19 @@ use store::format;
 use store::mount;
 use store::state::WroteParts;
 
-// What a call gave back: its numbers and its operations written to the caller's words, and its refusal, 0 for none.
-fn give(wrote: WroteParts, numbers: &mut [u32; 6], ops: &mut [u32; 1]) -> u32
+// What a call gave back: its numbers and its counts of operations written to the caller's words, and its refusal, 0 for none.
+fn give(wrote: WroteParts, numbers: &mut [u32; 6], ops: &mut [u32; 3]) -> u32
     ensures { λ r. ⌜ Tells wrote r (now (ops .exit)) (now (numbers .exit)) ⌝ }
 {
     let a = wrote.answer;
     let after = wrote.numbers;
     numbers::save(after, numbers);
-    *ops = [wrote.ops];
+    let done = wrote.ops;
+    *ops = [done.programs, done.marks, done.erases];
     answer::number(a)
 }
 
-// Format: the refusal, and in `ops` the operations done.
+// Format: the refusal, and in `ops` the operations done: data programs, marks set, erases.
 #[no_mangle]
 pub extern "C" fn vehinoke_format(
     numbers: &mut [u32; 6],
@@ -27,7 +28,7 @@ pub extern "C" fn vehinoke_format(
     image: &mut [u8],
     torn: &[u8],
     allowance: u32,
-    ops: &mut [u32; 1],
+    ops: &mut [u32; 3],
 ) -> u32
     ensures { λ r. ⌜ FormatsTold allowance (now (torn .entry)) (now (numbers .entry)) (now (lens .entry)) (now (slots .entry)) (now (image .entry))
         r (now (ops .exit)) (now (numbers .exit)) (now (lens .exit)) (now (slots .exit)) (now (image .exit)) ⌝ }
@@ -37,7 +38,7 @@ pub extern "C" fn vehinoke_format(
     give(w, numbers, ops)
 }
 
-// Mount: the refusal, and in `ops` the operations done.
+// Mount: the refusal, and in `ops` the operations done: data programs, marks set, erases.
 #[no_mangle]
 pub extern "C" fn vehinoke_mount(
     numbers: &mut [u32; 6],
@@ -46,7 +47,7 @@ pub extern "C" fn vehinoke_mount(
     image: &mut [u8],
     torn: &[u8],
     allowance: u32,
-    ops: &mut [u32; 1],
+    ops: &mut [u32; 3],
 ) -> u32
     ensures { λ r. ⌜ MountsTold allowance (now (torn .entry)) (now (numbers .entry)) (now (lens .entry)) (now (slots .entry)) (now (image .entry))
         r (now (ops .exit)) (now (numbers .exit)) (now (lens .exit)) (now (slots .exit)) (now (image .exit)) ⌝ }
@@ -56,7 +57,7 @@ pub extern "C" fn vehinoke_mount(
     give(w, numbers, ops)
 }
 
-// Commit: the refusal, and in `ops` the operations done.
+// Commit: the refusal, and in `ops` the operations done: data programs, marks set, erases.
 #[no_mangle]
 pub extern "C" fn vehinoke_commit(
     numbers: &mut [u32; 6],
@@ -66,7 +67,7 @@ pub extern "C" fn vehinoke_commit(
     image: &mut [u8],
     torn: &[u8],
     allowance: u32,
-    ops: &mut [u32; 1],
+    ops: &mut [u32; 3],
 ) -> u32
     ensures { λ r. ⌜ CommitsTold allowance (now (torn .entry)) (now (numbers .entry)) (now (buffer .entry)) (now (lens .entry)) (now (slots .entry)) (now (image .entry))
         r (now (ops .exit)) (now (numbers .exit)) (now (lens .exit)) (now (slots .exit)) (now (image .exit)) ⌝ }

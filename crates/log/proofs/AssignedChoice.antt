@@ -1,13 +1,13 @@
 -- What a commit asks of chip, image and buffer. A commit of any pages of groups, each node in one group at most, into the head and unused blocks:
 -- all that the cut law asks, room and bounds. Assumes nothing.
-use mathlib.Core.Path.{_≡_, refl, sym, ap, _∙_, subst}
+use mathlib.Core.Path.{_≡_, sym, ap, _∙_, subst}
 use mathlib.Core.Logic.{_⊎_, inl, inr}
 use mathlib.Core.Bool.{true, false, cond, _&&_, not}
 use mathlib.Core.List.{List, [], _∷_, map, foldl}
 use Prim.Native.Nat.{ℕ, suc, _+_, _*_, _^_, _≤_, _<_}
 use native.Mathlib.Nat.{mul-le-mul-right}
 use native.Mathlib.Omega.{arith}
-use lib.ListN.{getD, length, take, length-append, length-map}
+use lib.ListN.{getD, length, take}
 use lib.Seq.{length-take-le}
 use Rattle.lists.specs.Lists.{All, At, all, any, flat, tab, Diff, more, none}
 use Rattle.lists.proofs.Alls.{All-filter, All-map, All-zip, All-append, All-head, All-tail}
@@ -15,7 +15,7 @@ use Rattle.lists.proofs.Sets.{All-pull, All-push, All-unflat, diff-take}
 use Rattle.lists.proofs.Sorts.{All-sort, sort-All}
 use Rattle.chip.specs.Geometry.{Geometry, pageSize}
 use Rattle.chip.specs.Page.{Page, blank}
-use Rattle.chip.specs.Chip.{Legal, inBlock, run, erase}
+use Rattle.chip.specs.Chip.{Legal, inBlock, run}
 use Rattle.chip.proofs.Runs.{with-power, Sized}
 use Rattle.chip.specs.Power.{takesEffect}
 use Rattle.pages.specs.declared.unit.Unit as U
@@ -31,10 +31,11 @@ use Rattle.views.proofs.Groups.{Short, by-groups, list-anew, present-groups, up
 use Rattle.views.proofs.Meanings.{Kept, Opened, inOrder, kept-well, nodeIn, opened}
 use Rattle.views.proofs.Rooms.{Outside, Unlisted, still-unlisted}
 use Rattle.views.proofs.ViewLaws.{Apart}
-use Rattle.log.specs.Commit.{Pack, Sheet, cleared, commitOps, groupsOf, newPages, unitsOfPacks, ValidSheet, groupAt, pagesFrom, writesOf}
+use Rattle.log.specs.Commit.{Pack, Sheet, cleared, commitOps, groupsOf, newPages, unitsOfPacks, ValidSheet, groupAt, pagesFrom}
 use Rattle.log.specs.Plan.{erases, freeAt, isUsed, pagesIn, places, sheets}
 use Rattle.log.proofs.CommitBuilt.{NextCommit, events-new, length-new, planned, shows}
 use Rattle.log.proofs.CommitLaws.{cut-law, finished-kept}
+use Rattle.log.proofs.KindLaws.{length-ops}
 use Rattle.log.proofs.PlanBlocks.{Room, room-moved, is-unused, unused-outside, unused-unlisted}
 use Rattle.log.proofs.PlanLegal.{commit-legal}
 use Rattle.log.proofs.PlanLive.{run-lives}
@@ -98,14 +99,6 @@ groups-at : (P : ℕ → Type 0) (ws : List ℕ) (pp : List (List Pack)) → All
 groups-at P [] pp h = none
 groups-at P (w ∷ ws) [] h = none
 groups-at P (w ∷ ws) (p ∷ pp) h = All-append (groups-one P w p (All-head h)) (groups-at P ws pp (All-tail h))
-
--- three operations for each page
-pub length-writes : (xs : List Live) → length (flat writesOf xs) ≡ 3 * length xs
-length-writes [] = refl
-length-writes (x ∷ xs) = omega (arith, length-writes xs)
-
-length-ops : (es : List ℕ) (xs : List Live) → length (commitOps es xs) ≡ length es + 3 * length xs
-length-ops es xs = length-append (map erase es) (flat writesOf xs) ∙ omega (arith, length-map es erase, length-writes xs)
 
 -- ---- what is chosen: updates for each node, pages of them, the head, and unused blocks with places enough for the pages and one more
 pub record Choice (g : Geometry) (limit B : ℕ) (ps : List Page) (tb : List Node) (G : ℕ) (us : List U.Unit) : Type 0 where
@@ -271,12 +264,12 @@ module _ {g : Geometry} {limit B : ℕ} {torn : List ℕ} (ch : Chip g limit B t
 
   -- an operation for each erase, three for each page
   pub cost-is : length (commitOps es news) ≡ length es + 3 * length ts
-  cost-is = omega (arith, length-ops es news, length-new g limit G (rd .number) (ch .fits) (length ts) 0 ts)
+  cost-is = omega (arith, length-ops es news, length-new g (suc G) (length ts) 0 ts)
 
   -- so few operations, and few pages
   pub ops-few : length (commitOps es news) ≤ length es + 12 * B
   ops-few =
-      omega (arith, length-ops es news, length-new g limit G (rd .number) (ch .fits) (length ts) 0 ts, length-sheets ws pp ws-many, C .few)
+      omega (arith, length-ops es news, length-new g (suc G) (length ts) 0 ts, length-sheets ws pp ws-many, C .few)
 
   pub written-few : length ts ≤ 4 * B
   written-few = omega (arith, length-sheets ws pp ws-many, C .few)

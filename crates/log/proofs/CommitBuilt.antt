@@ -36,6 +36,11 @@ pub record NextCommit (g : Geometry) (limit : ℕ) (T : ℕ → Node) (c : ℕ) 
   pub some : 0 < length news
   pub well : all isWell (tab 0 limit (λ (n : ℕ). foldl (turn n) (T n) (events limit news))) ≡ true
 
+-- as many pages as sheets
+pub length-new : (g : Geometry) (c n k : ℕ) (ts : List Sheet) → length (pagesFrom g c n k ts) ≡ length ts
+length-new g c n k [] = refl
+length-new g c n k (t ∷ ts) = ap suc (length-new g c n (suc k) ts)
+
 -- ---- one page: page i of n of commit c, at place p
 module _ (g : Geometry) (limit p c i n : ℕ) (us : List U.Unit) (hc : c < 2 ^ 32) (fits : 8 + 12 * g .units ≤ g .area) (few : length us ≤ g .units) where
   abbrev built : Live
@@ -107,21 +112,17 @@ module _ (g : Geometry) (limit c : ℕ) (hc : suc c < 2 ^ 32) (fits : 8 + 12 * g
       (all-All isSound (map (eventAt (t .place)) (map Good (unitsOfPacks (t .packs)))) (good-sound (t .place) (unitsOfPacks (t .packs)))) in
       All-append a (sounds-new n (suc k) hs)
 
-  pub length-new : (n k : ℕ) (ts : List Sheet) → length (pagesFrom g (suc c) n k ts) ≡ length ts
-  length-new n k [] = refl
-  length-new n k (t ∷ ts) = ap suc (length-new n (suc k) ts)
-
   -- pages laid out from sheets that fit meet the plan
   pub planned : (T : ℕ → Node) (ts : List Sheet) → All (ValidSheet g limit) ts → 0 < length ts
       → all isWell (tab 0 limit (λ (m : ℕ). foldl (turn m) (T m) (eventsIn (groupsOf ts)))) ≡ true → NextCommit g limit T c (newPages g (suc c) ts)
   planned T ts h l w =
       let n = length ts in
       record {
-        run = rw (length-new n 0 ts) (run-new n 0 h);
+        run = rw (length-new g (suc c) n 0 ts) (run-new n 0 h);
         owns = owns-new n 0 h (omega arith);
         sounds = sounds-new n 0 h;
         sizes = sizes-new n 0 h;
-        some = rw (length-new n 0 ts) l;
+        some = rw (length-new g (suc c) n 0 ts) l;
         well = rw (events-new n 0 h) w;
       }
 

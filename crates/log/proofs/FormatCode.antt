@@ -6,9 +6,10 @@ use native.Mathlib.Numerals.{add-one}
 use native.Mathlib.Omega.{arith}
 use Rattle.lists.specs.Lists.{tab}
 use Rattle.lists.proofs.Flats.{tab-last}
-use Rattle.chip.specs.declared.power.Power.{Power}
+use Rattle.chip.specs.declared.progress.Progress.{Progress}
 use Rattle.chip.specs.Geometry.{Geometry, small}
-use Rattle.chip.specs.Chip.{erase, Stepped, Ran}
+use Rattle.chip.specs.Chip.{erase}
+use Rattle.chip.specs.RunCode.{Stepped, Ran}
 use Rattle.chip.proofs.Runs.{ran-one, ran-append}
 use Rattle.pages.specs.Units.{encode}
 use Rattle.pages.specs.Data.{laid}
@@ -16,7 +17,7 @@ use Rattle.pages.specs.Write.{writes}
 use Rattle.log.specs.Format.{rootReset, formatData, formatOps}
 
 -- one block more
-pub erased-more : (g : Geometry) (torn : List ℕ) (b : ℕ) (p q r : Power) (xs ys zs : List ℕ) → Ran g torn (tab 0 b erase) p q xs ys
+pub erased-more : (g : Geometry) (torn : List ℕ) (b : ℕ) (p q r : Progress) (xs ys zs : List ℕ) → Ran g torn (tab 0 b erase) p q xs ys
     → Stepped g torn (erase b) q r ys zs → Ran g torn (tab 0 (b + 1) erase) p r xs zs
 erased-more g torn b p q r xs ys zs a s =
     let e : 0 + b ≡ b = omega arith in
@@ -29,7 +30,7 @@ pub first-data : (g : Geometry) (bytes page : List ℕ) → bytes ≡ encode roo
 first-data g bytes page e h = h ∙ ap (laid g 1 0 1 1) (e ∙ sym (append-nil (encode rootReset)))
 
 -- the blocks erased, and then the page written
-pub first-written : (torn : List ℕ) (b : ℕ) (page : List ℕ) (p q r : Power) (xs ys zs : List ℕ) → page ≡ formatData small
+pub first-written : (torn : List ℕ) (b : ℕ) (page : List ℕ) (p q r : Progress) (xs ys zs : List ℕ) → page ≡ formatData small
     → Ran small torn (tab 0 b erase) p q xs ys → Ran small torn (writes 0 page) q r ys zs → Ran small torn (formatOps small b) p r xs zs
 first-written torn b page p q r xs ys zs e a w =
     let v : Ran small torn (writes 0 (formatData small)) q r ys zs = (rw e at w) in

@@ -2,7 +2,7 @@
 use mathlib.Core.Path.{_≡_, refl, sym, ap, ap₂, _∙_}
 use mathlib.Core.Bool.{true}
 use mathlib.Core.List.{List, [], _∷_, _++_, append-assoc, append-nil}
-use Prim.Native.Nat.{ℕ, zero, suc, _+_, _-_, _*_, _≤_, _<_, min}
+use Prim.Native.Nat.{ℕ, zero, suc, _+_, _-_, _*_, _≤_, _<_}
 use native.Mathlib.Nat.{suc-mul, zero-mul, add-mul}
 use native.Mathlib.Omega.{arith}
 use lib.Dec.{ltb}
@@ -14,12 +14,12 @@ use Rattle.lists.proofs.Places.{length-mapFrom}
 use Rattle.lists.proofs.Flats.{length-tab, all-tab}
 use Rattle.chip.specs.declared.page.Mark.the-variants.{Used, Valid}
 use Rattle.chip.specs.Geometry.{Geometry, small}
-use Rattle.chip.specs.Power.{done, isGone}
+use Rattle.chip.specs.Power.{isGone}
 use Rattle.chip.specs.Page.{Page, blank, marked, programmed}
 use Rattle.chip.specs.Chip.{Op, erase, filled, whole, Legal, Machine}
 use Rattle.chip.proofs.ImageLaws.{filled-patch}
 use Rattle.chip.proofs.Marks.{blank-quiet, third-live, third-data, marked-data}
-use Rattle.chip.proofs.Runs.{after, run-parts, run-done, run-gone}
+use Rattle.chip.proofs.Runs.{after, run-parts, run-gone}
 use Rattle.pages.specs.declared.unit.Decoded.the-variants.{Good}
 use Rattle.pages.specs.declared.header.Head.{Head}
 use Rattle.pages.specs.Units.{encode}
@@ -96,12 +96,9 @@ format-pages g torn b n ps l h =
     ∙ ap (λ (qs : List Page). modify 0 (marked g Valid 0) (modify 0 (programmed g (formatData g)) (modify 0 (marked g Used 0) qs))) (cleared-blank g b ps l)
     ∙ written-first g (b * g .pages)
 
--- power is gone exactly with an allowance below b + 3, and the operations told are b + 3 or the allowance
+-- power is gone exactly with an allowance below b + 3
 pub format-gone : (g : Geometry) (torn : List ℕ) (b n : ℕ) (ps : List Page) → isGone (formattedBy g torn b n ps .power) ≡ ltb n (b + 3)
 format-gone g torn b n ps = run-gone g torn n ps (formatOps g b) ∙ ap (ltb n) (format-count g b)
-
-pub format-done : (g : Geometry) (torn : List ℕ) (b n : ℕ) (ps : List Page) → done n (formattedBy g torn b n ps .power) ≡ min n (b + 3)
-format-done g torn b n ps = run-done g torn n ps (formatOps g b) ∙ ap (min n) (format-count g b)
 
 -- ---- what it means
 -- a commit of one page is full

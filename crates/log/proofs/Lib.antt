@@ -7,6 +7,7 @@ pub mod FormatCode
 pub mod CommitBuilt
 pub mod CommitCut
 pub mod CommitLaws
+pub mod KindLaws
 pub mod PlanNodes
 pub mod PlanFair
 pub mod PlanPacks

@@ -16,10 +16,11 @@ use Rattle.lists.proofs.Filters.{filter-append}
 use Rattle.lists.proofs.Flats.{map-append}
 use Rattle.lists.proofs.Places.{At-getD, At-is}
 use Rattle.chip.specs.declared.page.Mark.the-variants.{Obsolete}
-use Rattle.chip.specs.declared.power.Power.{Power}
+use Rattle.chip.specs.declared.progress.Progress.{Progress}
 use Rattle.chip.specs.Geometry.{Geometry}
 use Rattle.chip.specs.Page.{Page, isLive}
-use Rattle.chip.specs.Chip.{Op, mark, Machine, machine, run, pagesOf, Stepped, Ran, touches}
+use Rattle.chip.specs.Chip.{Op, mark, Machine, run, pagesOf, touches}
+use Rattle.chip.specs.RunCode.{machine, Stepped, Ran}
 use Rattle.chip.proofs.Runs.{ran-none, ran-one, ran-append, run-other}
 use Rattle.pages.specs.Units.{word}
 use Rattle.pages.specs.Data.{headOf}
@@ -81,27 +82,27 @@ untouched-page g torn c n m ps e h =
     run-other g torn m (retireOps g c (take n ps)) n (getD ps n []) (low-marks g c n n (omega arith) (All-filter (ofCommit c) b)) (rw e (At-getD n ps [] h))
 
 -- a turn of the loop
-pub retire-more : (g : Geometry) (torn : List ℕ) (c n : ℕ) (p q r : Power) (xs ys zs : List ℕ) → n < length (pagesOf g xs)
+pub retire-more : (g : Geometry) (torn : List ℕ) (c n : ℕ) (p q r : Progress) (xs ys zs : List ℕ) → n < length (pagesOf g xs)
     → Ran g torn (retireOps g c (take n (pagesOf g xs))) p q xs ys → Ran g torn (retireOne g c n (getD (pagesOf g ys) n [])) q r ys zs
     → Ran g torn (retireOps g c (take (n + 1) (pagesOf g xs))) p r xs zs
 retire-more g torn c n p q r xs ys zs h a b =
     let e : getD (pagesOf g ys) n [] ≡ getD (pagesOf g xs) n [] =
     At-is n (getD (pagesOf g xs) n []) (pagesOf g ys) []
-    (let u = untouched-page g torn c n (machine g p xs) (pagesOf g xs) refl h in
-    let s : pagesOf g ys ≡ run g torn (machine g p xs) (retireOps g c (take n (pagesOf g xs))) .pages = ap (λ (m : Machine). m .pages) (a .is) in
+    (let u = untouched-page g torn c n (machine g (p .left) xs) (pagesOf g xs) refl h in
+    let s : pagesOf g ys ≡ run g torn (machine g (p .left) xs) (retireOps g c (take n (pagesOf g xs))) .pages = ap (λ (m : Machine). m .pages) (a .is) in
     rw s u) in
     let b' : Ran g torn (retireOne g c n (getD (pagesOf g xs) n [])) q r ys zs = (rw e at b) in
     rw (ops-more g c n (pagesOf g xs) h) (ran-append g torn (retireOps g c (take n (pagesOf g xs))) (retireOne g c n (getD (pagesOf g xs) n [])) p q r xs ys zs a b')
 
 -- all pages
-pub retire-done : (g : Geometry) (torn : List ℕ) (c n : ℕ) (p r : Power) (xs zs : List ℕ) → length (pagesOf g xs) ≤ n
+pub retire-done : (g : Geometry) (torn : List ℕ) (c n : ℕ) (p r : Progress) (xs zs : List ℕ) → length (pagesOf g xs) ≤ n
     → Ran g torn (retireOps g c (take n (pagesOf g xs))) p r xs zs → Ran g torn (retireOps g c (pagesOf g xs)) p r xs zs
 retire-done g torn c n p r xs zs h a = let e = take-all n (pagesOf g xs) h in rw e at a
 
 -- one page: not of the commit, or marked
-pub retire-none : (g : Geometry) (torn : List ℕ) (c n : ℕ) (x : Page) (p : Power) (xs : List ℕ) → isOf g c x ≡ false → Ran g torn (retireOne g c n x) p p xs xs
+pub retire-none : (g : Geometry) (torn : List ℕ) (c n : ℕ) (x : Page) (p : Progress) (xs : List ℕ) → isOf g c x ≡ false → Ran g torn (retireOne g c n x) p p xs xs
 retire-none g torn c n x p xs e = rw e (ran-none g torn p xs)
 
-pub retire-one : (g : Geometry) (torn : List ℕ) (c n : ℕ) (x : Page) (p r : Power) (xs zs : List ℕ) → isOf g c x ≡ true
+pub retire-one : (g : Geometry) (torn : List ℕ) (c n : ℕ) (x : Page) (p r : Progress) (xs zs : List ℕ) → isOf g c x ≡ true
     → Stepped g torn (mark n Obsolete) p r xs zs → Ran g torn (retireOne g c n x) p r xs zs
 retire-one g torn c n x p r xs zs e s = rw e (ran-one g torn (mark n Obsolete) p r xs zs s)

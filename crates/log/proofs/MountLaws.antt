@@ -2,7 +2,7 @@
 use mathlib.Core.Path.{_≡_, refl, sym, ap, _∙_}
 use mathlib.Core.Bool.{true, false, not}
 use mathlib.Core.List.{List, [], _∷_, _++_, map, append-assoc, append-nil}
-use Prim.Native.Nat.{ℕ, zero, suc, _*_, _/_, _≤_, _<_, min}
+use Prim.Native.Nat.{ℕ, zero, suc, _*_, _/_, _≤_, _<_}
 use native.Mathlib.Omega.{arith}
 use lib.Dec.{eqb, ltb}
 use lib.ListN.{length, take, getD, length-append, length-map}
@@ -15,11 +15,11 @@ use Rattle.lists.proofs.Parts.{cut-sizes}
 use Rattle.lists.proofs.Places.{length-modify, At-other, At-getD, at-seam}
 use Rattle.chip.specs.declared.page.Mark.the-variants.{Obsolete}
 use Rattle.chip.specs.Geometry.{Geometry, pageSize, small}
-use Rattle.chip.specs.Power.{done, isGone}
+use Rattle.chip.specs.Power.{isGone}
 use Rattle.chip.specs.Page.{Page, isLive, marked}
 use Rattle.chip.specs.Chip.{Legal, Machine, run, pagesOf}
 use Rattle.chip.proofs.Marks.{obsolete, marked-data}
-use Rattle.chip.proofs.Runs.{after, run-parts, run-done, run-gone, Sized}
+use Rattle.chip.proofs.Runs.{after, run-parts, run-gone, Sized}
 use Rattle.pages.specs.Steps.{Live, live, liveFrom, commit, count, before, ordered, ofCommit, Stood, refused, stand, steps}
 use Rattle.pages.proofs.Order.{asym, trans}
 use Rattle.pages.proofs.LivePages.{elsewhere, places-below, single, steady, shrink-ordered}
@@ -271,12 +271,9 @@ mount-few image h l = mount-count small (pagesOf small image) (All-map (λ x b. 
 
 -- ---- the power of a mount
 module _ (g : Geometry) (torn : List ℕ) (n : ℕ) (ps : List Page) where
-  -- it is gone exactly with an allowance below the number of marks, and the operations told are the smaller of the two
+  -- it is gone exactly with an allowance below the number of marks
   pub mount-gone : isGone (mountedBy g torn n ps .power) ≡ ltb n (length (mountOps g ps))
   mount-gone = run-gone g torn n ps (mountOps g ps)
-
-  pub mount-done : done n (mountedBy g torn n ps .power) ≡ min n (length (mountOps g ps))
-  mount-done = run-done g torn n ps (mountOps g ps)
 
 -- ---- the pages of an image of b blocks on the small chip
 pub image-sized : (image : List ℕ) (b : ℕ) → length image ≡ b * 16896 → All (Sized small) (pagesOf small image)

@@ -4,10 +4,11 @@ ghost use Prim.Native.Nat.{_*_, _≤_};
 ghost use lib.ListN.{length};
 ghost use Rattle.lists.specs.Lists.{tab};
 ghost use Rattle.chip.specs.Geometry.{small};
-ghost use Rattle.chip.specs.Chip.{Op, Ran};
+ghost use Rattle.chip.specs.Chip.{Op};
+ghost use Rattle.chip.specs.RunCode.{Ran};
 ghost use Rattle.log.specs.Format.{formatData, formatOps};
 use chip::image;
-use chip::power::Power;
+use chip::progress::Progress;
 use pages::header;
 use pages::unit;
 use pages::unit::Unit;
@@ -15,17 +16,17 @@ use pages::unit::Update;
 use pages::write;
 
 // All blocks erased, lowest first.
-fn erase_all(image: &mut [u8], blocks: usize, torn: &[u8], power: Power) -> Power
+fn erase_all(image: &mut [u8], blocks: usize, torn: &[u8], progress: Progress) -> Progress
     requires { ⌜ (length (now image) ≡ blocks * 16896) × (length (now torn) ≡ 528) ⌝ }
-    ensures { λ r. ⌜ Ran small (now (torn .entry)) (tab 0 blocks Op.erase) power r (now (image .entry)) (now (image .exit)) ⌝ }
+    ensures { λ r. ⌜ Ran small (now (torn .entry)) (tab 0 blocks Op.erase) progress r (now (image .entry)) (now (image .exit)) ⌝ }
 {
-    let mut left = power;
+    let mut reached = progress;
     let mut b = 0;
     while b < blocks {
-        left = image::erase(image, b, torn, left);
+        reached = image::erase(image, b, torn, reached);
         b += 1;
     }
-    left
+    reached
 }
 
 // The data of commit 1 written over `page`: page 0 of 1, node 0 reset at level 0.
@@ -41,12 +42,12 @@ fn put_first(page: &mut [u8])
 }
 
 // The operations of a format, in order, as far as the power goes.
-pub fn format(image: &mut [u8], blocks: usize, torn: &[u8], power: Power) -> Power
+pub fn format(image: &mut [u8], blocks: usize, torn: &[u8], progress: Progress) -> Progress
     requires { ⌜ (length (now image) ≡ blocks * 16896) × (1 ≤ blocks) × (length (now torn) ≡ 528) ⌝ }
-    ensures { λ r. ⌜ Ran small (now (torn .entry)) (formatOps small blocks) power r (now (image .entry)) (now (image .exit)) ⌝ }
+    ensures { λ r. ⌜ Ran small (now (torn .entry)) (formatOps small blocks) progress r (now (image .entry)) (now (image .exit)) ⌝ }
 {
     let mut page = [255; 512];
     put_first(&mut page);
-    let left = erase_all(image, blocks, torn, power);
-    write::write_at(image, 0, &page, torn, left)
+    let erased = erase_all(image, blocks, torn, progress);
+    write::write_at(image, 0, &page, torn, erased)
 }

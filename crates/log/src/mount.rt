@@ -4,13 +4,14 @@ ghost use mathlib.Core.List.{[]};
 ghost use Prim.Native.Nat.{_+_, _*_, _%_, _≤_};
 ghost use lib.ListN.{getD, length};
 ghost use Rattle.chip.specs.Geometry.{small};
-ghost use Rattle.chip.specs.Chip.{Ran, pagesOf};
+ghost use Rattle.chip.specs.Chip.{pagesOf};
+ghost use Rattle.chip.specs.RunCode.{Ran};
 ghost use Rattle.log.specs.MountCode.{isOf, retireOne, retireOps};
 use chip::geometry::PAGE;
 use chip::image;
 use chip::page;
 use chip::page::Mark;
-use chip::power::Power;
+use chip::progress::Progress;
 use pages::unit;
 
 // Is this a live page of the commit?
@@ -25,29 +26,29 @@ fn is_of(page: &[u8], commit: u32) -> bool
 }
 
 // Page `at` marked, if it is a live page of the commit.
-fn retire_at(image: &mut [u8], at: usize, commit: u32, torn: &[u8], power: Power) -> Power
+fn retire_at(image: &mut [u8], at: usize, commit: u32, torn: &[u8], progress: Progress) -> Progress
     requires { ⌜ (at * 528 + 528 ≤ length (now image)) × (length (now image) % 528 ≡ 0) × (length (now torn) ≡ 528) ⌝ }
-    ensures { λ r. ⌜ Ran small (now (torn .entry)) (retireOne small commit at (getD (pagesOf small (now (image .entry))) at [])) power r (now (image .entry)) (now (image .exit)) ⌝ }
+    ensures { λ r. ⌜ Ran small (now (torn .entry)) (retireOne small commit at (getD (pagesOf small (now (image .entry))) at [])) progress r (now (image .entry)) (now (image .exit)) ⌝ }
 {
     let a = at * PAGE;
     let e = a + PAGE;
     if !is_of(&image[a..e], commit) {
-        return power;
+        return progress;
     }
-    image::set_mark(image, at, Mark::Obsolete, torn, power)
+    image::set_mark(image, at, Mark::Obsolete, torn, progress)
 }
 
 // Every live page of the commit marked, lowest place first, as far as the power goes.
-pub fn retire(image: &mut [u8], commit: u32, torn: &[u8], power: Power) -> Power
+pub fn retire(image: &mut [u8], commit: u32, torn: &[u8], progress: Progress) -> Progress
     requires { ⌜ (length (now image) % 528 ≡ 0) × (length (now torn) ≡ 528) ⌝ }
-    ensures { λ r. ⌜ Ran small (now (torn .entry)) (retireOps small commit (pagesOf small (now (image .entry)))) power r (now (image .entry)) (now (image .exit)) ⌝ }
+    ensures { λ r. ⌜ Ran small (now (torn .entry)) (retireOps small commit (pagesOf small (now (image .entry)))) progress r (now (image .entry)) (now (image .exit)) ⌝ }
 {
     let pages = image.len() / PAGE;
-    let mut left = power;
+    let mut reached = progress;
     let mut at = 0;
     while at < pages {
-        left = retire_at(image, at, commit, torn, left);
+        reached = retire_at(image, at, commit, torn, reached);
         at += 1;
     }
-    left
+    reached
 }

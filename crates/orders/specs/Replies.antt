@@ -2,6 +2,7 @@
 use mathlib.Core.List.{List, [], _∷_, _++_}
 use Prim.Native.Nat.{ℕ, _+_}
 use Rattle.lists.specs.Lists.{flat}
+use Rattle.chip.specs.declared.progress.Counts.{Counts}
 use Rattle.frames.specs.Frames.{hexText}
 use Rattle.store.specs.declared.answer.Look.{Look}
 use Rattle.store.specs.declared.answer.Look.the-variants as L
@@ -19,6 +20,10 @@ shortLine refusal = hexText refusal 2 ++ feed
 -- a refusal and a number
 abbrev pub countedLine : ℕ → ℕ → List ℕ
 countedLine refusal n = hexText refusal 2 ++ (hexText n 8 ++ feed)
+
+-- a refusal and the operations done by kind: data programs, marks set, erases
+abbrev pub countsLine : ℕ → Counts → List ℕ
+countsLine refusal c = hexText refusal 2 ++ (hexText (c .programs) 8 ++ (hexText (c .marks) 8 ++ (hexText (c .erases) 8 ++ feed)))
 
 -- a value found and the pages read
 abbrev pub foundLine : ℕ → ℕ → List ℕ

@@ -5,8 +5,9 @@ ghost use mathlib.Core.List.{[], _∷_};
 ghost use Prim.Native.Nat.{_+_, _*_, _≤_};
 ghost use lib.ListN.{length};
 ghost use Rattle.frames.specs.Frames.{hexText};
-ghost use Rattle.orders.specs.Replies.{shortLine, countedLine, foundLine, lookLine, reportLine, bytesText, shownLine};
+ghost use Rattle.orders.specs.Replies.{shortLine, countedLine, countsLine, foundLine, lookLine, reportLine, bytesText, shownLine};
 ghost use Rattle.orders.specs.ReplyCode.{Adds};
+use chip::progress::Counts;
 use frames::text;
 use store::answer::Look;
 use store::answer::Report;
@@ -52,6 +53,18 @@ pub fn put_counted(out: &mut [u8], at: usize, refusal: u32, n: u32) -> usize
     let a = put_number(out, at, refusal, 2);
     let b = put_number(out, a, n, 8);
     put_feed(out, b)
+}
+
+// A refusal and the operations done by kind: data programs, marks set, erases.
+pub fn put_counts(out: &mut [u8], at: usize, refusal: u32, ops: Counts) -> usize
+    requires { ⌜ at + 27 ≤ length (now out) ⌝ }
+    ensures { λ r. ⌜ Adds (now (out .entry)) at (countsLine refusal ops) (now (out .exit)) r ⌝ }
+{
+    let a = put_number(out, at, refusal, 2);
+    let b = put_number(out, a, ops.programs, 8);
+    let c = put_number(out, b, ops.marks, 8);
+    let d = put_number(out, c, ops.erases, 8);
+    put_feed(out, d)
 }
 
 // A value found and the pages read.

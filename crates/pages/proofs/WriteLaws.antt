@@ -1,7 +1,7 @@
 -- A page written by three operations: as a run on the chip, what a cut leaves, and when the page is live. Assumes nothing.
-use mathlib.Core.Path.{_≡_, sym, ap, ap₂, _∙_}
-use mathlib.Core.List.{List}
-use Prim.Native.Nat.{ℕ}
+use mathlib.Core.Path.{_≡_, refl, sym, ap, ap₂, _∙_}
+use mathlib.Core.List.{List, _∷_}
+use Prim.Native.Nat.{ℕ, zero, suc}
 use native.Mathlib.Omega.{arith}
 use lib.ListN.{length, take, getD}
 use lib.Seq.{length-take-le}
@@ -9,29 +9,55 @@ use Rattle.lists.specs.Lists.{modify}
 use Rattle.lists.proofs.Places.{modify-modify}
 use Rattle.chip.specs.declared.page.Mark.{Mark}
 use Rattle.chip.specs.declared.page.Mark.the-variants.{Used, Valid}
+use Rattle.chip.specs.declared.operation.Kind.{Kind}
+use Rattle.chip.specs.declared.operation.Kind.the-variants as K
+use Rattle.chip.specs.declared.operation.Operation.{Operation}
 use Rattle.chip.specs.declared.power.Power.{Power}
+use Rattle.chip.specs.declared.power.Power.the-variants.{Left, Gone}
+use Rattle.chip.specs.declared.progress.Counts.{Counts}
+use Rattle.chip.specs.declared.progress.Progress.{Progress}
 use Rattle.chip.specs.Geometry.{Geometry, pageSize}
 use Rattle.chip.specs.Power.{spend, outcome, effect}
 use Rattle.chip.specs.Page.{Page, marked, programmed}
-use Rattle.chip.specs.Chip.{run, Operated, Ran, pagesOf}
+use Rattle.chip.specs.Chip.{run, pagesOf}
+use Rattle.chip.specs.RunCode.{countedAll, progressed, tellOf, wholes, Operated, Ran}
+use Rattle.chip.proofs.CountLaws.{wholes-none}
 use Rattle.chip.proofs.ImageLaws.{effect-has, effect-modify}
 use Rattle.chip.proofs.PageLaws.{length-marked, length-programmed}
 use Rattle.pages.specs.Write.{writes}
-use Rattle.pages.specs.WriteCode.{markedBy, programmedBy, written, spent3, PageWritten}
+use Rattle.pages.specs.WriteCode.{markedBy, programmedBy, written, spent3, writeKinds, PageWritten}
+
+-- an operation of kind k told
+abbrev told : Kind → Progress → Progress
+told k p = progressed (p .done) (tellOf k (p .left))
+
+three-told : (c : Counts) (p : Power)
+    → told K.Mark (told K.Program (told K.Mark (record { left = p; done = c }))) .done ≡ countedAll c (wholes p writeKinds)
+three-told c (Left zero) = refl
+three-told c (Left (suc zero)) = refl
+three-told c (Left (suc (suc zero))) = refl
+three-told c (Left (suc (suc (suc n)))) = ap (countedAll c) (ap (λ (l : List Kind). K.Mark ∷ K.Program ∷ K.Mark ∷ l) (sym (wholes-none (Left n))))
+three-told c Gone = refl
 
 module _ (g : Geometry) (torn bytes : List ℕ) where
   -- three operations on one part, one after the other
-  pub written-steps : (p q r s : Power) (x y z last : Page)
-      → Operated p q y (marked g Used 0 x) (marked g Used (getD torn 0 0) x) x
-      → Operated q r z (programmed g bytes y) (programmed g (take (g .area) torn) y) y
-      → Operated r s last (marked g Valid 0 z) (marked g Valid (getD torn 0 0) z) z
+  pub written-steps : (p q r s : Progress) (u v w : Operation) (x y z last : Page)
+      → q ≡ progressed (p .done) u → r ≡ progressed (q .done) v → s ≡ progressed (r .done) w
+      → Operated K.Mark (p .left) u y (marked g Used 0 x) (marked g Used (getD torn 0 0) x) x
+      → Operated K.Program (q .left) v z (programmed g bytes y) (programmed g (take (g .area) torn) y) y
+      → Operated K.Mark (r .left) w last (marked g Valid 0 z) (marked g Valid (getD torn 0 0) z) z
       → PageWritten g torn bytes p s x last
   unfolding written
-  written-steps p q r s x y z last a b c =
-      let two : r ≡ spend (spend p) = b .power ∙ ap spend (a .power) in
+  written-steps p q r s u v w x y z last eq er es a b c =
+      let one : q ≡ told K.Mark p = eq ∙ ap (progressed (p .done)) (a .told) in
+      let two : r ≡ told K.Program (told K.Mark p) = er ∙ ap (progressed (q .done)) (b .told) ∙ ap (told K.Program) one in
+      let three : s ≡ told K.Mark (told K.Program (told K.Mark p)) = es ∙ ap (progressed (r .done)) (c .told) ∙ ap (told K.Mark) two in
+      let first : q .left ≡ spend (p .left) = ap (λ (x : Progress). x .left) one in
+      let second : r .left ≡ spend (spend (p .left)) = ap (λ (x : Progress). x .left) two in
       record {
-        power = c .power ∙ ap spend two;
-        page = c .left ∙ ap₂ (markedBy g torn Valid) two (b .left ∙ ap₂ (programmedBy g torn bytes) (a .power) (a .left));
+        power = ap (λ (x : Progress). x .left) three;
+        page = c .left ∙ ap₂ (markedBy g torn Valid) second (b .left ∙ ap₂ (programmedBy g torn bytes) first (a .left));
+        told = ap (λ (x : Progress). x .done) three ∙ three-told (p .done) (p .left);
       }
 
   -- as a run of operations on the chip
@@ -53,14 +79,15 @@ module _ (g : Geometry) (torn bytes : List ℕ) where
       ∙ modify-modify n (λ (x : Page). d (u x)) v ps)
 
   -- a page of an image written is a run on the image
-  pub written-ran : (n : ℕ) (p r : Power) (before after : List ℕ) → r ≡ spent3 p
-      → pagesOf g after ≡ modify n (written g torn bytes p) (pagesOf g before) → length after ≡ length before → Ran g torn (writes n bytes) p r before after
-  written-ran n p r before after e q h =
+  pub written-ran : (n : ℕ) (p r : Progress) (before after : List ℕ) → r .left ≡ spent3 (p .left) → r .done ≡ countedAll (p .done) (wholes (p .left) writeKinds)
+      → pagesOf g after ≡ modify n (written g torn bytes (p .left)) (pagesOf g before) → length after ≡ length before → Ran g torn (writes n bytes) p r before after
+  written-ran n p r before after e t q h =
       record {
         is =
             ap₂ (λ (s : Power) (ps : List Page). record { power = s; pages = ps }) e q
-            ∙ sym (run-writes n p (pagesOf g before));
+            ∙ sym (run-writes n (p .left) (pagesOf g before));
         size = h;
+        told = t;
       }
 
   module _ (lb : length bytes ≡ g .area) (lt : length torn ≡ pageSize g) where

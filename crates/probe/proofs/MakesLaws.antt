@@ -4,6 +4,7 @@ use mathlib.Core.List.{List, _++_}
 use Prim.Native.Nat.{ℕ, min}
 use lib.ListN.{length, take, drop}
 use lib.Seq.{take-at, drop-at}
+use Rattle.chip.specs.Counts.{total}
 use Rattle.store.specs.declared.answer.Look.{Look}
 use Rattle.store.specs.declared.state.State.{State}
 use Rattle.store.specs.declared.state.Wrote.{Wrote}
@@ -28,13 +29,13 @@ module _ (call : Call) (torn : List ℕ) (s : State) (i : List ℕ) (s' : State)
   by k e t q i' h = subst (λ (c : Call). Makes c torn s i s' i') (sym e) (subst (λ (u : State). Makes k torn s i u i') (sym q) h)
 
   pub makes-format : (n : ℕ) → call ≡ Format n → (w : Wrote) (i' : List ℕ) → s' ≡ w .state → Formats n torn s i w i' → Makes call torn s i s' i'
-  makes-format n e w i' q h = by (Format n) e (w .state) q i' (runs-one torn (S.Format n) s i (answerOf (w .answer)) (w .ops) (w .state) i' (h .says))
+  makes-format n e w i' q h = by (Format n) e (w .state) q i' (runs-one torn (S.Format n) s i (answerOf (w .answer)) (total (w .ops)) (w .state) i' (h .says))
 
   pub makes-mount : (n : ℕ) → call ≡ Mount n → (w : Wrote) (i' : List ℕ) → s' ≡ w .state → Mounts n torn s i w i' → Makes call torn s i s' i'
-  makes-mount n e w i' q h = by (Mount n) e (w .state) q i' (runs-one torn (S.Mount n) s i (answerOf (w .answer)) (w .ops) (w .state) i' (h .says))
+  makes-mount n e w i' q h = by (Mount n) e (w .state) q i' (runs-one torn (S.Mount n) s i (answerOf (w .answer)) (total (w .ops)) (w .state) i' (h .says))
 
   pub makes-commit : (n : ℕ) → call ≡ Commit n → (w : Wrote) (i' : List ℕ) → s' ≡ w .state → Commits n torn s i w i' → Makes call torn s i s' i'
-  makes-commit n e w i' q h = by (Commit n) e (w .state) q i' (runs-one torn (S.Commit n) s i (answerOf (w .answer)) (w .ops) (w .state) i' (h .says))
+  makes-commit n e w i' q h = by (Commit n) e (w .state) q i' (runs-one torn (S.Commit n) s i (answerOf (w .answer)) (total (w .ops)) (w .state) i' (h .says))
 
   pub makes-insert : (k v : ℕ) → call ≡ Insert k v → (u : Updated) → s' ≡ u .state → Inserts k v s i u → Makes call torn s i s' i
   makes-insert k v e u q h = by (Insert k v) e (u .state) q i (runs-one torn (S.Insert k v) s i (answerOf (u .answer)) 0 (u .state) i (h .says))

@@ -34,7 +34,7 @@ fn tell_wrote(w: Wrote, out: &mut [u8], at: usize) -> Told
     let ops = w.ops;
     let state = w.state;
     let number = answer::number(given);
-    let end = reply::put_counted(out, at, number, ops);
+    let end = reply::put_counts(out, at, number, ops);
     Told { state, at: end }
 }
 

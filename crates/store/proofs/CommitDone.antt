@@ -2,22 +2,24 @@
 use mathlib.Core.Path.{_≡_, refl, sym, ap, subst, _∙_}
 use mathlib.Core.Bool.{Bool, true, false, cond}
 use mathlib.Core.List.{List, foldl}
-use Prim.Native.Nat.{ℕ, suc, _+_, _*_, _≤_, _<_, min}
+use Prim.Native.Nat.{ℕ, suc, _+_, _*_, _^_, _≤_, _<_}
 use native.Mathlib.Omega.{arith}
 use lib.Dec.{eqb, ltb}
-use lib.ListN.{length, getD}
+use lib.ListN.{length, getD, length-map}
+use lib.Seq.{take-all}
 use Rattle.lists.specs.Lists.{All, any, tab}
 use Rattle.lists.proofs.Alls.{All-map}
 use Rattle.lists.proofs.Flats.{tab-same, getD-tab}
 use Rattle.lists.proofs.Sets.{Mem, eqb-mem}
 use Rattle.lists.proofs.Tests.{cases}
-use Rattle.chip.specs.declared.power.Power.{Power}
-use Rattle.chip.specs.declared.power.Power.the-variants.{Left}
+use Rattle.chip.specs.declared.progress.Progress.{Progress}
 use Rattle.chip.specs.Geometry.{small, blocksOf}
-use Rattle.chip.specs.Power.{done, isGone, takesEffect}
+use Rattle.chip.specs.Power.{isGone, takesEffect}
+use Rattle.chip.specs.Counts.{countsOf}
 use Rattle.chip.specs.Page.{Page}
-use Rattle.chip.specs.Chip.{Machine, pagesOf}
-use Rattle.chip.proofs.Runs.{run-gone, run-done}
+use Rattle.chip.specs.Chip.{Op, Machine, kindOf, kindsOf, pagesOf}
+use Rattle.chip.specs.RunCode.{atStart}
+use Rattle.chip.proofs.Runs.{run-gone, ran-told}
 use Rattle.pages.specs.declared.unit.Unit as U
 use Rattle.views.specs.Groups.{present}
 use Rattle.views.specs.Stored.{Stores}
@@ -32,14 +34,18 @@ use Rattle.log.proofs.AdmissibleLaws.{Safe, imageAfter, nodeAfter}
 use Rattle.log.proofs.PolicyLaws.{rests-next}
 use Rattle.promise.specs.Image.{viewsOf, bySix, imageMeaning}
 use Rattle.promise.specs.Calls as P
-use Rattle.commits.specs.Execute.{Executed}
+use Rattle.commits.specs.ExecuteCode.{Executed}
 use Rattle.store.specs.declared.state.State.{State}
 use Rattle.store.specs.FreshCode.{committedState}
 use Rattle.store.specs.State.{limitOf, nodesOf, unitsOf, presentOf, Good, Room}
-use Rattle.store.specs.Contracts.{thePlan, theOps}
+use Rattle.store.specs.Contracts.{thePlan, theOps, toldOf}
 use Rattle.store.proofs.BegunViews.{map-tab}
 use Rattle.store.proofs.Begun.{Settled}
 use Rattle.store.proofs.CommitGood.{good-chip, good-kept, good-present, good-room, room-by}
+
+-- ---- with an allowance for all of them, all are told
+pub all-told : (n : ℕ) (os : List Op) → length os ≤ n → toldOf n os ≡ countsOf (kindsOf os)
+all-told n os h = ap countsOf (take-all n (kindsOf os) (omega (arith, length-map os kindOf)))
 
 -- ---- what the plan of the next commit is made of
 same-nodes : {tb nx : List Node} {G H : ℕ} → Views.means tb G ≡ Views.means nx H → tb ≡ nx
@@ -57,8 +63,8 @@ same-plan {B = B} {C = C} {ps = ps} {qs = qs} {tb = tb} {nx = nx} {G = G} us b p
 not-member : (b : ℕ) (xs : List ℕ) → (Mem b xs → ⊥) → any (eqb b) xs ≡ false
 not-member b xs h = cases (any (eqb b) xs) (λ t. absurd (h (eqb-mem b xs t))) (λ t. t)
 
-module _ (n : ℕ) (torn : List ℕ) (s : State) (i i' lens slots : List ℕ) (left : Power) (g : Good small s i)
-    (x : Executed (limitOf s) (s .commit) (nodesOf small s i) (thePlan s i) torn (Left n) i i' lens slots left) where
+module _ (n : ℕ) (torn : List ℕ) (s : State) (i i' lens slots : List ℕ) (reached : Progress) (g : Good small s i)
+    (x : Executed (limitOf s) (s .commit) (nodesOf small s i) (thePlan s i) torn (atStart n) i i' lens slots reached) where
   abbrev ps : List Page
   ps = pagesOf small i
 
@@ -69,11 +75,11 @@ module _ (n : ℕ) (torn : List ℕ) (s : State) (i i' lens slots : List ℕ) (l
   pub after-pages : pagesOf small i' ≡ imageAfter small torn ps (s .commit) (thePlan s i) n
   after-pages = ap (λ (m : Machine). m .pages) (x .ran .is)
 
-  pub after-gone : isGone left ≡ ltb n (length (theOps s i))
+  pub after-gone : isGone (reached .left) ≡ ltb n (length (theOps s i))
   after-gone = ap (λ (m : Machine). isGone (m .power)) (x .ran .is) ∙ run-gone small torn n ps (theOps s i)
 
-  pub after-done : done n left ≡ min n (length (theOps s i))
-  after-done = ap (λ (m : Machine). done n (m .power)) (x .ran .is) ∙ run-done small torn n ps (theOps s i)
+  pub after-told : n < 2 ^ 32 → reached .done ≡ toldOf n (theOps s i)
+  after-told low = ran-told small torn n (theOps s i) reached i i' low (x .ran)
 
   after-blocks : s .blocks ≡ blocksOf small (length i')
   after-blocks = g .blocks ∙ ap (blocksOf small) (sym (x .ran .size))

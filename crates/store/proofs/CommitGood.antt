@@ -31,7 +31,7 @@ use Rattle.log.proofs.PlanBlocks.{has-room, room-has}
 use Rattle.log.proofs.PlanBlocks as Log
 use Rattle.log.proofs.AssignedChoice.{Committable}
 use Rattle.log.proofs.PlanKept.{Buffer, ready}
-use Rattle.commits.specs.Execute.{Plannable}
+use Rattle.commits.specs.ExecuteCode.{Plannable}
 use Rattle.store.specs.declared.state.State.{State}
 use Rattle.store.specs.AdmitCode.{ChipOf}
 use Rattle.store.specs.State.{limitOf, nodeFrom, nodesOf, unitsOf, presentOf, Good, RoomIn, Room, commitCount}

@@ -2,40 +2,36 @@
 use mathlib.Core.Path.{_≡_, refl, sym, ap, subst, _∙_}
 use mathlib.Core.Logic.{_⊎_, inl, inr, ⊎-elim}
 use mathlib.Core.Bool.{Bool, false}
-use mathlib.Core.List.{List, [], _∷_, map}
+use mathlib.Core.List.{List, [], _∷_}
 use Prim.Native.Nat.{ℕ, suc, _+_, _*_, _≤_, _<_}
 use native.Mathlib.Omega.{arith}
-use lib.ListN.{length, length-append, length-map}
-use Rattle.lists.specs.Lists.{All, flat, tab}
+use lib.ListN.{length}
+use Rattle.lists.specs.Lists.{All, tab}
 use Rattle.lists.proofs.Alls.{All-head}
 use Rattle.lists.proofs.Tests.{cases}
 use Rattle.chip.specs.Geometry.{Geometry}
 use Rattle.chip.specs.Page.{Page}
-use Rattle.chip.specs.Chip.{Machine, erase}
+use Rattle.chip.specs.Chip.{Machine}
 use Rattle.chip.proofs.Runs.{run-parts}
 use Rattle.pages.specs.declared.unit.Unit as U
 use Rattle.pages.specs.Units.{Valid}
 use Rattle.views.specs.Groups.{own}
 use Rattle.views.specs.Table.{Node, fresh, meaning, means}
 use Rattle.views.proofs.Meanings.{kept-node, nodeIn}
-use Rattle.log.specs.Commit.{writesOf, pagesFrom, Sheet}
+use Rattle.log.specs.Commit.{Sheet}
 use Rattle.log.specs.Plan.{Plan, newsOf, nodeAt, opsOf, spareBlocks, stuck, isEmpty}
 use Rattle.log.specs.Admissible.{Admissible, Assigned, Assignment, Target, contentsOf, inPage, planFrom, unwritten, writtenOf}
 use Rattle.log.specs.Policy.{Decision, decide, planOf, planBy}
-use Rattle.log.proofs.AssignedChoice.{Chip, Committable, length-writes}
+use Rattle.log.proofs.AssignedChoice.{Chip, Committable}
+use Rattle.log.proofs.CommitBuilt.{length-new}
+use Rattle.log.proofs.KindLaws.{length-ops}
 use Rattle.log.proofs.PlanNodes.{nil-short, some-own}
 use Rattle.log.proofs.AdmissibleLaws.{Safe, imageAfter, nodeAfter, admissible-same, plan-same, written-count}
 use Rattle.log.proofs.PolicyLaws.{Decided, by-plan, decided, fits, no-plan}
 
 -- an erase for each block, three operations for each page
 pub length-plan : (g : Geometry) (c : ℕ) (q : Plan) → length (opsOf g c q) ≡ length (q .erased) + 3 * length (q .written)
-length-plan g c q =
-    length-append (map erase (q .erased)) (flat writesOf (newsOf g c q))
-    ∙ omega (arith, length-map (q .erased) erase, length-writes (newsOf g c q), length-pages (suc c) (length (q .written)) 0 (q .written))
-  where
-    length-pages : (d n k : ℕ) (ts : List Sheet) → length (pagesFrom g d n k ts) ≡ length ts
-    length-pages d n k [] = refl
-    length-pages d n k (t ∷ ts) = ap suc (length-pages d n (suc k) ts)
+length-plan g c q = length-ops (q .erased) (newsOf g c q) ∙ omega (arith, length-new g (suc c) (length (q .written)) 0 (q .written))
 
 -- ---- with a unit there is something to write, so a plan that is not stuck has a page
 page-some : (ts : List Sheet) → 0 < length ts → isEmpty ts ≡ false

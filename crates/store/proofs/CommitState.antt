@@ -3,22 +3,28 @@ use mathlib.Core.Path.{_≡_, refl, sym, ap, subst, _∙_}
 use mathlib.Core.Logic.{_⊎_, inl, inr, ⊎-elim}
 use mathlib.Core.Bool.{Bool, true, false, cond, not, _&&_}
 use mathlib.Core.List.{List, [], _∷_}
-use Prim.Native.Nat.{ℕ, zero, suc, _+_, _*_, _≤_, _<_, min}
+use Prim.Native.Nat.{ℕ, zero, suc, _+_, _*_, _^_, _≤_, _<_, min}
 use native.Mathlib.Omega.{arith}
 use lib.Dec.{ltb, eqb}
-use lib.ListN.{length, getD}
+use lib.ListN.{length, getD, length-map}
 use borrow.Author.Tests.{ne-eqb, lt-ltb, le-ltb, le-leb, ltb-true, ltb-false}
 use Rattle.lists.proofs.Tests.{clash}
 use Rattle.chip.specs.declared.power.Power.the-variants.{Left}
+use Rattle.chip.specs.declared.progress.Counts.{Counts}
+use Rattle.chip.specs.declared.progress.Progress.{Progress}
 use Rattle.chip.specs.Geometry.{small}
-use Rattle.chip.specs.Power.{done, isGone, takesEffect}
-use Rattle.chip.specs.Chip.{Legal, Machine, pagesOf, run}
-use Rattle.chip.proofs.Runs.{run-parts}
+use Rattle.chip.specs.Power.{isGone, takesEffect}
+use Rattle.chip.specs.Counts.{countsOf, nothing, total}
+use Rattle.chip.specs.Chip.{Op, Legal, Machine, kindOf, kindsOf, pagesOf, run}
+use Rattle.chip.specs.RunCode.{atStart}
+use Rattle.chip.proofs.CountLaws.{told-sum, wholes-none}
+use Rattle.chip.proofs.Runs.{ran-told, ran-total, run-gone, run-parts}
 use Rattle.views.specs.Table.{Node}
 use Rattle.views.specs.Groups.{Distinct}
-use Rattle.log.specs.Commit.{groupsOf}
+use Rattle.log.specs.Commit.{commitOps, groupsOf}
 use Rattle.log.specs.Plan.{Plan, opsOf, spareBlocks, stuck, isEmpty}
 use Rattle.log.proofs.PlanKept.{chip-small, wide-small, few-small}
+use Rattle.log.proofs.KindLaws.{commit-ops-kinds}
 use Rattle.log.proofs.AdmissibleLaws.{Safe}
 use Rattle.log.proofs.PolicyLaws.{committed, foreign}
 use Rattle.promise.specs.Plain.{Answer, refuses, accepted, commits, firstRefusal}
@@ -28,7 +34,7 @@ use Rattle.promise.specs.Calls.{FirstTests}
 use Rattle.promise.specs.Image.{imageMeaning}
 use Rattle.promise.proofs.Promise.{when-is}
 use Rattle.commits.specs.declared.execute.Ended.{Ended}
-use Rattle.commits.specs.Execute.{Executed, Executes}
+use Rattle.commits.specs.ExecuteCode.{Executed, Executes}
 use Rattle.store.specs.declared.answer.Answer as A
 use Rattle.store.specs.declared.answer.Answer.the-variants.{Accepted, Last, Cut}
 use Rattle.store.specs.declared.state.State.{State}
@@ -38,12 +44,12 @@ use Rattle.store.specs.Answers.{answerOf}
 use Rattle.store.specs.EndingCode.{endedWith}
 use Rattle.store.specs.FreshCode.{committedState}
 use Rattle.store.specs.State.{turnedOff, limitOf, nodesOf, unitsOf, presentOf, Good, Room, commitCount}
-use Rattle.store.specs.Contracts.{index, thePlan, theOps, Commits}
+use Rattle.store.specs.Contracts.{index, thePlan, theOps, toldOf, Commits}
 use Rattle.store.proofs.EndingLaws.{either-end}
 use Rattle.store.proofs.Begun.{Settled, settled-good, settled-state}
 use Rattle.store.proofs.CommitPlan.{length-plan, safe-some}
 use Rattle.store.proofs.CommitGood.{good-chip, good-few, good-ready, good-buffer, good-plannable, good-room, count-none, count-some}
-use Rattle.store.proofs.CommitDone.{after-pages, after-gone, after-done, after-meaning, after-room, after-free, after-rests, after-settled, nextNodes, next-views}
+use Rattle.store.proofs.CommitDone.{all-told, after-pages, after-gone, after-told, after-meaning, after-room, after-free, after-rests, after-settled, nextNodes, next-views}
 
 -- ---- numbers and answers that differ
 other : {Q : Type 0} (m k : ℕ) → (m ≡ k → ⊥) → refuses m ≡ refuses k → Q
@@ -58,6 +64,10 @@ later-idle p c e = rw (le-ltb 0 p (omega arith))
 
 later-low : (pending number : ℕ) → 0 < pending → number < 4294967295 → Plain.when 6 (ltb 0 pending && eqb number 4294967295) ≡ 0
 later-low p c h l = rw (lt-ltb 0 p h, ne-eqb c 4294967295 (λ e. omega arith))
+
+-- of no operations none is told
+none-told : (n : ℕ) → nothing ≡ toldOf n []
+none-told n = ap countsOf (sym (wholes-none (Left n)))
 
 -- a commit whose operations are all done counts
 all-done : (t n m : ℕ) → m ≤ n → takesEffect t n m ≡ true
@@ -80,7 +90,7 @@ module _ (n : ℕ) (torn : List ℕ) (s : State) (i : List ℕ) where
   not-begun : (a : A.Answer) → FirstTests small (index small) (commits n (length i) (length torn)) s i (answerOf a) s i
       → P.acceptsOr (2 ∷ 1 ∷ 6 ∷ 10 ∷ []) (answerOf a) ≡ true → (answerOf a ≡ refuses 10 → ⊥)
       → (first ≡ 0 → (m : ℕ) → later ≡ suc m → answerOf a ≡ refuses (suc m)) → (first ≡ 0 → s .pending ≡ 0 → answerOf a ≡ accepted) → (Begins → ⊥)
-      → Commits n torn s i (record { answer = a; ops = 0; state = s }) i
+      → Commits n torn s i (record { answer = a; ops = nothing; state = s }) i
   not-begun a tests kind d l idle never =
       record {
         says = record {
@@ -100,6 +110,9 @@ module _ (n : ℕ) (torn : List ℕ) (s : State) (i : List ℕ) where
           done = λ c. absurd (never c);
           cut = λ c. absurd (never c);
         };
+        kinds = λ c. absurd (never c);
+        spent = λ e. absurd (d e);
+        twice = λ e. refl;
         bytes = λ c. absurd (never c);
         legal = λ c. absurd (never c);
         once = λ c. absurd (never c);
@@ -125,7 +138,7 @@ module _ (n : ℕ) (torn : List ℕ) (s : State) (i : List ℕ) where
 
   -- refused by 2, 1 or 6
   refused-by : (x y : ℕ) → first ≡ x → later ≡ y → (a : A.Answer) → answerOf a ≡ answerFor (Plain.orElse x y) → 0 < Plain.orElse x y
-      → Commits n torn s i (record { answer = a; ops = 0; state = s }) i
+      → Commits n torn s i (record { answer = a; ops = nothing; state = s }) i
   refused-by (suc k) y f l a e h =
       let low = low-first (not (s .on)) (not (Plain.isChipSize small (length i) && (Plain.isTornSize small (length torn) && Plain.hasBlocks small (s .blocks) (length i)))) k f in
       not-begun a
@@ -142,7 +155,7 @@ module _ (n : ℕ) (torn : List ℕ) (s : State) (i : List ℕ) where
   refused-by zero zero f l a e h = absurd (omega arith)
 
   pub commit-refused : (a : A.Answer) → answerOf a ≡ answerFor (commitTests small (s .on) (s .blocks) (s .pending) (s .commit) (length i) (length torn))
-      → 0 < commitTests small (s .on) (s .blocks) (s .pending) (s .commit) (length i) (length torn) → Commits n torn s i (record { answer = a; ops = 0; state = s }) i
+      → 0 < commitTests small (s .on) (s .blocks) (s .pending) (s .commit) (length i) (length torn) → Commits n torn s i (record { answer = a; ops = nothing; state = s }) i
   commit-refused a e h = refused-by first later refl refl a e h
 
   -- ---- they pass
@@ -152,13 +165,13 @@ module _ (n : ℕ) (torn : List ℕ) (s : State) (i : List ℕ) where
     tests a s' i' h k z = record { refused = λ m e. absurd (omega arith); not1 = λ p. h; not2 = λ p. k; sameSize = z }
 
     -- nothing is pending
-    pub commit-idle : s .pending ≡ 0 → Commits n torn s i (record { answer = Accepted; ops = 0; state = s }) i
+    pub commit-idle : s .pending ≡ 0 → Commits n torn s i (record { answer = Accepted; ops = nothing; state = s }) i
     commit-idle h =
         not-begun Accepted (tests accepted s i (λ e. not-refused 1 e) (λ e. not-refused 2 e) refl) refl (λ e. not-refused 10 e)
         (λ p m e. absurd (omega (arith, later-idle (s .pending) (s .commit) h))) (λ p q. refl) (λ c. omega (arith, c .pending))
 
     -- more units than the buffer of a good state holds
-    pub commit-full : 0 < s .pending → s .commit < 4294967295 → 960 < s .count → Commits n torn s i (record { answer = Last; ops = 0; state = s }) i
+    pub commit-full : 0 < s .pending → s .commit < 4294967295 → 960 < s .count → Commits n torn s i (record { answer = Last; ops = nothing; state = s }) i
     commit-full h low many =
         not-begun Last (tests (refuses 6) s i (λ e. other 6 1 (λ u. omega arith) e) (λ e. other 6 2 (λ u. omega arith) e) refl) refl (λ e. other 6 10 (λ u. omega arith) e)
         (λ p m e. absurd (omega (arith, later-low (s .pending) (s .commit) h low))) (λ p q. absurd (omega arith)) (λ c. omega (arith, good-few s i (c .good)))
@@ -166,7 +179,12 @@ module _ (n : ℕ) (torn : List ℕ) (s : State) (i : List ℕ) where
     -- ---- the plan is executed
     module _ (pending : 0 < s .pending) (number : s .commit < 4294967295) (size : length torn ≡ 528) (slots : length (s .slots) ≡ 1024)
         (bytes : (j : ℕ) → getD i j 0 < 256) (i' lens' slots' : List ℕ) (e : Ended)
-        (x : Executes (8 * s .blocks) (s .blocks) (s .lens) (s .slots) (s .count) (s .buffer) (s .commit) torn (Left n) i i' (s .lens) (s .slots) lens' slots' e) where
+        (low : n < 2 ^ 32) (p : Progress) (from : p ≡ atStart n)
+        (begins : Executes (8 * s .blocks) (s .blocks) (s .lens) (s .slots) (s .count) (s .buffer) (s .commit) torn p i i' (s .lens) (s .slots) lens' slots' e) where
+      x : Executes (8 * s .blocks) (s .blocks) (s .lens) (s .slots) (s .count) (s .buffer) (s .commit) torn (atStart n) i i' (s .lens) (s .slots) lens' slots' e
+      x =
+          subst (λ (q : Progress). Executes (8 * s .blocks) (s .blocks) (s .lens) (s .slots) (s .count) (s .buffer) (s .commit) torn q i i' (s .lens) (s .slots) lens' slots' e) from begins
+
       later-none : later ≡ 0
       later-none = later-low (s .pending) (s .commit) pending number
 
@@ -213,7 +231,7 @@ module _ (n : ℕ) (torn : List ℕ) (s : State) (i : List ℕ) where
             ∙ sym (ap (λ os. run small torn (record { power = Left n; pages = pagesOf small i }) os .pages) (no-ops g)
             ∙ ap (λ (m : Machine). m .pages) (run-parts small torn n (pagesOf small i) []))
 
-        pub commit-stuck : Commits n torn s i (record { answer = Last; ops = 0; state = s }) i'
+        pub commit-stuck : Commits n torn s i (record { answer = Last; ops = nothing; state = s }) i'
         commit-stuck =
             record {
               says = record {
@@ -233,6 +251,9 @@ module _ (n : ℕ) (torn : List ℕ) (s : State) (i : List ℕ) where
                 done = λ c b. no-plan (c .good) b;
                 cut = λ c b. no-plan (c .good) b;
               };
+              spent = λ e. other 6 10 (λ u. omega arith) e;
+              twice = λ e. not-refused 6 (sym e);
+              kinds = λ c. none-told n ∙ ap (toldOf n) (sym (no-ops (c .good)));
               bytes = λ c. run-none (c .good);
               legal = λ c. subst (λ (q : Plan). Legal small (pagesOf small i) (opsOf small (s .commit) q)) (sym (is-stuck (c .good))) tt;
               once = λ c. subst (λ (q : Plan). Distinct (groupsOf (q .written))) (sym (is-stuck (c .good))) tt;
@@ -245,11 +266,29 @@ module _ (n : ℕ) (torn : List ℕ) (s : State) (i : List ℕ) where
 
       -- ---- the plan has pages
       module _ (st : e .stuck ≡ false) where
-        by-plan : Good small s i → Executed (limitOf s) (s .commit) (nodesOf small s i) (thePlan s i) torn (Left n) i i' lens' slots' (e .left)
+        by-plan : Good small s i → Executed (limitOf s) (s .commit) (nodesOf small s i) (thePlan s i) torn (atStart n) i i' lens' slots' (e .reached)
         by-plan g = x .is (nodesOf small s i) (unitsOf s) (good-plannable s i g bytes slots pending number) refl refl st
 
         run-is : Good small s i → pagesOf small i' ≡ run small torn (record { power = Left n; pages = pagesOf small i }) (theOps s i) .pages
-        run-is g = after-pages n torn s i i' lens' slots' (e .left) g (by-plan g)
+        run-is g = after-pages n torn s i i' lens' slots' (e .reached) g (by-plan g)
+
+        -- on any state, what was done
+        abbrev ops : List Op
+        ops = commitOps (x .some st .0) (x .some st .1)
+
+        ops-gone : isGone (e .reached .left) ≡ ltb n (length ops)
+        ops-gone = ap (λ (m : Machine). isGone (m .power)) (x .some st .2 .is) ∙ run-gone small torn n (pagesOf small i) ops
+
+        spent : isGone (e .reached .left) ≡ true → total (e .reached .done) ≡ n
+        spent t =
+            let l : n < length ops = ltb-true n (length ops) (sym ops-gone ∙ t) in
+            omega (arith, ran-total small torn n ops (e .reached) i i' low (x .some st .2))
+
+        twice : isGone (e .reached .left) ≡ false → e .reached .done .marks ≡ 2 * e .reached .done .programs
+        twice t =
+            let q = ran-told small torn n ops (e .reached) i i' low (x .some st .2) ∙ all-told n ops (ltb-false n (length ops) (sym ops-gone ∙ t))
+            ∙ commit-ops-kinds (x .some st .0) (x .some st .1) in
+            ap (λ (d : Counts). d .marks) q ∙ sym (ap (λ (d : Counts). 2 * d .programs) q)
 
         not-stuck : {Q : Type 0} (g : Good small s i) → thePlan s i ≡ stuck → Q
         not-stuck g q =
@@ -268,22 +307,25 @@ module _ (n : ℕ) (torn : List ℕ) (s : State) (i : List ℕ) where
         most : Good small s i → commitCount small s i ≤ 389
         most g = rw need (few-small (s .blocks) (length (theOps s i)) (good-chip s i g .most) (secure g .few))
 
-        gone : Good small s i → isGone (e .left) ≡ ltb n (length (theOps s i))
-        gone g = after-gone n torn s i i' lens' slots' (e .left) g (by-plan g)
+        gone : Good small s i → isGone (e .reached .left) ≡ ltb n (length (theOps s i))
+        gone g = after-gone n torn s i i' lens' slots' (e .reached) g (by-plan g)
 
-        told : (g : Good small s i) → done n (e .left) ≡ min n (length (theOps s i))
-        told g = after-done n torn s i i' lens' slots' (e .left) g (by-plan g)
+        kinds-are : (g : Good small s i) → e .reached .done ≡ toldOf n (theOps s i)
+        kinds-are g = after-told n torn s i i' lens' slots' (e .reached) g (by-plan g) low
+
+        told : (g : Good small s i) → total (e .reached .done) ≡ min n (length (theOps s i))
+        told g = ap total (kinds-are g) ∙ told-sum n (kindsOf (theOps s i)) ∙ ap (min n) (length-map (theOps s i) kindOf)
 
         chosen : (g : Good small s i)
             → imageMeaning small i' ≡ cond (takesEffect (getD torn 0 0) n (length (theOps s i))) (P.means (presentOf small s i) (suc (s .commit))) (imageMeaning small i)
-        chosen g = after-meaning n torn s i i' lens' slots' (e .left) g (by-plan g) (secure g)
+        chosen g = after-meaning n torn s i i' lens' slots' (e .reached) g (by-plan g) (secure g)
 
         chosen-count : (g : Good small s i)
             → imageMeaning small i' ≡ cond (takesEffect (getD torn 0 0) n (commitCount small s i)) (P.means (presentOf small s i) (suc (s .commit))) (imageMeaning small i)
         chosen-count g = rw need (chosen g)
 
         room-after : (g : Good small s i) → Room small i → Room small i'
-        room-after g r = after-room n torn s i i' lens' slots' (e .left) g (by-plan g) (secure g) r
+        room-after g r = after-room n torn s i i' lens' slots' (e .reached) g (by-plan g) (secure g) r
 
         -- one of two, by a test
         either : {M : Type 0} (b : Bool) (m u v : M) → m ≡ cond b u v → (m ≡ v) ⊎ (m ≡ u)
@@ -291,10 +333,10 @@ module _ (n : ℕ) (torn : List ℕ) (s : State) (i : List ℕ) where
         either false m u v q = inl q
 
         -- cut
-        commit-cut : isGone (e .left) ≡ true → (ops : ℕ) → ops ≡ done n (e .left) → (off : State) → off ≡ turnedOff s
-            → Commits n torn s i (record { answer = Cut; ops = ops; state = off }) i'
-        commit-cut out ops o off f =
-            subst (λ (y : State). Commits n torn s i (record { answer = Cut; ops = ops; state = y }) i') (sym f)
+        commit-cut : isGone (e .reached .left) ≡ true → (off : State) → off ≡ turnedOff s
+            → Commits n torn s i (record { answer = Cut; ops = e .reached .done; state = off }) i'
+        commit-cut out off f =
+            subst (λ (y : State). Commits n torn s i (record { answer = Cut; ops = e .reached .done; state = y }) i') (sym f)
             (record {
               says = record {
                 first = tests (refuses 10) (turnedOff s) i' (λ e. other 10 1 (λ u. omega arith) e) (λ e. other 10 2 (λ u. omega arith) e) (x .size);
@@ -314,6 +356,9 @@ module _ (n : ℕ) (torn : List ℕ) (s : State) (i : List ℕ) where
                 done = λ c b k. absurd (omega (arith, short (c .good), need));
                 cut = λ c b m. refl;
               };
+              kinds = λ c. kinds-are (c .good);
+              spent = λ e. spent out;
+              twice = λ e. not-refused 10 (sym e);
               bytes = λ c. run-is (c .good);
               legal = λ c. secure (c .good) .legal;
               once = λ c. secure (c .good) .once;
@@ -328,7 +373,7 @@ module _ (n : ℕ) (torn : List ℕ) (s : State) (i : List ℕ) where
             short g = ltb-true n (length (theOps s i)) (sym (gone g) ∙ out)
 
         -- finished
-        module _ (left : isGone (e .left) ≡ false) (bytes' : (j : ℕ) → getD i' j 0 < 256) where
+        module _ (left : isGone (e .reached .left) ≡ false) (bytes' : (j : ℕ) → getD i' j 0 < 256) where
           abbrev after : State
           after = committedState s lens' slots'
 
@@ -336,10 +381,10 @@ module _ (n : ℕ) (torn : List ℕ) (s : State) (i : List ℕ) where
           enough g = ltb-false n (length (theOps s i)) (sym (gone g) ∙ left)
 
           abbrev nodes : Good small s i → List Node
-          nodes g = nextNodes n torn s i i' lens' slots' (e .left) g (by-plan g)
+          nodes g = nextNodes n torn s i i' lens' slots' (e .reached) g (by-plan g)
 
           settled : (g : Good small s i) → Settled after i' (nodes g)
-          settled g = after-settled n torn s i i' lens' slots' (e .left) g (by-plan g) (secure g) (enough g) bytes'
+          settled g = after-settled n torn s i i' lens' slots' (e .reached) g (by-plan g) (secure g) (enough g) bytes'
 
           means-new : (g : Good small s i) → imageMeaning small i' ≡ P.means (presentOf small s i) (suc (s .commit))
           means-new g =
@@ -351,12 +396,12 @@ module _ (n : ℕ) (torn : List ℕ) (s : State) (i : List ℕ) where
           unfolding P.stateOf Plain.committed
           state-new g =
               settled-state after i' (nodes g) (settled g)
-              ∙ rw (next-views n torn s i i' lens' slots' (e .left) g (by-plan g) (secure g), let z : s .commit + 1 ≡ suc (s .commit) = omega arith in z)
+              ∙ rw (next-views n torn s i i' lens' slots' (e .reached) g (by-plan g) (secure g), let z : s .commit + 1 ≡ suc (s .commit) = omega arith in z)
 
-          commit-done : (ops : ℕ) → ops ≡ done n (e .left) → (new : State) → new ≡ committedState s lens' slots'
-              → Commits n torn s i (record { answer = Accepted; ops = ops; state = new }) i'
-          commit-done ops o new f =
-              subst (λ (y : State). Commits n torn s i (record { answer = Accepted; ops = ops; state = y }) i') (sym f)
+          commit-done : (new : State) → new ≡ committedState s lens' slots'
+              → Commits n torn s i (record { answer = Accepted; ops = e .reached .done; state = new }) i'
+          commit-done new f =
+              subst (λ (y : State). Commits n torn s i (record { answer = Accepted; ops = e .reached .done; state = y }) i') (sym f)
               (record {
                 says = record {
                   first = tests accepted after i' (λ e. not-refused 1 e) (λ e. not-refused 2 e) (x .size);
@@ -376,19 +421,22 @@ module _ (n : ℕ) (torn : List ℕ) (s : State) (i : List ℕ) where
                   done = λ c b k. (state-new (c .good), settled-good after i' (nodes (c .good)) (settled (c .good)));
                   cut = λ c b m. absurd (omega (arith, enough (c .good), need));
                 };
+                kinds = λ c. kinds-are (c .good);
+                spent = λ e. not-refused 10 e;
+                twice = λ e. twice left;
                 bytes = λ c. run-is (c .good);
                 legal = λ c. secure (c .good) .legal;
                 once = λ c. secure (c .good) .once;
                 cost = λ c. length-plan small (s .commit) (thePlan s i);
-                pageFree = λ c a. after-free n torn s i i' lens' slots' (e .left) (c .good) (by-plan (c .good)) (secure (c .good)) (enough (c .good));
-                rests = λ c a. after-rests n torn s i i' lens' slots' (e .left) (c .good) (by-plan (c .good)) (secure (c .good)) (enough (c .good));
+                pageFree = λ c a. after-free n torn s i i' lens' slots' (e .reached) (c .good) (by-plan (c .good)) (secure (c .good)) (enough (c .good));
+                rests = λ c a. after-rests n torn s i i' lens' slots' (e .reached) (c .good) (by-plan (c .good)) (secure (c .good)) (enough (c .good));
                 off = λ e. not-refused 10 e;
                 bounds = record { blocks = refl; units = omega arith };
               })
 
         -- either
-        pub commit-ended : ((j : ℕ) → getD i' j 0 < 256) → (r : Wrote) → r ≡ endedWith n (e .left) s (committedState s lens' slots') → Commits n torn s i r i'
+        pub commit-ended : ((j : ℕ) → getD i' j 0 < 256) → (r : Wrote) → r ≡ endedWith (e .reached) s (committedState s lens' slots') → Commits n torn s i r i'
         commit-ended bytes' =
-            either-end n (e .left) s (committedState s lens' slots') (λ (r : Wrote). Commits n torn s i r i')
-            (λ t. commit-cut t (done n (e .left)) refl (turnedOff s) refl)
-            (λ t. commit-done t bytes' (done n (e .left)) refl (committedState s lens' slots') refl)
+            either-end (e .reached) s (committedState s lens' slots') (λ (r : Wrote). Commits n torn s i r i')
+            (λ t. commit-cut t (turnedOff s) refl)
+            (λ t. commit-done t bytes' (committedState s lens' slots') refl)

@@ -2,19 +2,21 @@
 use mathlib.Core.Path.{_≡_, refl, sym, ap, subst, _∙_}
 use mathlib.Core.Bool.{true, false}
 use mathlib.Core.List.{List, [], _∷_}
-use Prim.Native.Nat.{ℕ, zero, suc, _+_, _-_, _*_, _≤_, _<_, min}
+use Prim.Native.Nat.{ℕ, zero, suc, _+_, _-_, _*_, _^_, _≤_, _<_, min}
 use native.Mathlib.Omega.{arith}
 use lib.Dec.{ltb}
 use lib.ListN.{length, getD, replicate}
 use borrow.Author.Tests.{ltb-true, ltb-false}
 use Rattle.lists.specs.Lists.{tab}
 use Rattle.lists.proofs.Flats.{getD-tab}
-use Rattle.chip.specs.declared.power.Power.{Power}
-use Rattle.chip.specs.declared.power.Power.the-variants.{Left}
+use Rattle.chip.specs.declared.progress.Progress.{Progress}
 use Rattle.chip.specs.Geometry.{small, blocksOf}
-use Rattle.chip.specs.Power.{done, isGone}
-use Rattle.chip.specs.Chip.{Legal, pagesOf, Machine, Ran}
+use Rattle.chip.specs.Power.{isGone}
+use Rattle.chip.specs.Counts.{nothing, total}
+use Rattle.chip.specs.Chip.{Legal, pagesOf, Machine}
+use Rattle.chip.specs.RunCode.{atStart, Ran}
 use Rattle.chip.proofs.ImageLaws.{length-pages}
+use Rattle.chip.proofs.Runs.{ran-told, ran-total}
 use Rattle.pages.specs.Steps.{liveFrom}
 use Rattle.views.specs.Nodes.{View, untouched, view}
 use Rattle.views.specs.Table as Views
@@ -23,7 +25,7 @@ use Rattle.views.specs.Stored.{Stores}
 use Rattle.views.proofs.Meanings.{inOrder, Kept}
 use Rattle.log.specs.Format.{formatData, formatOps, formattedBy, formatted, formatTable, formatNode}
 use Rattle.log.specs.Plan.{nodeAt, hasRoom, spareBlocks}
-use Rattle.log.proofs.FormatLaws.{format-legal, format-count, format-pages, format-gone, format-done, format-small, format-order}
+use Rattle.log.proofs.FormatLaws.{format-legal, format-count, format-pages, format-gone, format-small, format-order}
 use Rattle.log.proofs.PlanBlocks.{has-room}
 use Rattle.log.proofs.PlanRoom.{room-first}
 use Rattle.promise.specs.Plain.{Answer, refuses, accepted, formats, firstRefusal, leaf, resting, fresh}
@@ -39,7 +41,7 @@ use Rattle.store.specs.AdmitCode.{Sized}
 use Rattle.store.specs.EndingCode.{endedWith}
 use Rattle.store.specs.FreshCode.{freshState, NextOf}
 use Rattle.store.specs.State.{turnedOff, RoomIn, Room}
-use Rattle.store.specs.Contracts.{index, Formats}
+use Rattle.store.specs.Contracts.{index, toldOf, Formats}
 use Rattle.store.proofs.EndingLaws.{either-end}
 use Rattle.store.proofs.SizeLaws.{first-some, first-none}
 use Rattle.store.proofs.Begun.{Begun, begun-meaning, begun-good, begun-state}
@@ -95,7 +97,7 @@ one-not : {Q : Type 0} (m : ℕ) → m ≡ 1 → m ≡ 0 → Q
 one-not m e h = absurd (omega arith)
 
 pub format-size : (n : ℕ) (torn : List ℕ) (s : State) (i : List ℕ) (b : ℕ) → Sized (length i) (length torn) b → b ≡ 0
-    → Formats n torn s i (record { answer = Size; ops = 0; state = s }) i
+    → Formats n torn s i (record { answer = Size; ops = nothing; state = s }) i
 format-size n torn s i b z h =
     let f : firstRefusal small (s .on) (s .blocks) (formats n (length i) (length torn)) ≡ 1 = first-none (length i) (length torn) b z h in
     record {
@@ -113,14 +115,18 @@ format-size n torn s i b z h =
         done = λ p. one-not _ f p;
         cut = λ p. one-not _ f p;
       };
+      kinds = λ p. one-not _ f p;
       bytes = λ p. one-not _ f p;
       legal = λ p. one-not _ f p;
       off = λ e. let u : _≡_ {A = ℕ} 1 10 = cc in absurd (omega arith);
     }
 
 -- ---- the sizes are right: its operations were done as far as the power went
-module _ (n : ℕ) (torn : List ℕ) (s : State) (i i' : List ℕ) (b : ℕ) (z : Sized (length i) (length torn) b) (pos : 0 < b) (left : Power)
-    (ran : Ran small torn (formatOps small b) (Left n) left i i') where
+module _ (n : ℕ) (torn : List ℕ) (s : State) (i i' : List ℕ) (b : ℕ) (z : Sized (length i) (length torn) b) (pos : 0 < b) (low : n < 2 ^ 32) (p reached : Progress)
+    (from : p ≡ atStart n) (first : Ran small torn (formatOps small b) p reached i i') where
+  ran : Ran small torn (formatOps small b) (atStart n) reached i i'
+  ran = subst (λ (q : Progress). Ran small torn (formatOps small b) q reached i i') from first
+
   passes : firstRefusal small (s .on) (s .blocks) (formats n (length i) (length torn)) ≡ 0
   passes = first-some (length i) (length torn) b z pos
 
@@ -133,11 +139,14 @@ module _ (n : ℕ) (torn : List ℕ) (s : State) (i i' : List ℕ) (b : ℕ) (z 
   pages-are : pagesOf small i' ≡ formattedBy small torn b n (pagesOf small i) .pages
   pages-are = ap (λ (m : Machine). m .pages) (ran .is)
 
-  gone-is : isGone left ≡ ltb n (b + 3)
+  gone-is : isGone (reached .left) ≡ ltb n (b + 3)
   gone-is = ap (λ (m : Machine). isGone (m .power)) (ran .is) ∙ format-gone small torn b n (pagesOf small i)
 
-  done-is : done n left ≡ min n (b + 3)
-  done-is = ap (λ (m : Machine). done n (m .power)) (ran .is) ∙ format-done small torn b n (pagesOf small i)
+  told-is : total (reached .done) ≡ min n (b + 3)
+  told-is = ran-total small torn n (formatOps small b) reached i i' low ran ∙ ap (min n) (format-count small b)
+
+  kinds-are : reached .done ≡ toldOf n (formatOps small (blocksOf small (length i)))
+  kinds-are = ran-told small torn n (formatOps small b) reached i i' low ran ∙ ap (λ (B : ℕ). toldOf n (formatOps small B)) (sym blocks-are)
 
   -- the bytes
   format-bytes : pagesOf small i' ≡ formattedBy small torn (blocksOf small (length i)) n (pagesOf small i) .pages
@@ -160,28 +169,29 @@ module _ (n : ℕ) (torn : List ℕ) (s : State) (i i' : List ℕ) (b : ℕ) (z 
       record { refused = λ m e. absurd (omega (arith, passes, e)); not1 = λ p. h; not2 = λ p. k; sameSize = ran .size }
 
   -- cut
-  format-cut : isGone left ≡ true → (ops : ℕ) → ops ≡ done n left → (off : State) → off ≡ turnedOff s
-      → Formats n torn s i (record { answer = A.Cut; ops = ops; state = off }) i'
-  format-cut g ops o off f =
+  format-cut : isGone (reached .left) ≡ true → (off : State) → off ≡ turnedOff s
+      → Formats n torn s i (record { answer = A.Cut; ops = reached .done; state = off }) i'
+  format-cut g off f =
       let l : n < b + 3 = ltb-true n (b + 3) (sym gone-is ∙ g) in
-      subst (λ (x : State). Formats n torn s i (record { answer = A.Cut; ops = ops; state = x }) i') (sym f)
+      subst (λ (x : State). Formats n torn s i (record { answer = A.Cut; ops = reached .done; state = x }) i') (sym f)
       (record {
         says = record {
           first = tests (refuses 10) (turnedOff s) (λ e. let u : _≡_ {A = ℕ} 10 1 = cc in omega arith) (λ e. let u : _≡_ {A = ℕ} 10 2 = cc in omega arith);
           range = refl;
           quiet = λ k e d. absurd (d (let u : k ≡ 10 = cc in u));
           few = λ p. few-ops;
-          power = λ p. record { enough = λ m. absurd (omega (arith, need-is)); short = λ m. (refl, omega (arith, done-is)) };
+          power = λ p. record { enough = λ m. absurd (omega (arith, need-is)); short = λ m. (refl, omega (arith, told-is)) };
           done = λ p m. absurd (omega (arith, need-is));
           cut = λ p m. refl;
         };
+        kinds = λ p. kinds-are;
         bytes = λ p. format-bytes;
         legal = λ p. format-allowed;
         off = λ e. refl;
       })
 
   -- ---- finished
-  module _ (g : isGone left ≡ false) (bytes : (j : ℕ) → getD i' j 0 < 256) (buffer : List ℕ) where
+  module _ (g : isGone (reached .left) ≡ false) (bytes : (j : ℕ) → getD i' j 0 < 256) (buffer : List ℕ) where
     enough : b + 3 ≤ n
     enough = ltb-false n (b + 3) (sym gone-is ∙ g)
 
@@ -230,28 +240,29 @@ module _ (n : ℕ) (torn : List ℕ) (s : State) (i i' : List ℕ) (b : ℕ) (z 
     meaning-is : imageMeaning small i' ≡ P.means (leaf (blocksOf small (length i))) 1
     meaning-is = begun-meaning (freshState b buffer) i' (formatTable (8 * b)) begun ∙ rw (blocks-are, format-views b pos)
 
-    format-finished : (ops : ℕ) → ops ≡ done n left → (new : State) → new ≡ freshState b buffer
-        → Formats n torn s i (record { answer = Accepted; ops = ops; state = new }) i'
-    format-finished ops o new f =
-        subst (λ (x : State). Formats n torn s i (record { answer = Accepted; ops = ops; state = x }) i') (sym f)
+    format-finished : (new : State) → new ≡ freshState b buffer
+        → Formats n torn s i (record { answer = Accepted; ops = reached .done; state = new }) i'
+    format-finished new f =
+        subst (λ (x : State). Formats n torn s i (record { answer = Accepted; ops = reached .done; state = x }) i') (sym f)
         (record {
           says = record {
             first = tests accepted (freshState b buffer) (λ e. let u : _≡_ {A = ℕ} 0 1 = cc in omega arith) (λ e. let u : _≡_ {A = ℕ} 0 1 = cc in omega arith);
             range = refl;
             quiet = λ k e d. let u : _≡_ {A = ℕ} 0 1 = cc in absurd (omega arith);
             few = λ p. few-ops;
-            power = λ p. record { enough = λ m. (refl, omega (arith, done-is, enough, need-is)); short = λ m. absurd (omega (arith, need-is, enough)) };
+            power = λ p. record { enough = λ m. (refl, omega (arith, told-is, enough, need-is)); short = λ m. absurd (omega (arith, need-is, enough)) };
             done = λ p m. (state-is, meaning-is, begun-good (freshState b buffer) i' (formatTable (8 * b)) begun, format-room);
             cut = λ p m. absurd (omega (arith, need-is, enough));
           };
+          kinds = λ p. kinds-are;
           bytes = λ p. format-bytes;
           legal = λ p. format-allowed;
           off = λ e. let u : _≡_ {A = ℕ} 0 1 = cc in absurd (omega arith);
         })
 
   -- either
-  pub format-ended : ((j : ℕ) → getD i' j 0 < 256) → (buffer : List ℕ) (r : Wrote) → r ≡ endedWith n left s (freshState b buffer) → Formats n torn s i r i'
+  pub format-ended : ((j : ℕ) → getD i' j 0 < 256) → (buffer : List ℕ) (r : Wrote) → r ≡ endedWith reached s (freshState b buffer) → Formats n torn s i r i'
   format-ended bytes buffer =
-      either-end n left s (freshState b buffer) (λ (r : Wrote). Formats n torn s i r i')
-      (λ t. format-cut t (done n left) refl (turnedOff s) refl)
-      (λ t. format-finished t bytes buffer (done n left) refl (freshState b buffer) refl)
+      either-end reached s (freshState b buffer) (λ (r : Wrote). Formats n torn s i r i')
+      (λ t. format-cut t (turnedOff s) refl)
+      (λ t. format-finished t bytes buffer (freshState b buffer) refl)

@@ -6,6 +6,7 @@ use mathlib.Core.List.{List}
 use Prim.Native.Nat.{ℕ}
 use lib.ListN.{length}
 use Rattle.lists.proofs.Tests.{clash}
+use Rattle.chip.specs.Counts.{total}
 use Rattle.chip.specs.Geometry.{small, blocksOf}
 use Rattle.tree.specs.Tree.{Table}
 use Rattle.promise.specs.Plain.{accepted, leaf}
@@ -33,7 +34,7 @@ use Rattle.store.proofs.StartTree.{mounted-tree}
 -- a step of the code that was lent the one image whole
 abbrev pub stepped : Call → (torn : List ℕ) → State → (image : List ℕ) → Stepped → (left : List ℕ) → Step (index small)
 stepped call torn s i r i' =
-    record { act = actOf call torn; given = s; lent = i; left = i'; answer = answerOf (r .answer); ops = r .ops; state = r .state; image = i' }
+    record { act = actOf call torn; given = s; lent = i; left = i'; answer = answerOf (r .answer); ops = total (r .ops); state = r .state; image = i' }
 
 -- it is a step of a list: a mount or a format from any state, another call from the state at hand
 pub step-takes : (H : State → Type 0) (call : Call) (torn : List ℕ) (s : State) (i : List ℕ) (r : Stepped) (i' : List ℕ) → StepsBy call torn s i r i'

@@ -2,7 +2,9 @@
 use mathlib.Core.Path.{refl}
 use mathlib.Core.List.{List, [], _∷_, map}
 use Prim.Native.Nat.{ℕ}
+use Rattle.chip.specs.declared.progress.Counts.{Counts}
 use Rattle.chip.specs.Geometry.{small}
+use Rattle.chip.specs.Counts.{nothing}
 use Rattle.tree.specs.Tree.{Table}
 use Rattle.promise.specs.Steps.{Hands, Only, Runs, Started, Uncut, starts, Agrees}
 use Rattle.store.specs.declared.answer.Answer.{Answer}
@@ -22,7 +24,7 @@ use Rattle.store.proofs.IndexPromise.{index-promise}
 -- ---- one call: what it ensures is a step, lent the one image whole
 module _ (p : Parts) (torn i i' : List ℕ) where
   -- a step from these parts
-  abbrev pub stepTo : Call → Answer → ℕ → Parts → LentStep
+  abbrev pub stepTo : Call → Answer → Counts → Parts → LentStep
   stepTo c a ops p' = record { call = c; torn = torn; given = p; lent = i; left = i'; answer = a; ops = ops; after = p'; image = i' }
 
   -- a format or a mount leaves the buffer
@@ -47,7 +49,7 @@ module _ (p : Parts) (torn i i' : List ℕ) where
 module _ (p : Parts) (torn i : List ℕ) where
   -- an update leaves the node table
   abbrev pub updatedStep : Call → UpdatedParts → (buffer' : List ℕ) → LentStep
-  updatedStep c r buffer' = stepTo p torn i i c (r .answer) 0 (record { numbers = r .numbers; buffer = buffer'; lens = p .lens; slots = p .slots })
+  updatedStep c r buffer' = stepTo p torn i i c (r .answer) nothing (record { numbers = r .numbers; buffer = buffer'; lens = p .lens; slots = p .slots })
 
   pub insert-step : (k v : ℕ) (r : UpdatedParts) (buffer' : List ℕ)
       → Inserts k v (joined (p .numbers) (p .buffer) (p .lens) (p .slots)) i (updatedWith r buffer' (p .lens) (p .slots))
@@ -60,7 +62,7 @@ module _ (p : Parts) (torn i : List ℕ) where
   delete-step k r buffer' h = record { says = h; ops = refl; image = refl }
 
   pub look-up-step : (k : ℕ) (r : Look) → Looks k (joined (p .numbers) (p .buffer) (p .lens) (p .slots)) i r
-      → Meets (LookUp k) (stepTo p torn i i (LookUp k) (answerIn r) 0 p)
+      → Meets (LookUp k) (stepTo p torn i i (LookUp k) (answerIn r) nothing p)
   look-up-step k r h = record { look = r; says = h; is = refl; image = refl }
 
 -- ---- a list

@@ -24,3 +24,4 @@ pub mod IndexPromise
 pub mod PartLaws
 pub mod LentLists
 pub mod RunsToLaws
+pub mod KindsTold

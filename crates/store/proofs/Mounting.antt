@@ -2,7 +2,7 @@
 use mathlib.Core.Path.{_≡_, refl, sym, ap, subst, _∙_}
 use mathlib.Core.Bool.{Bool, true, false, cond}
 use mathlib.Core.List.{List, [], _∷_, _++_, append-assoc}
-use Prim.Native.Nat.{ℕ, suc, _+_, _*_, _≤_, _<_, min}
+use Prim.Native.Nat.{ℕ, suc, _+_, _*_, _^_, _≤_, _<_, min}
 use native.Mathlib.Omega.{arith}
 use lib.Dec.{eqb, ltb}
 use lib.ListN.{length, getD, length-append}
@@ -11,14 +11,16 @@ use Rattle.lists.specs.Lists.{All, none, more, At, filter}
 use Rattle.lists.proofs.Tests.{cases}
 use Rattle.lists.proofs.Alls.{All-filter}
 use Rattle.lists.proofs.Places.{at-seam}
-use Rattle.chip.specs.declared.power.Power as W
+use Rattle.chip.specs.declared.progress.Progress.{Progress}
 use Rattle.chip.specs.declared.power.Power.the-variants.{Left}
 use Rattle.chip.specs.Geometry.{Geometry, small, blocksOf}
-use Rattle.chip.specs.Power.{done, isGone}
+use Rattle.chip.specs.Power.{isGone}
+use Rattle.chip.specs.Counts.{nothing, total}
 use Rattle.chip.specs.Page.{Page, isLive}
-use Rattle.chip.specs.Chip.{Machine, machine, run, Ran, pagesOf}
+use Rattle.chip.specs.Chip.{Op, Machine, run, pagesOf}
+use Rattle.chip.specs.RunCode.{atStart, machine, Ran}
 use Rattle.chip.proofs.Runs as R
-use Rattle.chip.proofs.Runs.{with-power}
+use Rattle.chip.proofs.Runs.{ran-told, ran-total, with-power}
 use Rattle.pages.specs.Steps.{Live, live, liveFrom, ofCommit, ordered, stand, steps}
 use Rattle.views.specs.Table as Views
 use Rattle.views.specs.Table.{Node}
@@ -26,7 +28,7 @@ use Rattle.views.proofs.ViewLaws.{Apart, apart-filter, apart-live}
 use Rattle.tree.specs.Tree.{Table}
 use Rattle.log.specs.Mount.{mountOps, mountedBy}
 use Rattle.log.specs.Plan.{hasRoom, spareBlocks}
-use Rattle.log.proofs.MountLaws.{mount-legal, mount-keeps, mount-clean, mount-gone, mount-done, image-sized}
+use Rattle.log.proofs.MountLaws.{mount-legal, mount-keeps, mount-clean, mount-gone, image-sized}
 use Rattle.log.proofs.PlanBlocks.{has-room, room-has}
 use Rattle.log.proofs.PlanRoom.{LiveAt, obsoletes, room-marks}
 use Rattle.log.specs.MountCode.{retireOps}
@@ -45,7 +47,7 @@ use Rattle.store.specs.State.{RoomIn, Room}
 use Rattle.store.specs.FreshCode.{NextOf, mountedState}
 use Rattle.store.specs.CheckCode.{marksOf, Read}
 use Rattle.store.specs.EndingCode.{refusedWith, acceptedWith, endedWith}
-use Rattle.store.specs.Contracts.{index, Mounts}
+use Rattle.store.specs.Contracts.{index, toldOf, Mounts}
 use Rattle.store.proofs.EndingLaws.{either-end}
 use Rattle.store.proofs.SizeLaws.{admitted, not-admitted}
 use Rattle.store.proofs.MarkCount.{marks-few}
@@ -80,7 +82,7 @@ module _ (allowance : ℕ) (torn : List ℕ) (s : State) (i : List ℕ) (bytes :
   abbrev first : ℕ
   first = firstRefusal small (s .on) (s .blocks) (mounts allowance (length i) (length torn))
 
-  pub size-mounts : Sized (length i) (length torn) 0 → Mounts allowance torn s i (record { answer = Size; ops = 0; state = s }) i
+  pub size-mounts : Sized (length i) (length torn) 0 → Mounts allowance torn s i (record { answer = Size; ops = nothing; state = s }) i
   size-mounts z =
       let one : first ≡ 1 = not-admitted (length i) (length torn) z in
       let never : first ≡ 0 → ⊥ = λ e. omega arith in
@@ -101,6 +103,7 @@ module _ (allowance : ℕ) (torn : List ℕ) (s : State) (i : List ℕ) (bytes :
           done = λ e K G m l. absurd (never e);
           cut = λ e K G m l. absurd (never e);
         };
+        kinds = λ e K G m. absurd (never e);
         bytes = λ e K G m. absurd (never e);
         legal = mount-legal small (pagesOf small i);
         off = λ e n q. absurd (never e);
@@ -112,7 +115,7 @@ module _ (allowance : ℕ) (torn : List ℕ) (s : State) (i : List ℕ) (bytes :
     passes = admitted b (length i) (length torn) chip long
 
     -- refused for what the image means
-    pub invalid-mounts : (a : Answer) (n : ℕ) → answerOf a ≡ refuses n → 2 < n → isOneOf n (1 ∷ 7 ∷ 8 ∷ 9 ∷ 10 ∷ []) ≡ true → imageMeaning small i ≡ invalid n → Mounts allowance torn s i (refusedWith a 0 s) i
+    pub invalid-mounts : (a : Answer) (n : ℕ) → answerOf a ≡ refuses n → 2 < n → isOneOf n (1 ∷ 7 ∷ 8 ∷ 9 ∷ 10 ∷ []) ≡ true → imageMeaning small i ≡ invalid n → Mounts allowance torn s i (refusedWith a nothing s) i
     invalid-mounts a n is low kind m =
         let zero : first ≡ 0 = passes in
         let no : (K : Table) (G : ℕ) → imageMeaning small i ≡ P.means K G → ⊥ = λ K G e. let u : _≡_ {A = ℕ} 0 1 = cc in omega arith in
@@ -133,31 +136,38 @@ module _ (allowance : ℕ) (torn : List ℕ) (s : State) (i : List ℕ) (bytes :
             done = λ e K G q l. absurd (no K G q);
             cut = λ e K G q l. absurd (no K G q);
           };
+          kinds = λ e K G q. absurd (no K G q);
           bytes = λ e K G q. absurd (no K G q);
           legal = mount-legal small (pagesOf small i);
           off = λ e k q. refl;
         }
 
     -- ---- an image that means nodes and G
-    module _ (lens slots : List ℕ) (G v : ℕ) (rd : Read i lens slots G v) (i' : List ℕ) (left : W.Power)
-        (ran : Ran small torn (marksOf v (pagesOf small i)) (Left allowance) left i i') where
+    module _ (lens slots : List ℕ) (G v : ℕ) (rd : Read i lens slots G v) (i' : List ℕ) (low : allowance < 2 ^ 32) (p reached : Progress)
+        (from : p ≡ atStart allowance) (begins : Ran small torn (marksOf v (pagesOf small i)) p reached i i') where
+      ran : Ran small torn (marksOf v (pagesOf small i)) (atStart allowance) reached i i'
+      ran = subst (λ (q : Progress). Ran small torn (marksOf v (pagesOf small i)) q reached i i') from begins
+
       abbrev ps : List Page
       ps = pagesOf small i
 
       abbrev limit : ℕ
       limit = 8 * blocksOf small (length i)
 
-      is-mounted : machine small left i' ≡ mountedBy small torn allowance ps
+      is-mounted : machine small (reached .left) i' ≡ mountedBy small torn allowance ps
       is-mounted = ran .is ∙ ap (run small torn (machine small (Left allowance) i)) (sym (rd .marks))
 
       pages-are : pagesOf small i' ≡ mountedBy small torn allowance ps .pages
       pages-are = ap (λ (m : Machine). m .pages) is-mounted
 
-      gone-is : isGone left ≡ ltb allowance (length (mountOps small ps))
+      gone-is : isGone (reached .left) ≡ ltb allowance (length (mountOps small ps))
       gone-is = ap (λ (m : Machine). isGone (m .power)) is-mounted ∙ mount-gone small torn allowance ps
 
-      done-is : done allowance left ≡ min allowance (length (mountOps small ps))
-      done-is = ap (λ (m : Machine). done allowance (m .power)) is-mounted ∙ mount-done small torn allowance ps
+      told-is : total (reached .done) ≡ min allowance (length (mountOps small ps))
+      told-is = ran-total small torn allowance (marksOf v ps) reached i i' low ran ∙ ap (λ (os : List Op). min allowance (length os)) (sym (rd .marks))
+
+      kinds-are : reached .done ≡ toldOf allowance (mountOps small ps)
+      kinds-are = ran-told small torn allowance (marksOf v ps) reached i i' low ran ∙ ap (toldOf allowance) (sym (rd .marks))
 
       sizes : All (R.Sized small) ps
       sizes = image-sized i b (chip .size)
@@ -207,11 +217,11 @@ module _ (allowance : ℕ) (torn : List ℕ) (s : State) (i : List ℕ) (bytes :
       never-invalid n e = let m = means-is in let u : _≡_ {A = ℕ} 0 1 = cc in omega arith
 
       -- ---- cut
-      cut-mounts : (n : ℕ) → n ≡ done allowance left → isGone left ≡ true → Mounts allowance torn s i (refusedWith Cut n s) i'
-      cut-mounts n e g =
+      cut-mounts : isGone (reached .left) ≡ true → Mounts allowance torn s i (refusedWith Cut (reached .done) s) i'
+      cut-mounts g =
           let zero : first ≡ 0 = passes in
           let short : allowance < length (mountOps small ps) = ltb-true allowance (length (mountOps small ps)) (sym gone-is ∙ g) in
-          let told : n ≡ allowance = omega (arith, done-is) in
+          let told : total (reached .done) ≡ allowance = omega (arith, told-is) in
           record {
             says = record {
               first = record {
@@ -229,13 +239,14 @@ module _ (allowance : ℕ) (torn : List ℕ) (s : State) (i : List ℕ) (bytes :
               done = λ q K H m l. absurd (omega arith);
               cut = λ q K H m l. refl;
             };
+            kinds = λ q K H m. kinds-are;
             bytes = λ q K H m. pages-are;
             legal = mount-legal small (pagesOf small i);
             off = λ q k r. refl;
           }
 
       -- ---- finished
-      module _ (bytes' : (j : ℕ) → getD i' j 0 < 256) (next : ℕ) (nx : NextOf (8 * b) lens next) (buffer : List ℕ) (g : isGone left ≡ false) where
+      module _ (bytes' : (j : ℕ) → getD i' j 0 < 256) (next : ℕ) (nx : NextOf (8 * b) lens next) (buffer : List ℕ) (g : isGone (reached .left) ≡ false) where
         enough : length (mountOps small ps) ≤ allowance
         enough = ltb-false allowance (length (mountOps small ps)) (sym gone-is ∙ g)
 
@@ -271,11 +282,11 @@ module _ (allowance : ℕ) (torn : List ℕ) (s : State) (i : List ℕ) (bytes :
             let q : G ≡ H = cc in
             begun-state st i' (rd .nodes) begun ∙ plain-same (viewsOf (rd .nodes)) K G H b (blocksOf small (length i)) p q (chip .blocks)
 
-        done-mounts : (n : ℕ) → n ≡ done allowance left → Mounts allowance torn s i (acceptedWith n st) i'
-        done-mounts n e =
+        done-mounts : Mounts allowance torn s i (acceptedWith (reached .done) st) i'
+        done-mounts =
             let zero : first ≡ 0 = passes in
             let fits = enough in
-            let told : n ≡ length (mountOps small ps) = omega (arith, done-is) in
+            let told : total (reached .done) ≡ length (mountOps small ps) = omega (arith, told-is) in
             record {
               says = record {
                 first = record {
@@ -293,17 +304,18 @@ module _ (allowance : ℕ) (torn : List ℕ) (s : State) (i : List ℕ) (bytes :
                 done = λ q K H m l. (is-done K H m, begun-good st i' (rd .nodes) begun);
                 cut = λ q K H m l. absurd (omega arith);
               };
+              kinds = λ q K H m. kinds-are;
               bytes = λ q K H m. pages-are;
               legal = mount-legal small (pagesOf small i);
               off = λ q k r. let u : _≡_ {A = ℕ} 0 1 = cc in absurd (omega arith);
             }
 
     -- an image that means nodes and G, marked: the state is made of what was read
-    pub marked-mounts : (lens slots : List ℕ) (G v : ℕ) → Read i lens slots G v → (i' : List ℕ) (left : W.Power)
-        → Ran small torn (marksOf v (pagesOf small i)) (Left allowance) left i i' → ((j : ℕ) → getD i' j 0 < 256)
+    pub marked-mounts : (lens slots : List ℕ) (G v : ℕ) → Read i lens slots G v → (i' : List ℕ) → allowance < 2 ^ 32 → (p reached : Progress) → p ≡ atStart allowance
+        → Ran small torn (marksOf v (pagesOf small i)) p reached i i' → ((j : ℕ) → getD i' j 0 < 256)
         → (next : ℕ) → NextOf (8 * b) lens next → (buffer : List ℕ) (r : Wrote)
-        → r ≡ endedWith allowance left s (mountedState b G next buffer lens slots) → Mounts allowance torn s i r i'
-    marked-mounts lens slots G v rd i' left ran bytes' next nx buffer =
-        either-end allowance left s (mountedState b G next buffer lens slots) (λ (r : Wrote). Mounts allowance torn s i r i')
-        (λ t. cut-mounts lens slots G v rd i' left ran (done allowance left) refl t)
-        (λ t. done-mounts lens slots G v rd i' left ran bytes' next nx buffer t (done allowance left) refl)
+        → r ≡ endedWith reached s (mountedState b G next buffer lens slots) → Mounts allowance torn s i r i'
+    marked-mounts lens slots G v rd i' low p reached from ran bytes' next nx buffer =
+        either-end reached s (mountedState b G next buffer lens slots) (λ (r : Wrote). Mounts allowance torn s i r i')
+        (λ t. cut-mounts lens slots G v rd i' low p reached from ran t)
+        (λ t. done-mounts lens slots G v rd i' low p reached from ran bytes' next nx buffer t)

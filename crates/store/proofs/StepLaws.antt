@@ -3,6 +3,7 @@ use mathlib.Core.Path.{_≡_, refl, sym, subst}
 use mathlib.Core.List.{List}
 use Prim.Native.Nat.{ℕ}
 use Rattle.chip.specs.Geometry.{small}
+use Rattle.chip.specs.Counts.{total}
 use Rattle.promise.specs.Calls as C
 use Rattle.promise.specs.Plain as Plain
 use Rattle.promise.specs.Steps as P
@@ -34,7 +35,7 @@ same-image : (P : List ℕ → Type 0) (i i' : List ℕ) → i' ≡ i → P i �
 same-image P i i' e h = subst P (sym e) h
 
 abbrev AllowedBy : Call → List ℕ → State → List ℕ → Stepped → List ℕ → Type 0
-AllowedBy call torn s i r i' = Allowed small (index small) (actOf call torn) s i (answerOf (r .answer)) (r .ops) (r .state) i'
+AllowedBy call torn s i r i' = Allowed small (index small) (actOf call torn) s i (answerOf (r .answer)) (total (r .ops)) (r .state) i'
 
 pub step-allowed : (call : Call) (torn : List ℕ) (s : State) (i : List ℕ) (r : Stepped) (i' : List ℕ) → StepsBy call torn s i r i' → AllowedBy call torn s i r i'
 step-allowed (Format n) torn s i r i' h = h .says

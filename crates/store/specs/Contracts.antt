@@ -4,12 +4,14 @@ use mathlib.Core.Bool.{true, false, not}
 use mathlib.Core.List.{List, [], _∷_}
 use Prim.Native.Nat.{ℕ, _+_, _*_, _≤_, max}
 use lib.Dec.{eqb, leb}
-use lib.ListN.{length}
+use lib.ListN.{length, take}
 use Rattle.lists.specs.Lists.{All, any, part, count, first}
 use Rattle.chip.specs.Geometry.{Geometry, small, blocksOf}
 use Rattle.chip.specs.Page.{isFree}
 use Rattle.chip.specs.declared.power.Power.the-variants.{Left}
-use Rattle.chip.specs.Chip.{Op, Legal, pagesOf, run}
+use Rattle.chip.specs.declared.progress.Counts.{Counts}
+use Rattle.chip.specs.Counts.{countsOf, total}
+use Rattle.chip.specs.Chip.{Op, Legal, kindsOf, pagesOf, run}
 use Rattle.views.specs.Groups.{Distinct}
 use Rattle.views.specs.Table as Views
 use Rattle.views.specs.Table.{Node}
@@ -54,19 +56,27 @@ index g =
       able = λ s i. not (isEmpty (planOf g (limitOf s) (s .blocks) (pagesOf g i) (nodesOf g s i) (s .commit) (unitsOf s) .written));
     }
 
--- format: the image's pages are those of a run of its operations, whatever the image was, and each operation is one that the chip
--- allows; with 10 the state is the one given, off
+-- of a list of operations, by kind, those that an allowance of n does whole
+abbrev pub toldOf : ℕ → List Op → Counts
+toldOf n os = countsOf (take n (kindsOf os))
+
+-- format: the operations told by kind; the image's pages are those of a run of its operations, whatever the image was, and each operation
+-- is one that the chip allows; with 10 the state is the one given, off
 pub record Formats (allowance : ℕ) (torn : List ℕ) (s : State) (i : List ℕ) (r : Wrote) (i' : List ℕ) : Type 0 where
-  pub says : P.Format small (index small) allowance torn s i (answerOf (r .answer)) (r .ops) (r .state) i'
+  pub says : P.Format small (index small) allowance torn s i (answerOf (r .answer)) (total (r .ops)) (r .state) i'
+  pub kinds : firstRefusal small (s .on) (s .blocks) (formats allowance (length i) (length torn)) ≡ 0
+      → r .ops ≡ toldOf allowance (formatOps small (blocksOf small (length i)))
   pub bytes : firstRefusal small (s .on) (s .blocks) (formats allowance (length i) (length torn)) ≡ 0
       → pagesOf small i' ≡ formattedBy small torn (blocksOf small (length i)) allowance (pagesOf small i) .pages
   pub legal : firstRefusal small (s .on) (s .blocks) (formats allowance (length i) (length torn)) ≡ 0 → Legal small (pagesOf small i) (formatOps small (blocksOf small (length i)))
   pub off : answerOf (r .answer) ≡ refuses 10 → r .state ≡ turnedOff s
 
--- mount: the image's pages are those of a run of its marks where the image has a meaning, and else as they were; where it is refused
--- with 7, 8, 9 or 10 the state is the one given, off
+-- mount: the operations told by kind; the image's pages are those of a run of its marks where the image has a meaning, and else as they
+-- were; where it is refused with 7, 8, 9 or 10 the state is the one given, off
 pub record Mounts (allowance : ℕ) (torn : List ℕ) (s : State) (i : List ℕ) (r : Wrote) (i' : List ℕ) : Type 0 where
-  pub says : P.Mount small (index small) allowance torn s i (answerOf (r .answer)) (r .ops) (r .state) i'
+  pub says : P.Mount small (index small) allowance torn s i (answerOf (r .answer)) (total (r .ops)) (r .state) i'
+  pub kinds : firstRefusal small (s .on) (s .blocks) (mounts allowance (length i) (length torn)) ≡ 0 → (K : Table) (G : ℕ)
+      → imageMeaning small i ≡ means K G → r .ops ≡ toldOf allowance (mountOps small (pagesOf small i))
   pub bytes : firstRefusal small (s .on) (s .blocks) (mounts allowance (length i) (length torn)) ≡ 0 → (K : Table) (G : ℕ)
       → imageMeaning small i ≡ means K G → pagesOf small i' ≡ mountedBy small torn allowance (pagesOf small i) .pages
   pub legal : Legal small (pagesOf small i) (mountOps small (pagesOf small i))
@@ -128,7 +138,12 @@ theOps s i = opsOf small (s .commit) (thePlan s i)
 
 -- commit: the records of the promise; and of every commit on a good state, with room or without
 pub record Commits (allowance : ℕ) (torn : List ℕ) (s : State) (i : List ℕ) (r : Wrote) (i' : List ℕ) : Type 0 where
-  pub says : P.Commit small (index small) allowance torn s i (answerOf (r .answer)) (r .ops) (r .state) i'
+  pub says : P.Commit small (index small) allowance torn s i (answerOf (r .answer)) (total (r .ops)) (r .state) i'
+  -- the operations told by kind are the first of the plan's
+  pub kinds : P.Committing small (index small) allowance torn s i → r .ops ≡ toldOf allowance (theOps s i)
+  -- on any state and any image: with 10 the counts add up to the allowance, and finished there are two marks for each data program
+  pub spent : answerOf (r .answer) ≡ refuses 10 → total (r .ops) ≡ allowance
+  pub twice : answerOf (r .answer) ≡ accepted → r .ops .marks ≡ 2 * r .ops .programs
   -- the image's pages are those of a run of the plan's operations
   pub bytes : P.Committing small (index small) allowance torn s i → pagesOf small i' ≡ run small torn (record { power = Left allowance; pages = pagesOf small i }) (theOps s i) .pages
   -- a program only where the data is all 255

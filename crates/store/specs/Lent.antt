@@ -3,7 +3,9 @@ use mathlib.Core.Path.{_≡_}
 use mathlib.Core.Bool.{false}
 use mathlib.Core.List.{List, [], _∷_}
 use Prim.Native.Nat.{ℕ}
+use Rattle.chip.specs.declared.progress.Counts.{Counts}
 use Rattle.chip.specs.Geometry.{small}
+use Rattle.chip.specs.Counts.{total}
 use Rattle.promise.specs.Steps.{Step, Lends, Hands, boots}
 use Rattle.store.specs.declared.answer.Answer.{Answer}
 use Rattle.store.specs.declared.state.Numbers.{Numbers}
@@ -33,7 +35,7 @@ pub record LentStep : Type 0 where
   pub lent : List ℕ
   pub left : List ℕ
   pub answer : Answer
-  pub ops : ℕ
+  pub ops : Counts
   pub after : Parts
   pub image : List ℕ
 
@@ -50,7 +52,7 @@ lentStep x =
       lent = x .lent;
       left = x .left;
       answer = answerOf (x .answer);
-      ops = x .ops;
+      ops = total (x .ops);
       state = stateFrom (x .after);
       image = x .image;
     }

@@ -2,6 +2,7 @@
 use mathlib.Core.Path.{_≡_}
 use mathlib.Core.List.{List}
 use Prim.Native.Nat.{ℕ, _<_}
+use Rattle.chip.specs.Counts.{nothing}
 use Rattle.tree.specs.Step6.{top}
 use Rattle.promise.specs.Steps as P
 use Rattle.promise.specs.Steps.{Act}
@@ -40,7 +41,7 @@ abbrev pub ofWrote : Wrote → Stepped
 ofWrote w = record { answer = w .answer; ops = w .ops; state = w .state }
 
 abbrev pub ofUpdated : Updated → Stepped
-ofUpdated u = record { answer = u .answer; ops = 0; state = u .state }
+ofUpdated u = record { answer = u .answer; ops = nothing; state = u .state }
 
 abbrev pub answerIn : Look → A.Answer
 answerIn (Look.Found v n) = Answer.Found v
@@ -49,7 +50,7 @@ answerIn Look.Off = Answer.Off
 answerIn Look.Size = Answer.Size
 
 abbrev pub ofLook : Look → State → Stepped
-ofLook r s = record { answer = answerIn r; ops = 0; state = s }
+ofLook r s = record { answer = answerIn r; ops = nothing; state = s }
 
 -- ---- what a call of each kind ensures: its whole contract
 abbrev pub wroteIn : Stepped → Wrote
@@ -58,7 +59,7 @@ wroteIn r = record { answer = r .answer; ops = r .ops; state = r .state }
 -- an update does no operation and leaves the image
 pub record UpdateSteps (A : Updated → Type 0) (i : List ℕ) (r : Stepped) (i' : List ℕ) : Type 0 where
   pub says : A (record { answer = r .answer; state = r .state })
-  pub ops : r .ops ≡ 0
+  pub ops : r .ops ≡ nothing
   pub image : i' ≡ i
 
 -- a look up gives the state and the image back

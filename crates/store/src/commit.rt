@@ -16,7 +16,7 @@ use crate::state::Numbers;
 use crate::state::State;
 use crate::state::Wrote;
 use crate::state::WroteParts;
-use chip::power::Power;
+use chip::progress;
 use commits::execute;
 use plan::make::Basis;
 
@@ -45,7 +45,7 @@ fn commit_pending(
         blocks: numbers.blocks,
         commit: numbers.commit,
     };
-    let power = Power::Left(allowance);
+    let start = progress::begin(allowance);
     let mut l = *lens;
     let mut s = *slots;
     let all = &slots[..];
@@ -56,19 +56,19 @@ fn commit_pending(
         buffer,
         basis,
         torn,
-        power,
+        start,
         &mut l,
         &mut s,
     );
     if e.stuck {
         return ending::quiet(numbers, Answer::Last);
     }
-    let left = e.left;
+    let reached = e.reached;
     let mut n = numbers;
     n.commit = numbers.commit + 1;
     n.pending = 0;
     n.count = 0;
-    ending::ended(numbers, lens, slots, n, &l, &s, allowance, left)
+    ending::ended(numbers, lens, slots, n, &l, &s, reached)
 }
 
 // Commit on lent arrays: the pending updates committed, with power for `allowance` operations.

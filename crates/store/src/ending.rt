@@ -2,6 +2,8 @@
 ghost use mathlib.Core.Path.{_≡_};
 ghost use mathlib.Core.List.{List};
 ghost use Prim.Native.Nat.{ℕ};
+ghost use Rattle.chip.specs.Counts.{nothing};
+ghost use Rattle.store.specs.declared.answer.Answer.the-variants.{Cut};
 ghost use Rattle.store.specs.EndingCode.{endedWith};
 ghost use Rattle.store.specs.Parts.{joined, numbersOff, wroteWith};
 use crate::answer::Answer;
@@ -9,32 +11,43 @@ use crate::state;
 use crate::state::Numbers;
 use crate::state::WroteParts;
 use chip::power;
-use chip::power::Power;
+use chip::progress;
+use chip::progress::Counts;
+use chip::progress::Progress;
 
 // Nothing done: the numbers are given back as they were.
 pub fn quiet(numbers: Numbers, answer: Answer) -> WroteParts
-    ensures { λ r. ⌜ r ≡ record { answer = answer; ops = 0; numbers = numbers } ⌝ }
+    ensures { λ r. ⌜ r ≡ record { answer = answer; ops = nothing; numbers = numbers } ⌝ }
 {
+    let ops = progress::nothing();
     WroteParts {
         answer,
-        ops: 0,
+        ops,
         numbers,
     }
 }
 
-// Refused: the state is off.
-pub fn refused(numbers: Numbers, answer: Answer, ops: u32) -> WroteParts
-    ensures { λ r. ⌜ r ≡ record { answer = answer; ops = ops; numbers = numbersOff numbers } ⌝ }
+// Refused before any operation: the state is off.
+pub fn refused(numbers: Numbers, answer: Answer) -> WroteParts
+    ensures { λ r. ⌜ r ≡ record { answer = answer; ops = nothing; numbers = numbersOff numbers } ⌝ }
+{
+    let off = state::turned_off(numbers);
+    quiet(off, answer)
+}
+
+// Refused with 10 after these operations: the state is off.
+fn cut(numbers: Numbers, ops: Counts) -> WroteParts
+    ensures { λ r. ⌜ r ≡ record { answer = Cut; ops = ops; numbers = numbersOff numbers } ⌝ }
 {
     let off = state::turned_off(numbers);
     WroteParts {
-        answer,
+        answer: Answer::Cut,
         ops,
         numbers: off,
     }
 }
 
-// After operations that leave the power `left` of `allowance`: all done, the state has the numbers `after` and the node table `new_lens`
+// After operations that came as far as `reached`: all done, the state has the numbers `after` and the node table `new_lens`
 // and `new_slots`; cut, it is the one given, off.
 pub fn ended(
     numbers: Numbers,
@@ -43,16 +56,16 @@ pub fn ended(
     after: Numbers,
     new_lens: &[u32; 256],
     new_slots: &[u32; 1024],
-    allowance: u32,
-    left: Power,
+    reached: Progress,
 ) -> WroteParts
     ensures { λ r. ⌜ ((buffer : List ℕ) → wroteWith r buffer (now (lens .exit)) (now (slots .exit))
-        ≡ endedWith allowance left (joined numbers buffer (now (lens .entry)) (now (slots .entry)))
+        ≡ endedWith reached (joined numbers buffer (now (lens .entry)) (now (slots .entry)))
         (joined after buffer (now («new_lens» .entry)) (now («new_slots» .entry)))) ⌝ }
 {
-    let ops = power::done_of(allowance, left);
+    let left = reached.left;
+    let ops = reached.done;
     if power::gone(left) {
-        return refused(numbers, Answer::Cut, ops);
+        return cut(numbers, ops);
     }
     *lens = *new_lens;
     *slots = *new_slots;

@@ -11,7 +11,7 @@ use crate::state::Numbers;
 use crate::state::State;
 use crate::state::Wrote;
 use crate::state::WroteParts;
-use chip::power::Power;
+use chip::progress;
 use log;
 
 // Format on a lent node table, with power for `allowance` operations: after it the node table has one empty leaf, node 0, on page 0. The
@@ -31,7 +31,8 @@ pub fn format_lent(
     if blocks == 0 {
         return ending::quiet(numbers, Answer::Size);
     }
-    let left = log::format::format(image, blocks, torn, Power::Left(allowance));
+    let start = progress::begin(allowance);
+    let reached = log::format::format(image, blocks, torn, start);
     let fresh = Numbers {
         on: true,
         blocks,
@@ -43,7 +44,7 @@ pub fn format_lent(
     let mut l = [0; 256];
     l[0] = 1;
     let s = [0; 1024];
-    ending::ended(numbers, lens, slots, fresh, &l, &s, allowance, left)
+    ending::ended(numbers, lens, slots, fresh, &l, &s, reached)
 }
 
 // Format on a state by value.

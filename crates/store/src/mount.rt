@@ -4,7 +4,8 @@ ghost use mathlib.Core.List.{List};
 ghost use Prim.Native.Nat.{ℕ, _%_, _≤_};
 ghost use lib.ListN.{length};
 ghost use Rattle.chip.specs.Geometry.{small};
-ghost use Rattle.chip.specs.Chip.{Ran, pagesOf};
+ghost use Rattle.chip.specs.Chip.{pagesOf};
+ghost use Rattle.chip.specs.RunCode.{Ran};
 ghost use Rattle.store.specs.CheckCode.{marksOf};
 ghost use Rattle.store.specs.FreshCode.{NextOf};
 ghost use Rattle.store.specs.Contracts.{Mounts};
@@ -19,7 +20,8 @@ use crate::state::Numbers;
 use crate::state::State;
 use crate::state::Wrote;
 use crate::state::WroteParts;
-use chip::power::Power;
+use chip::progress;
+use chip::progress::Progress;
 use log;
 
 // The next node number, with the lengths as a slice.
@@ -46,14 +48,14 @@ fn next_number(lens: &[u32; 256], limit: u32) -> u32
 }
 
 // The obsolete mark set on each page of the void commit; 0 says that there is none.
-fn retire(image: &mut [u8], void: u32, torn: &[u8], power: Power) -> Power
+fn retire(image: &mut [u8], void: u32, torn: &[u8], progress: Progress) -> Progress
     requires { ⌜ (length (now image) % 528 ≡ 0) × (length (now torn) ≡ 528) ⌝ }
-    ensures { λ r. ⌜ Ran small (now (torn .entry)) (marksOf void (pagesOf small (now (image .entry)))) power r (now (image .entry)) (now (image .exit)) ⌝ }
+    ensures { λ r. ⌜ Ran small (now (torn .entry)) (marksOf void (pagesOf small (now (image .entry)))) progress r (now (image .entry)) (now (image .exit)) ⌝ }
 {
     if void == 0 {
-        return power;
+        return progress;
     }
-    log::mount::retire(image, void, torn, power)
+    log::mount::retire(image, void, torn, progress)
 }
 
 // Mount on a lent node table, with power for `allowance` operations. The buffer's bytes stay, whatever they are.
@@ -75,9 +77,9 @@ pub fn mount_lent(
     let mut l = [0; 256];
     let mut s = [0; 1024];
     match check::check(image, blocks, &mut l, &mut s) {
-        Checked::Blank => ending::refused(numbers, Answer::Blank, 0),
-        Checked::Layout => ending::refused(numbers, Answer::Layout, 0),
-        Checked::Shape => ending::refused(numbers, Answer::Shape, 0),
+        Checked::Blank => ending::refused(numbers, Answer::Blank),
+        Checked::Layout => ending::refused(numbers, Answer::Layout),
+        Checked::Shape => ending::refused(numbers, Answer::Shape),
         Checked::Means(commit, void) => {
             let limit = (8 * blocks) as u32;
             let next = next_number(&l, limit);
@@ -89,8 +91,9 @@ pub fn mount_lent(
                 next,
                 count: 0,
             };
-            let left = retire(image, void, torn, Power::Left(allowance));
-            ending::ended(numbers, lens, slots, mounted, &l, &s, allowance, left)
+            let start = progress::begin(allowance);
+            let reached = retire(image, void, torn, start);
+            ending::ended(numbers, lens, slots, mounted, &l, &s, reached)
         }
     }
 }

@@ -3,6 +3,7 @@ ghost use mathlib.Core.Path.{_≡_};
 ghost use Rattle.store.specs.State.{initial};
 ghost use Rattle.store.specs.Parts.{numbersOf, numbersOff, joined, updatedWith, wroteWith};
 use crate::answer::Answer;
+use chip::progress::Counts;
 
 // On or off, the number of blocks (B), the greatest commit number (G), the pending updates, the next node number, the units of the
 // reservation buffer with their count, and the node table: for each node the length of its list and its pages.
@@ -28,10 +29,10 @@ pub struct Numbers {
     pub count: usize,
 }
 
-// What format, mount and commit give back: the answer, the operations done, the state.
+// What format, mount and commit give back: the answer, the operations done by kind, the state.
 pub struct Wrote {
     pub answer: Answer,
-    pub ops: u32,
+    pub ops: Counts,
     pub state: State,
 }
 
@@ -47,10 +48,10 @@ pub struct UpdatedParts {
     pub numbers: Numbers,
 }
 
-// What format, mount and commit on lent arrays give back: the answer, the operations done, the numbers.
+// What format, mount and commit on lent arrays give back: the answer, the operations done by kind, the numbers.
 pub struct WroteParts {
     pub answer: Answer,
-    pub ops: u32,
+    pub ops: Counts,
     pub numbers: Numbers,
 }
 

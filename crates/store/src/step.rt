@@ -11,6 +11,8 @@ use crate::state::State;
 use crate::state::Updated;
 use crate::state::Wrote;
 use crate::update;
+use chip::progress;
+use chip::progress::Counts;
 
 // A call with its numbers: an allowance; a key and a value; a key.
 pub enum Call {
@@ -25,7 +27,7 @@ pub enum Call {
 // What a call gives back: the answer, the operations told, the state.
 pub struct Stepped {
     pub answer: Answer,
-    pub ops: u32,
+    pub ops: Counts,
     pub state: State,
 }
 
@@ -45,28 +47,22 @@ fn updated(u: Updated) -> Stepped
 {
     let answer = u.answer;
     let state = u.state;
-    Stepped {
-        answer,
-        ops: 0,
-        state,
-    }
+    let ops = progress::nothing();
+    Stepped { answer, ops, state }
 }
 
 // What a look up gives back: the state is as it was.
 fn looked(look: Look, state: State) -> Stepped
     ensures { λ r. ⌜ r ≡ ofLook look state ⌝ }
 {
+    let ops = progress::nothing();
     let answer = match look {
         Look::Found(value, _) => Answer::Found(value),
         Look::Absent(_) => Answer::Absent,
         Look::Off => Answer::Off,
         Look::Size => Answer::Size,
     };
-    Stepped {
-        answer,
-        ops: 0,
-        state,
-    }
+    Stepped { answer, ops, state }
 }
 
 // A call on a lent image: what it ensures is its whole contract.

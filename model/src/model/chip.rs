@@ -1,4 +1,5 @@
 //! The chip of document 01, 'Chip and power': geometry, the three flash operations and their torn effects.
+use super::counts::{Counts, Kind};
 
 /// Data bytes of a page.
 pub const DATA: usize = 512;
@@ -55,6 +56,17 @@ pub enum Operation<'a> {
     Erase(usize),
 }
 
+impl Operation<'_> {
+    /// The kind that the operation is told as.
+    pub fn kind(&self) -> Kind {
+        match self {
+            Operation::Program(..) => Kind::Program,
+            Operation::Mark(..) => Kind::Mark,
+            Operation::Erase(_) => Kind::Erase,
+        }
+    }
+}
+
 /// The whole effect of an operation.
 pub fn done(image: &mut [u8], operation: &Operation) {
     match operation {
@@ -93,14 +105,14 @@ pub fn torn_page(torn: &[u8]) -> [u8; PAGE] {
 pub struct Power<'a> {
     allowance: u32,
     torn: &'a [u8],
-    done: u32,
+    done: Counts,
     gone: bool,
 }
 
 impl<'a> Power<'a> {
     /// The power at a call's start.
     pub fn new(allowance: u32, torn: &'a [u8]) -> Power<'a> {
-        Power { allowance, torn, done: 0, gone: false }
+        Power { allowance, torn, done: Counts::NONE, gone: false }
     }
 
     /// Does an operation as far as the power goes; tells whether it was done whole.
@@ -108,12 +120,12 @@ impl<'a> Power<'a> {
         if self.gone {
             return false;
         }
-        if self.done == self.allowance {
+        if self.done.sum() == self.allowance as u64 {
             self.gone = true;
             torn(image, operation, self.torn);
             return false;
         }
-        self.done += 1;
+        self.done = self.done.and(Counts::one(operation.kind()));
         done(image, operation);
         true
     }
@@ -123,8 +135,8 @@ impl<'a> Power<'a> {
         self.gone
     }
 
-    /// The operations done whole.
-    pub fn told(&self) -> u32 {
+    /// The operations done whole, by kind.
+    pub fn told(&self) -> Counts {
         self.done
     }
 }

@@ -3,9 +3,11 @@ mod calls;
 mod commit;
 mod legal;
 mod lend;
+mod ways;
 mod writes;
 
 use super::chip::{self, BLOCK, TORN};
+use super::counts::Counts;
 use super::frame::{self, Frame};
 use super::image::{self, Meaning};
 use super::plain::{Call, Lengths, Plain};
@@ -213,7 +215,7 @@ fn two(refusal: u32) -> String {
     format!("{refusal:02X}")
 }
 
-/// A refusal and the operations told.
-fn told(refusal: u32, operations: u32) -> String {
-    format!("{refusal:02X}{operations:08X}")
+/// A refusal and the three counts of the operations told.
+fn told(refusal: u32, counts: Counts) -> String {
+    format!("{refusal:02X}{}", counts.digits())
 }

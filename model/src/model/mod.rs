@@ -1,5 +1,6 @@
 //! The definitions of document 01, a judge of probe scripts and makers of images.
 pub mod chip;
+pub mod counts;
 pub mod crc;
 pub mod foreign;
 pub mod frame;

@@ -134,7 +134,7 @@ fn grow(random: &mut Random, writer: &mut Writer, keys: &mut Keys) {
         update(random, writer, keys);
         if early && n > updates / 2 && random.once_in(2) {
             let need = writer.probe().need(4);
-            if need >= 9 || !need.is_multiple_of(3) {
+            if need.programs >= 3 || need.erases > 0 {
                 return;
             }
         }

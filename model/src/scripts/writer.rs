@@ -157,7 +157,7 @@ impl Writer {
 
     /// An allowance below what a commit (4), mount (5) or format (0) needs, or one that is enough for it.
     pub fn allowance(&self, random: &mut Random, kind: u32) -> u32 {
-        let need = self.probe.need(kind);
+        let need = self.probe.need(kind).total();
         match random.below(4) {
             0 => need,
             _ => random.below(u64::from(need) + 1) as u32,

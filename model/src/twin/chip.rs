@@ -1,5 +1,7 @@
 //! The chip: its numbers, which pages are free or live, and the three flash operations under an allowance.
 
+use super::told::{Counts, Kind, Told};
+
 /// Bytes of a page's data area.
 pub const DATA: usize = 512;
 /// Bytes of a page, data area and spare area.
@@ -55,21 +57,6 @@ pub fn free_set(block: &[u8]) -> u32 {
     block.chunks_exact(PAGE).enumerate().fold(0, |set, (i, page)| set | u32::from(is_blank(page)) << i)
 }
 
-/// What format, commit and mount tell: the refusal, 0 for none, the operations done, and how many pages were written whole.
-#[derive(Clone, Copy, PartialEq, Eq, Debug)]
-pub struct Told {
-    pub refusal: u32,
-    pub ops: u32,
-    pub pages: u32,
-}
-
-impl Told {
-    /// A call that does no operation.
-    pub fn quiet(refusal: u32) -> Told {
-        Told { refusal, ops: 0, pages: 0 }
-    }
-}
-
 /// What becomes of an operation.
 enum Outcome {
     Whole,
@@ -77,20 +64,25 @@ enum Outcome {
     Nothing,
 }
 
-/// The chip under an allowance: each operation is done whole, torn, or not at all.
+impl Outcome {
+    /// What an operation of this kind tells: its kind where it was done whole, else nothing.
+    fn tells(&self, kind: Kind) -> Option<Kind> {
+        matches!(self, Outcome::Whole).then_some(kind)
+    }
+}
+
+/// The chip under an allowance: each operation is done whole, torn, or not at all, and tells its kind where it is done whole.
 pub struct Chip<'a> {
     pub image: &'a mut [u8],
     torn: &'a [u8],
     left: u32,
-    done: u32,
     gone: bool,
-    pages: u32,
 }
 
 impl<'a> Chip<'a> {
     /// The chip with power for `allowance` operations; the torn slice has the length of a page.
     pub fn new(image: &'a mut [u8], torn: &'a [u8], allowance: u32) -> Chip<'a> {
-        Chip { image, torn, left: allowance, done: 0, gone: false, pages: 0 }
+        Chip { image, torn, left: allowance, gone: false }
     }
 
     /// Whether an operation was torn.
@@ -99,8 +91,8 @@ impl<'a> Chip<'a> {
     }
 
     /// What a call tells that has done these operations.
-    pub fn told(&self) -> Told {
-        Told { refusal: if self.gone { 10 } else { 0 }, ops: self.done, pages: self.pages }
+    pub fn told(&self, counts: Counts) -> Told {
+        Told { refusal: if self.gone { 10 } else { 0 }, counts }
     }
 
     /// What becomes of the next operation, and the power after it.
@@ -113,34 +105,41 @@ impl<'a> Chip<'a> {
             return Outcome::Torn;
         }
         self.left -= 1;
-        self.done += 1;
         Outcome::Whole
     }
 
     /// One mark of the page at `place` set.
-    pub fn mark(&mut self, place: usize, mark: Mark) {
+    #[must_use]
+    pub fn mark(&mut self, place: usize, mark: Mark) -> Option<Kind> {
         let at = place * PAGE + DATA + mark as usize;
-        match self.spend() {
+        let outcome = self.spend();
+        match outcome {
             Outcome::Whole => self.image[at] = 0,
             Outcome::Torn => self.image[at] = self.torn[0],
             Outcome::Nothing => {}
         }
+        outcome.tells(Kind::Mark)
     }
 
     /// The data area of the page at `place` programmed.
-    fn program(&mut self, place: usize, data: &[u8; DATA]) {
+    #[must_use]
+    fn program(&mut self, place: usize, data: &[u8; DATA]) -> Option<Kind> {
         let at = place * PAGE;
-        match self.spend() {
+        let outcome = self.spend();
+        match outcome {
             Outcome::Whole => self.image[at..at + DATA].copy_from_slice(data),
             Outcome::Torn => self.image[at..at + DATA].copy_from_slice(&self.torn[..DATA]),
             Outcome::Nothing => {}
         }
+        outcome.tells(Kind::Program)
     }
 
     /// A block erased; where power runs out, untouched if torn byte 0 is 0 and else full of torn pages.
-    pub fn erase(&mut self, block: usize) {
+    #[must_use]
+    pub fn erase(&mut self, block: usize) -> Option<Kind> {
         let at = block * BLOCK;
-        match self.spend() {
+        let outcome = self.spend();
+        match outcome {
             Outcome::Whole => self.image[at..at + BLOCK].fill(255),
             Outcome::Torn if self.torn[0] != 0 => {
                 let mut left = [255; PAGE];
@@ -150,13 +149,13 @@ impl<'a> Chip<'a> {
             }
             _ => {}
         }
+        outcome.tells(Kind::Erase)
     }
 
-    /// A page written: used mark, data, valid mark.
-    pub fn write(&mut self, place: usize, data: &[u8; DATA]) {
-        self.mark(place, Mark::Used);
-        self.program(place, data);
-        self.mark(place, Mark::Valid);
-        self.pages += u32::from(!self.gone);
+    /// A page written and counted: used mark, data, valid mark.
+    pub fn write(&mut self, place: usize, data: &[u8; DATA], counts: &mut Counts) {
+        counts.take(self.mark(place, Mark::Used));
+        counts.take(self.program(place, data));
+        counts.take(self.mark(place, Mark::Valid));
     }
 }

@@ -1,9 +1,10 @@
 //! Commit: the pending updates written as commit G + 1, as a delta where that leaves enough unused blocks, else as a snapshot.
 
-use super::chip::{is_blank, sized, Chip, Told, BLOCK, DATA};
+use super::chip::{is_blank, sized, Chip, BLOCK, DATA};
 use super::ground::Ground;
 use super::plan::{Plan, Sorted, MOST};
 use super::state::{State, BUFFER};
+use super::told::{Counts, Told};
 use super::unit::{put_header, Header, UNIT};
 
 impl State {
@@ -53,9 +54,10 @@ impl State {
         let mut places = [0; MOST + 1];
         let places = &mut places[..=total];
         places.iter_mut().zip(ground.places(chip.image)).for_each(|(slot, place)| *slot = place);
-        clear_blocks(chip, ground.reached(places));
+        let mut counts = Counts::default();
+        clear_blocks(chip, ground.reached(places), &mut counts);
         for (index, &place) in places[..total].iter().enumerate() {
-            self.write_page(chip, sorted, plan, index, place);
+            self.write_page(chip, sorted, plan, index, place, &mut counts);
             if chip.is_gone() {
                 break;
             }
@@ -64,25 +66,25 @@ impl State {
         self.commit += 1;
         self.pending = 0;
         self.count = 0;
-        chip.told()
+        chip.told(counts)
     }
 
-    /// One page of a commit built from the nodes as they are then, written at its place and noted.
-    fn write_page(&mut self, chip: &mut Chip, sorted: &Sorted, plan: &Plan, index: usize, place: usize) {
+    /// One page of a commit built from the nodes as they are then, written at its place, counted and noted.
+    fn write_page(&mut self, chip: &mut Chip, sorted: &Sorted, plan: &Plan, index: usize, place: usize, counts: &mut Counts) {
         let mut data = [255; DATA];
         let units = self.gather(sorted, plan, index, &mut data);
         let header = Header { commit: self.commit + 1, index: index as u8, count: plan.pages as u8 };
         put_header(&mut data, header, units);
-        chip.write(place, &data);
+        chip.write(place, &data, counts);
         self.note(&data[8..].as_chunks::<UNIT>().0[..units], place as u32, self.limit());
     }
 }
 
-/// These blocks erased, but for those that are wholly free.
-fn clear_blocks(chip: &mut Chip, blocks: impl Iterator<Item = usize>) {
+/// These blocks erased and counted, but for those that are wholly free.
+fn clear_blocks(chip: &mut Chip, blocks: impl Iterator<Item = usize>, counts: &mut Counts) {
     for block in blocks {
         if !is_blank(&chip.image[block * BLOCK..][..BLOCK]) {
-            chip.erase(block);
+            counts.take(chip.erase(block));
         }
     }
 }

@@ -1,7 +1,8 @@
 //! Format: all blocks erased, lowest first, and commit 1 written into the first page of block 0.
 
-use super::chip::{sized, Chip, Told, DATA};
+use super::chip::{sized, Chip, DATA};
 use super::state::State;
+use super::told::{Counts, Told};
 use super::unit::{encode, put_header, Header, Update};
 
 impl State {
@@ -15,15 +16,16 @@ impl State {
         put_header(&mut data, Header { commit: 1, index: 0, count: 1 }, 1);
         data[8..20].copy_from_slice(&encode(0, Update::Reset(0)));
         let mut chip = Chip::new(image, torn, allowance);
+        let mut counts = Counts::default();
         for block in 0..blocks {
-            chip.erase(block);
+            counts.take(chip.erase(block));
         }
-        chip.write(0, &data);
+        chip.write(0, &data, &mut counts);
         self.on = !chip.is_gone();
         if self.on {
             self.begin_anew(blocks);
         }
-        chip.told()
+        chip.told(counts)
     }
 
     /// The state after a finished format: one empty leaf, node 0, on page 0.

@@ -12,6 +12,7 @@ pub mod report;
 pub mod show;
 pub mod standing;
 pub mod state;
+pub mod told;
 pub mod tree;
 pub mod unit;
 pub mod update;

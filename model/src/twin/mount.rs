@@ -1,8 +1,9 @@
 //! Mount: steps 1 to 6 on the image alone; after all checks the void pages get their obsolete mark.
 
-use super::chip::{sized, Chip, Mark, Told, DATA, PAGE, PLACES};
+use super::chip::{sized, Chip, Mark, DATA, PAGE, PLACES};
 use super::standing::{place_of, Standing};
 use super::state::State;
+use super::told::{Counts, Told};
 use super::tree::is_tree;
 use super::unit::units_of;
 use super::view::{Stage, View};
@@ -21,8 +22,9 @@ impl State {
             Err(refusal) => return Told::quiet(refusal),
         };
         let mut chip = Chip::new(image, torn, allowance);
+        let mut counts = Counts::default();
         for &place in standing.voids() {
-            chip.mark(place as usize, Mark::Obsolete);
+            counts.take(chip.mark(place as usize, Mark::Obsolete));
         }
         self.on = !chip.is_gone();
         self.blocks = blocks;
@@ -30,7 +32,7 @@ impl State {
         self.pending = 0;
         self.count = 0;
         self.next = self.lens[..8 * blocks].iter().rposition(|&len| len != 0).map_or(0, |n| n as u32 + 1);
-        chip.told()
+        chip.told(counts)
     }
 
     /// Steps 1 to 6; the node table is read from the standing pages.

@@ -1,5 +1,6 @@
 //! A tiny store behind the probe's protocol, for tests of the judge: a commit writes all nodes into one erased block.
 use model::model::chip::{self, Operation, Power, BLOCK, OBSOLETE, PAGES, TORN, VALID};
+use model::model::counts::Counts;
 use model::model::crc::crc32;
 use model::model::frame::{parse, Frame};
 use model::model::image::{self, meaning, Meaning};
@@ -15,6 +16,14 @@ pub enum Bug {
     CutTold,
     FormatTold,
     MountTold,
+    FormatKinds,
+    MountKinds,
+    ProgramToldAsMark,
+    MarkToldAsErase,
+    EraseToldAsMark,
+    OneMarkMore,
+    CutKinds,
+    TornTold,
     WrongValue,
     WrongPagesRead,
     ImageByteOnInsert,
@@ -50,12 +59,20 @@ pub enum Bug {
 
 impl Bug {
     /// All faults.
-    pub const FAULTS: [Bug; 36] = [
+    pub const FAULTS: [Bug; 44] = [
         Bug::CommitToldHigh,
         Bug::CommitToldLow,
         Bug::CutTold,
         Bug::FormatTold,
         Bug::MountTold,
+        Bug::FormatKinds,
+        Bug::MountKinds,
+        Bug::ProgramToldAsMark,
+        Bug::MarkToldAsErase,
+        Bug::EraseToldAsMark,
+        Bug::OneMarkMore,
+        Bug::CutKinds,
+        Bug::TornTold,
         Bug::WrongValue,
         Bug::WrongPagesRead,
         Bug::ImageByteOnInsert,
@@ -96,6 +113,16 @@ struct State {
     pending: u32,
     number: u32,
     blocks: usize,
+}
+
+/// A reply with a refusal and three counts.
+fn reply(refusal: u32, counts: Counts) -> String {
+    format!("{refusal:02X}{:08X}{:08X}{:08X}", counts.programs, counts.marks, counts.erases)
+}
+
+/// The same number of operations, all of them erases.
+fn all_erases(counts: Counts) -> Counts {
+    Counts { erases: counts.programs + counts.marks + counts.erases, ..Counts::NONE }
 }
 
 /// The tiny probe.
@@ -142,7 +169,7 @@ impl Tiny {
 
     /// Format.
     fn format(&mut self, allowance: u32) -> String {
-        let Some(blocks) = self.whole() else { return "0100000000".to_string() };
+        let Some(blocks) = self.whole() else { return reply(1, Counts::NONE) };
         let torn = self.torn.clone();
         let mut power = Power::new(allowance, &torn);
         let image = &mut self.buffer[..self.lent];
@@ -153,8 +180,12 @@ impl Tiny {
         if self.is(Bug::ImageByteOnFormat) {
             self.buffer[20000] = 7;
         }
-        let told = power.told() + self.is(Bug::FormatTold) as u32;
-        format!("{:02X}{told:08X}", if finished { 0 } else { 10 })
+        let mut told = power.told();
+        told.erases += self.is(Bug::FormatTold) as u32;
+        if self.is(Bug::FormatKinds) {
+            told = Counts { programs: told.erases, erases: told.programs, ..told };
+        }
+        reply(if finished { 0 } else { 10 }, told)
     }
 
     /// The blocks of a right image and torn length.
@@ -264,14 +295,14 @@ impl Tiny {
 
     /// Mount.
     fn mount(&mut self, allowance: u32) -> String {
-        let Some(blocks) = self.whole() else { return "0100000000".to_string() };
+        let Some(blocks) = self.whole() else { return reply(1, Counts::NONE) };
         if self.is(Bug::MountSeven) {
-            return "0700000000".to_string();
+            return reply(7, Counts::NONE);
         }
         self.state = None;
         let mut means = match meaning(self.image(), blocks) {
             Ok(means) => means,
-            Err(refusal) => return format!("{refusal:02X}00000000"),
+            Err(refusal) => return reply(refusal, Counts::NONE),
         };
         if self.is(Bug::MountHighestFirst) {
             means.void.reverse();
@@ -280,30 +311,34 @@ impl Tiny {
         let mut power = Power::new(allowance, &torn);
         let image = &mut self.buffer[..self.lent];
         let finished = means.void.iter().all(|place| power.run(image, &Operation::Mark(*place, OBSOLETE)));
-        let told = power.told() + self.is(Bug::MountTold) as u32;
+        let mut told = power.told();
+        told.marks += self.is(Bug::MountTold) as u32;
+        if self.is(Bug::MountKinds) {
+            told = all_erases(told);
+        }
         if !finished {
-            return format!("0A{told:08X}");
+            return reply(10, told);
         }
         if !self.is(Bug::MountLeavesOff) {
             self.state = Some(State { tree: means.tree, pending: 0, number: means.greatest, blocks });
         }
-        format!("00{told:08X}")
+        reply(0, told)
     }
 
     /// Commit.
     fn commit(&mut self, allowance: u32) -> String {
         if let Some(refusal) = self.refused(true) {
-            return format!("{refusal:02X}00000000");
+            return reply(refusal, Counts::NONE);
         }
         let state = self.state.as_ref().unwrap();
         if state.pending == 0 && !(self.is(Bug::TenWithNothingPending) && allowance == 0) {
-            return "0000000000".to_string();
+            return reply(0, Counts::NONE);
         }
         let last = if self.is(Bug::LastNumber) { 7 } else { u32::MAX };
         let pages = self.pages();
         let block = meaning(self.image(), state.blocks).ok().and_then(|means| self.spent_block(&means));
         let (Some(block), true, true) = (block, state.number < last, pages.len() <= PAGES) else {
-            return "0600000000".to_string();
+            return reply(6, Counts::NONE);
         };
         let number = state.number + 1 - self.is(Bug::SameNumber) as u32;
         let torn = self.torn.clone();
@@ -335,20 +370,36 @@ impl Tiny {
     fn told(&mut self, power: &Power, allowance: u32, number: u32) -> String {
         if power.gone() {
             self.state = None;
-            let told = if self.is(Bug::TenAt2000) { allowance } else { power.told() };
-            return format!("0A{:08X}", told.saturating_sub(self.is(Bug::CutTold) as u32));
+            return reply(10, self.cut_counts(power.told(), allowance));
         }
         let state = self.state.as_mut().unwrap();
         state.number = number;
         state.pending = 0;
-        let mut told = power.told();
-        if self.is(Bug::CommitToldHigh) {
-            told = allowance.saturating_add(1);
+        reply(0, self.finished_counts(power.told(), allowance))
+    }
+
+    /// The counts that a cut commit tells.
+    fn cut_counts(&self, done: Counts, allowance: u32) -> Counts {
+        match self.bug {
+            Bug::TenAt2000 => Counts { erases: allowance, ..Counts::NONE },
+            Bug::CutTold => Counts { marks: done.marks.saturating_sub(1), ..done },
+            Bug::CutKinds => all_erases(done),
+            Bug::TornTold => Counts { marks: done.marks + 1, ..done },
+            _ => done,
         }
-        if self.is(Bug::CommitToldLow) {
-            told = 2;
+    }
+
+    /// The counts that a finished commit tells.
+    fn finished_counts(&self, done: Counts, allowance: u32) -> Counts {
+        match self.bug {
+            Bug::CommitToldHigh => Counts { erases: allowance, ..done },
+            Bug::CommitToldLow => Counts { marks: 2, ..Counts::NONE },
+            Bug::ProgramToldAsMark => Counts { programs: done.programs - 1, marks: done.marks + 1, ..done },
+            Bug::MarkToldAsErase => Counts { marks: done.marks - 1, erases: done.erases + 1, ..done },
+            Bug::EraseToldAsMark => Counts { marks: done.marks + done.erases, erases: 0, ..done },
+            Bug::OneMarkMore => Counts { marks: done.marks + 1, ..done },
+            _ => done,
         }
-        format!("00{told:08X}")
     }
 
     /// The units of all nodes of the present tree, page by page.

@@ -3,29 +3,32 @@ use super::calls::refusal_of;
 use super::legal::Change;
 use super::{expect, told, Judge, Shared};
 use crate::model::chip::TORN;
-use crate::model::frame;
+use crate::model::counts::Counts;
 use crate::model::image::{self, Meaning};
 use crate::model::plain::{Call, LAST_NUMBER, NEVER_CUT, POWER};
 use std::rc::Rc;
 
-/// A commit's allowance and reply: the refusal, 0 for none, and the operations told.
+/// Digits of the three counts.
+const THREE: usize = 24;
+
+/// A commit's allowance and reply: the refusal, 0 for none, and the three counts told.
 struct Told {
     allowance: u32,
     refusal: u32,
-    operations: u32,
+    counts: Counts,
 }
 
 impl Judge {
     /// Commit: holds reply and image to document 01 and takes the image over.
     pub(super) fn commit(&mut self, allowance: u32, reply: &str, image: &[u8]) -> Result<(), String> {
         if let Some(refusal) = self.plain.off_or_size(self.lengths(), true) {
-            expect(reply, &told(refusal, 0))?;
+            expect(reply, &told(refusal, Counts::NONE))?;
             return self.same(image, usize::MAX);
         }
         let fixed = self.fixed();
         if fixed && (self.plain.pending == 0 || (self.begun && self.plain.number == u32::MAX)) {
             let refusal = if self.plain.pending == 0 { 0 } else { LAST_NUMBER };
-            expect(reply, &told(refusal, 0))?;
+            expect(reply, &told(refusal, Counts::NONE))?;
             return self.same(image, usize::MAX);
         }
         let told = self.told(allowance, reply, image)?;
@@ -36,20 +39,20 @@ impl Judge {
         }
     }
 
-    /// Reads the reply of a commit, finished, refused with 6 or cut: no more operations than the allowance.
+    /// Reads the reply of a commit, finished, refused with 6 or cut: the sum of the counts is at most the allowance.
     fn told(&self, allowance: u32, reply: &str, image: &[u8]) -> Result<Told, String> {
-        let refusal = refusal_of(reply, &[(0, 8), (LAST_NUMBER, 8), (POWER, 8)])?;
-        let operations = frame::hexadecimal(&reply.as_bytes()[2..]).unwrap_or(0);
-        if operations > allowance {
+        let refusal = refusal_of(reply, &[(0, THREE), (LAST_NUMBER, THREE), (POWER, THREE)])?;
+        let counts = Counts::read(&reply.as_bytes()[2..]).ok_or("no three counts")?;
+        if counts.sum() > allowance as u64 {
             return Err("more operations than the allowance".to_string());
         }
-        if refusal == LAST_NUMBER && operations != 0 {
+        if refusal == LAST_NUMBER && counts != Counts::NONE {
             return Err("operations with refusal 6".to_string());
         }
         if image.len() != self.lent {
             return Err(format!("{} image bytes are lent, {} expected", image.len(), self.lent));
         }
-        Ok(Told { allowance, refusal, operations })
+        Ok(Told { allowance, refusal, counts })
     }
 
     /// A commit of a list, with something pending and a number left: finished or cut as document 01 says.
@@ -66,7 +69,7 @@ impl Judge {
             blocks: self.plain.blocks,
             cut,
         };
-        change.hold(told.operations)?;
+        change.hold(told.counts)?;
         self.plain.call(Call::Commit(told.allowance), self.lengths(), cut, chosen);
         self.take(image, Some(Rc::new(Ok(means))), !cut);
         Ok(())
@@ -131,13 +134,14 @@ impl Judge {
     }
 }
 
-/// The operations told by a commit of a list: the allowance when cut, never with 2,000 or more; else at most 2,000.
+/// The sum of the counts told by a commit of a list: the allowance when cut, never with 2,000 or more; else at most 2,000.
 fn held_operations(told: &Told) -> Result<(), String> {
+    let operations = told.counts.sum();
     match told.refusal {
-        0 if told.operations > NEVER_CUT => Err("a commit of more than 2,000 operations".to_string()),
+        0 if operations > NEVER_CUT as u64 => Err("a commit of more than 2,000 operations".to_string()),
         0 => Ok(()),
         POWER if told.allowance >= NEVER_CUT => Err("cut with an allowance of 2,000 or more".to_string()),
-        POWER if told.operations != told.allowance => Err("cut, but the allowance is not told".to_string()),
+        POWER if operations != told.allowance as u64 => Err("cut, but the counts do not add up to the allowance".to_string()),
         POWER => Ok(()),
         _ => Err("a refusal that does not hold".to_string()),
     }

@@ -1,5 +1,7 @@
 //! Whether flash operations of one commit explain what it changed, as far as the images before and after tell.
-use crate::model::chip::{self, BLOCK, DATA, OBSOLETE, PAGE, PAGES, USED, VALID};
+use super::ways::{Way, Ways};
+use crate::model::chip::{self, DATA, OBSOLETE, PAGE, PAGES, USED, VALID};
+use crate::model::counts::{Counts, Kind};
 use crate::model::image::{self, Head};
 use crate::model::unit::{self, HEAD, UNIT};
 
@@ -16,41 +18,11 @@ pub struct Change<'a> {
     pub cut: bool,
 }
 
-/// Operations that a change shows: those done whole, and the torn ones.
-#[derive(Clone, Copy, Default)]
-struct Steps {
-    whole: u32,
-    torn: u32,
-}
-
-impl Steps {
-    /// Both together.
-    fn and(self, other: Steps) -> Steps {
-        Steps { whole: self.whole + other.whole, torn: self.torn + other.torn }
-    }
-}
-
-/// Whole operations and torn ones.
-fn steps(whole: u32, torn: u32) -> Option<Steps> {
-    Some(Steps { whole, torn })
-}
-
 impl Change<'_> {
-    /// Holds the change to document 01: each block is explained by legal operations, only free pages or pages of an erased
-    /// block are programmed, with pages of this commit; no more operations show than were told; the commit's live pages
-    /// are all among the changed ones; a node's units stand in one of them.
-    pub fn hold(&self, told: u32) -> Result<(), String> {
-        let mut all = Steps::default();
-        for block in 0..self.blocks {
-            let shown = self.block(block).ok_or(format!("no legal operations explain block {block}"))?;
-            all = all.and(shown);
-        }
-        if all.torn > self.cut as u32 {
-            return Err(format!("{} torn operations show", all.torn));
-        }
-        if all.whole + all.torn > told.saturating_add(self.cut as u32) {
-            return Err(format!("{} operations show, {told} are told", all.whole + all.torn));
-        }
+    /// Holds the change to document 01: legal operations explain it and are those told, kind by kind; the commit's live
+    /// pages are all among the changed ones; a node's units stand in one of them.
+    pub fn hold(&self, told: Counts) -> Result<(), String> {
+        self.hold_counts(told)?;
         let pages = self.live_pages();
         let old = |head: &&Head| chip::page(self.before, head.place) == chip::page(self.after, head.place);
         if let Some(head) = pages.iter().find(old) {
@@ -59,80 +31,107 @@ impl Change<'_> {
         self.one_page_a_node(&pages)
     }
 
-    /// The fewest operations that explain a block: none, without an erase, after an erase, or a torn erase.
-    fn block(&self, block: usize) -> Option<Steps> {
-        let range = block * BLOCK..(block + 1) * BLOCK;
-        if self.before[range.clone()] == self.after[range] {
-            return Some(Steps::default());
+    /// Holds the counts told to the operations that explain the blocks. Data programs and marks are all among those that
+    /// show; so are erases, unless a block could be erased once more without showing it.
+    fn hold_counts(&self, told: Counts) -> Result<(), String> {
+        let mut all = Ways::nothing();
+        for block in 0..self.blocks {
+            let ways = self.block(block);
+            if ways.is_empty() {
+                return Err(format!("no legal operations explain block {block}"));
+            }
+            all = all.and(&ways);
         }
-        let places = || block * PAGES..(block + 1) * PAGES;
-        let sum =
-            |from: &dyn Fn(usize) -> Option<Steps>| places().try_fold(Steps::default(), |all, place| from(place).map(|one| all.and(one)));
-        let after = |place| chip::page(self.after, place);
-        let kept = sum(&|place| self.page(chip::page(self.before, place), after(place)));
-        let erased = || sum(&|place| self.page(&BLANK, after(place))).map(|all| all.and(Steps { whole: 1, torn: 0 }));
-        kept.or_else(erased).or_else(|| {
-            let page = chip::torn_page(self.torn);
-            let torn = self.cut && self.torn[0] != 0 && places().all(|place| *after(place) == page);
-            torn.then_some(Steps { whole: 0, torn: 1 })
-        })
+        if all.is_empty() {
+            return Err("more than one torn operation shows".to_string());
+        }
+        if !all.tell(told) {
+            return Err(format!("no operations with these counts explain the image; the fewest that do have {}", all.fewest()));
+        }
+        Ok(())
     }
 
-    /// The operations that lead from one content of a page to another without an erase.
-    fn page(&self, from: &[u8], to: &[u8]) -> Option<Steps> {
-        if from == to {
-            return steps(0, 0);
+    /// The ways to explain a block: without an erase, after an erase, by a torn erase.
+    fn block(&self, block: usize) -> Ways {
+        let erase = Way { more_erases: true, ..Way::whole(Kind::Erase) };
+        let kept = self.pages(block, |place| chip::page(self.before, place));
+        let erased = self.pages(block, |_| &BLANK).and(&Ways::one(erase));
+        let mut ways = kept.or(erased);
+        ways.add(self.torn_erase(block), Way { more_erases: true, ..Way::torn(Counts::NONE) });
+        ways
+    }
+
+    /// Whether a torn erase leaves a block as it is after the commit.
+    fn torn_erase(&self, block: usize) -> bool {
+        let page = chip::torn_page(self.torn);
+        let mut places = block * PAGES..(block + 1) * PAGES;
+        self.cut && self.torn[0] != 0 && places.all(|place| *chip::page(self.after, place) == page)
+    }
+
+    /// The ways to explain the pages of a block without an erase, each from the content that it has at first.
+    fn pages<'a>(&self, block: usize, from: impl Fn(usize) -> &'a [u8]) -> Ways {
+        let mut all = Ways::nothing();
+        for place in block * PAGES..(block + 1) * PAGES {
+            let (from, to) = (from(place), chip::page(self.after, place));
+            if from != to {
+                all = all.and(&self.page(from, to));
+            }
+            if all.is_empty() {
+                break;
+            }
         }
+        all
+    }
+
+    /// The ways that lead from one content of a page to another without an erase.
+    fn page(&self, from: &[u8], to: &[u8]) -> Ways {
         if *from == BLANK {
             return self.written(to);
         }
         self.marked(from, to)
     }
 
-    /// The operations that write a free page: used mark, data of this commit, valid mark; a cut may stop in between.
-    fn written(&self, to: &[u8]) -> Option<Steps> {
-        let (used, valid) = (chip::mark(to, USED), chip::mark(to, VALID));
+    /// The ways to write a free page: used mark, data of this commit, valid mark, one after the other. Of a page written in
+    /// part, the next of the three is the torn operation.
+    fn written(&self, to: &[u8]) -> Ways {
+        let mut ways = Ways::default();
         if to[DATA + OBSOLETE..].iter().any(|byte| *byte != 255) {
-            return None;
+            return ways;
         }
-        let whole = self.page_of_commit(to, 0).is_some();
-        if used == 0 && whole && valid == 0 {
-            return steps(3, 0);
-        }
-        if !self.cut {
-            return None;
-        }
-        let blank = to[..DATA] == BLANK[..DATA] && valid == 255;
-        match used {
-            0 if whole && valid == 255 => steps(2, 0),
-            0 if whole && valid == self.torn[0] => steps(2, 1),
-            0 if blank => steps(1, 0),
-            0 if to[..DATA] == self.torn[..DATA] && valid == 255 => steps(1, 1),
-            _ if blank && used == self.torn[0] => steps(0, 1),
-            _ => None,
-        }
+        let (data, used, valid) = (&to[..DATA], chip::mark(to, USED), chip::mark(to, VALID));
+        let of_commit = used == 0 && self.page_of_commit(to, 0).is_some();
+        let mark = Counts::one(Kind::Mark);
+        let both = mark.and(Counts::one(Kind::Program));
+        ways.add(of_commit && valid == 0, Way { whole: both.and(mark), ..Way::default() });
+        ways.add(self.cut && of_commit && valid == self.torn[0], Way::torn(both));
+        ways.add(self.cut && used == 0 && *data == self.torn[..DATA] && valid == 255, Way::torn(mark));
+        ways.add(self.cut && used == self.torn[0] && *data == BLANK[..DATA] && valid == 255, Way::torn(Counts::NONE));
+        ways
     }
 
-    /// The operations that change the used or obsolete mark alone of a page that is not free. Its valid mark is not set:
-    /// the page was not written by this commit.
-    fn marked(&self, from: &[u8], to: &[u8]) -> Option<Steps> {
+    /// The ways to change the used or obsolete mark alone of a page that is not free. Its valid mark is not set: the page
+    /// was not written by this commit.
+    fn marked(&self, from: &[u8], to: &[u8]) -> Ways {
         let same = |at: std::ops::Range<usize>| from[at.clone()] == to[at];
         if !same(0..DATA) || !same(DATA + VALID..DATA + OBSOLETE) || !same(DATA + OBSOLETE + 1..PAGE) {
-            return None;
+            return Ways::default();
         }
-        let mut all = Steps::default();
+        let mut all = Ways::nothing();
         for which in [USED, OBSOLETE] {
             let mark = chip::mark(to, which);
-            if mark == chip::mark(from, which) {
-                continue;
+            if mark != chip::mark(from, which) {
+                all = all.and(&self.mark(mark));
             }
-            all = match mark {
-                0 => all.and(Steps { whole: 1, torn: 0 }),
-                _ if self.cut && mark == self.torn[0] => all.and(Steps { whole: 0, torn: 1 }),
-                _ => return None,
-            };
         }
-        Some(all)
+        all
+    }
+
+    /// The ways to change a mark to a byte: set, or torn.
+    fn mark(&self, to: u8) -> Ways {
+        let mut ways = Ways::default();
+        ways.add(to == 0, Way::whole(Kind::Mark));
+        ways.add(self.cut && to == self.torn[0], Way::torn(Counts::NONE));
+        ways
     }
 
     /// The head of a page that is whole and of this commit: its own rules in step 2 and each unit's layout.

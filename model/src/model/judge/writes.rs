@@ -1,6 +1,7 @@
 //! Format and mount: predicted whole for every image, finished or cut.
 use super::{told, Judge, Shared};
 use crate::model::chip::{self, Operation, Power, OBSOLETE, TORN};
+use crate::model::counts::Counts;
 use crate::model::image::Meaning;
 use crate::model::plain::{Call, Plain, POWER};
 use crate::model::unit::{self, Deed, Unit};
@@ -30,28 +31,28 @@ impl Judge {
     /// Format: does it on the judge's image and answers the reply.
     pub(super) fn format(&mut self, allowance: u32) -> String {
         if let Some(refusal) = Plain::size(self.lengths()) {
-            return told(refusal, 0);
+            return told(refusal, Counts::NONE);
         }
         let blocks = chip::blocks_of(self.lent).unwrap_or(0);
         let mut power = Power::new(allowance, &self.torn[..TORN]);
         format(&mut self.buffer[..self.lent], blocks, &mut power);
-        let (cut, operations) = (power.gone(), power.told());
+        let (cut, counts) = (power.gone(), power.told());
         self.plain.call(Call::Format(allowance), self.lengths(), cut, false);
         self.changed();
         self.leave();
         self.begun = !cut;
         if cut {
-            return told(POWER, operations);
+            return told(POWER, counts);
         }
         self.wild = false;
         self.ground = self.read();
-        told(0, operations)
+        told(0, counts)
     }
 
     /// Mount: does it on the judge's image and answers the reply.
     pub(super) fn mount(&mut self, allowance: u32) -> Result<String, String> {
         if let Some(refusal) = Plain::size(self.lengths()) {
-            return Ok(told(refusal, 0));
+            return Ok(told(refusal, Counts::NONE));
         }
         let meaning = self.read();
         self.begun &= self.aligned();
@@ -61,7 +62,7 @@ impl Judge {
             Err(refusal) if self.begun => Err(format!("the image of a list means refusal {refusal}")),
             Err(refusal) => {
                 self.plain.on = false;
-                Ok(told(*refusal, 0))
+                Ok(told(*refusal, Counts::NONE))
             }
         }
     }
@@ -73,13 +74,13 @@ impl Judge {
         }
         let mut power = Power::new(allowance, &self.torn[..TORN]);
         spend(&mut self.buffer[..self.lent], &means.void, &mut power);
-        let (cut, operations) = (power.gone(), power.told());
+        let (cut, counts) = (power.gone(), power.told());
         if !means.void.is_empty() {
             self.changed();
         }
         self.mounted(allowance, means, cut);
         if cut {
-            return Ok(told(POWER, operations));
+            return Ok(told(POWER, counts));
         }
         self.wild = false;
         self.ground = shared.clone();
@@ -87,7 +88,7 @@ impl Judge {
             self.ground = Rc::new(Ok(Meaning { void: Vec::new(), ..means.clone() }));
             self.meaning = Some(self.ground.clone());
         }
-        Ok(told(0, operations))
+        Ok(told(0, counts))
     }
 
     /// The plain store after a finished or cut mount.

@@ -10,11 +10,11 @@ use Rattle.chip.proofs.block.blank_page.Reads as blank-page-reads
 use Rattle.chip.proofs.block.fill.Reads as fill-reads
 use Rattle.chip.proofs.block.put_torn.Reads as put-torn-reads
 use Rattle.chip.proofs.power.next.Reads as next-reads
-use Rattle.chip.proofs.power.spent.Reads as spent-reads
+use Rattle.chip.proofs.operation.tell.Reads as tell-reads
 
 -- src/block.rt:73:9
-spent-requires : tie.Need-spent-requires
-spent-requires c κs = search needs
+tell-requires : tie.Need-tell-requires
+tell-requires c κs = search needs
 
 -- src/block.rt:74:11
 next-requires : tie.Need-next-requires
@@ -49,7 +49,7 @@ returns : tie.Need-returns
 returns c =
     let n = c .before .before .before .before in
     let out = sym (n .next .ensures) ∙ c .before .before .enum-told2 .given .1 in
-    record { power = n .before .spent .ensures; left = rw (out, eq-eqb _ _ (c .if1 .taken)) }
+    record { told = n .before .tell .ensures; left = rw (out, eq-eqb _ _ (c .if1 .taken)) }
 
 -- src/block.rt:84:28
 blank-page-requires-2 : tie.Need-blank-page-requires-2
@@ -86,7 +86,7 @@ returns-2 c =
     let p = f .before .before .before in
     let n = p .before .before .before in
     let out = sym (n .next .ensures) ∙ p .before .enum-told .given .1 in
-    record { power = n .before .spent .ensures; left = rw out (f .fill .ensures ∙ ap (repeat 32) (p .blank-page .ensures)) }
+    record { told = n .before .tell .ensures; left = rw out (f .fill .ensures ∙ ap (repeat 32) (p .blank-page .ensures)) }
 
 -- src/block.rt:68:1
 same-length-2 : tie.Need-same-length-2
@@ -100,7 +100,7 @@ returns-3 c =
     let i = p .before .before .before in
     let n = i .before .before .before .before in
     let out = sym (n .next .ensures) ∙ i .before .before .enum-told2 .given .1 in
-    record { power = n .before .spent .ensures; left = rw (out, ne-eqb _ _ (i .if1 .left)) (f .fill2 .ensures ∙ ap (repeat 32) (p .put-torn .ensures)) }
+    record { told = n .before .tell .ensures; left = rw (out, ne-eqb _ _ (i .if1 .left)) (f .fill2 .ensures ∙ ap (repeat 32) (p .put-torn .ensures)) }
 
 -- src/block.rt:68:1
 returns-4 : tie.Need-returns-4
@@ -110,7 +110,7 @@ pub erase-spec : {M : Type 1} → statement M
 erase-spec =
     tie.close
     (tie.spec
-    spent-requires
+    tell-requires
     next-requires
     enum-told
     blank-page-requires

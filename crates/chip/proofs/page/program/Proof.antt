@@ -9,11 +9,11 @@ use Rattle.chip.proofs.page.program.Reads as reads
 use Rattle.chip.proofs.page.program.Lts as lts
 use Rattle.bytes.proofs.copy.Reads as copy-reads
 use Rattle.chip.proofs.power.next.Reads as next-reads
-use Rattle.chip.proofs.power.spent.Reads as spent-reads
+use Rattle.chip.proofs.operation.tell.Reads as tell-reads
 
 -- src/page.rt:59:9
-spent-requires : tie.Need-spent-requires
-spent-requires c κs = search needs
+tell-requires : tie.Need-tell-requires
+tell-requires c κs = search needs
 
 -- src/page.rt:60:11
 next-requires : tie.Need-next-requires
@@ -62,7 +62,7 @@ returns c =
     let out = sym (n .next .ensures) ∙ c .before .before .before .before .enum-told .given .1 in
     let a = n .before .before .before .before .before .args in
     record {
-      power = n .before .spent .ensures;
+      told = n .before .tell .ensures;
       left = rw out (copied 512 (a .bytes .now) (a .page .now) _ (n .before .before .before .before .before .pre .1) (c .before .before .copy .ensures .1));
     }
 
@@ -77,7 +77,7 @@ returns-2 c =
     let out = sym (n .next .ensures) ∙ c .before .before .before .before .before .enum-told2 .given .1 in
     let a = n .before .before .before .before .before .args in
     record {
-      power = n .before .spent .ensures;
+      told = n .before .tell .ensures;
       left = rw out (copied 512 (take 512 (a .torn .now)) (a .page .now) _ (length-take-le 512 (a .torn .now) (search needs)) (c .before .before .copy2 .ensures .1));
     }
 
@@ -89,7 +89,7 @@ pub program-spec : {M : Type 1} → statement M
 program-spec =
     tie.close
     (tie.spec
-    spent-requires
+    tell-requires
     next-requires
     enum-told
     copy-requires

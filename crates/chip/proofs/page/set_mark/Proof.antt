@@ -7,7 +7,7 @@ use Rattle.chip.proofs.page.set_mark.Reads as reads
 use Rattle.chip.proofs.page.set_mark.Lts as lts
 use Rattle.chip.proofs.page.spare_byte.Reads as spare-byte-reads
 use Rattle.chip.proofs.power.next.Reads as next-reads
-use Rattle.chip.proofs.power.spent.Reads as spent-reads
+use Rattle.chip.proofs.operation.tell.Reads as tell-reads
 
 -- src/page.rt:38:21
 spare-byte-requires : tie.Need-spare-byte-requires
@@ -18,8 +18,8 @@ add-at : tie.Need-add-at
 add-at c = record { fits = omega (arith, c .spare-byte .ensures .1) }
 
 -- src/page.rt:39:9
-spent-requires : tie.Need-spent-requires
-spent-requires c κs = search needs
+tell-requires : tie.Need-tell-requires
+tell-requires c κs = search needs
 
 -- src/page.rt:40:11
 next-requires : tie.Need-next-requires
@@ -58,7 +58,7 @@ returns : tie.Need-returns
 returns c =
     let n = c .before .before in
     let out = sym (n .next .ensures) ∙ c .enum-told .given .1 in
-    record { power = n .before .spent .ensures; left = rw (out, n .before .before .spare-byte .ensures .0) }
+    record { told = n .before .tell .ensures; left = rw (out, n .before .before .spare-byte .ensures .0) }
 
 -- src/page.rt:33:1
 same-length-2 : tie.Need-same-length-2
@@ -69,7 +69,7 @@ returns-2 : tie.Need-returns-2
 returns-2 c =
     let n = c .before .before .before in
     let out = sym (n .next .ensures) ∙ c .before .enum-told2 .given .1 in
-    record { power = n .before .spent .ensures; left = rw (out, n .before .before .spare-byte .ensures .0) }
+    record { told = n .before .tell .ensures; left = rw (out, n .before .before .spare-byte .ensures .0) }
 
 -- src/page.rt:33:1
 returns-3 : tie.Need-returns-3
@@ -81,7 +81,7 @@ set-mark-spec =
     (tie.spec
     spare-byte-requires
     add-at
-    spent-requires
+    tell-requires
     next-requires
     enum-told
     slice-write-page

@@ -29,7 +29,7 @@ returns : tie.Need-returns
 returns c =
     let mk = c .before .before in
     let a = mk .before .before .before .before .before .before .before .args in
-    executes-none (a .image .now) (mk .make .ensures) (c .if1 .taken) (a .torn .now) (a .power) _ _ _ _
+    executes-none (a .image .now) (mk .make .ensures) (c .if1 .taken) (a .torn .now) (a .progress) _ _ _ _
 
 -- src/execute.rt:58:9
 execute-requires : tie.Need-execute-requires

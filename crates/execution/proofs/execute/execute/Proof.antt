@@ -52,7 +52,7 @@ returns c =
     let k = b .before .before .before .before .before .before in
     let a = k .args in
     let few : a .t2 .pages ≤ length (a .t2 .places) = omega (arith, k .pre .3, w .write-pages .ensures .0) in
-    executes (8 * a .commit .blocks) (a .commit .number) (a .t2) (a .targets .now) (a .sizes .now) (a .units .now) (a .torn .now) (a .power) (b .erase-blocks .result)
+    executes (8 * a .commit .blocks) (a .commit .number) (a .t2) (a .targets .now) (a .sizes .now) (a .units .now) (a .torn .now) (a .progress) (b .erase-blocks .result)
     (w .write-pages .result) _ _ _ _ _ _ _ few (b .erase-blocks .ensures) (w .write-pages .ensures .1)
 
 pub execute-spec : {M : Type 1} → statement M

@@ -11,18 +11,18 @@ use Rattle.execution.proofs.write.write_listed.Lts as lts
 use Rattle.execution.proofs.write.write_page.Reads as write-page-reads
 
 abbrev Inv-loop : tie.InvT-loop
-Inv-loop image₀ targets sizes units places pages torn new-lens₀ new-slots₀ total left₀ i₀ image new-lens new-slots left i =
-    (i ≤ total) × Writes pages targets sizes units places torn 0 i left₀ left image₀ image new-lens₀ new-slots₀ new-lens new-slots
+Inv-loop image₀ targets sizes units places pages torn new-lens₀ new-slots₀ total reached₀ i₀ image new-lens new-slots reached i =
+    (i ≤ total) × Writes pages targets sizes units places torn 0 i reached₀ reached image₀ image new-lens₀ new-slots₀ new-lens new-slots
 
 abbrev μ-loop : tie.MeasureT-loop
-μ-loop image₀ targets sizes units places pages torn new-lens₀ new-slots₀ total left₀ i₀ image new-lens new-slots left i =
+μ-loop image₀ targets sizes units places pages torn new-lens₀ new-slots₀ total reached₀ i₀ image new-lens new-slots reached i =
     total - i
 
 -- src/write.rt:107:5
 loop-holds : tie.Need-loop-holds Inv-loop μ-loop
 loop-holds c =
     let a = c .before .before .before .args in
-    (search needs, writes-none (a .power) _ _ _)
+    (search needs, writes-none (a .progress) _ _ _)
 
 -- src/write.rt:109:9
 write-page-requires : tie.Need-write-page-requires Inv-loop μ-loop

@@ -54,7 +54,7 @@ returns c =
     let k = b .before .before .before .before .before .before .before .before in
     let a = k .args in
     writes-page (a .part .pages) (a .targets .now) (a .sizes .now) (a .units .now) (a .torn .now) (a .places .now) (a .part .index)
-    (k .pre .5) (k .pre .4) (a .power) (w .put-page .result) _ _ _ _ _ _ _ (b .build-page .ensures) (w .put-page .ensures) (c .note .ensures)
+    (k .pre .5) (k .pre .4) (a .progress) (w .put-page .result) _ _ _ _ _ _ _ (b .build-page .ensures) (w .put-page .ensures) (c .note .ensures)
 
 pub write-page-spec : {M : Type 1} → statement M
 write-page-spec =

@@ -3,7 +3,8 @@ use Prim.Native.Nat.{_≤_, _-_}
 use native.Mathlib.Omega.{arith}
 use Rattle.lists.specs.Lists.{tab}
 use Rattle.chip.specs.Geometry.{small}
-use Rattle.chip.specs.Chip.{erase, Ran}
+use Rattle.chip.specs.Chip.{erase}
+use Rattle.chip.specs.RunCode.{Ran}
 use Rattle.chip.proofs.Runs.{ran-none}
 use Rattle.log.proofs.FormatCode.{erased-more}
 use borrow.Author.Needs.{needs}
@@ -14,16 +15,16 @@ use Rattle.log.proofs.format.erase_all.Lts as lts
 use Rattle.chip.proofs.image.erase.Reads as erase-reads
 
 abbrev Inv-loop : tie.InvT-loop
-Inv-loop image₀ blocks torn left₀ b₀ image left b = (b ≤ blocks) × Ran small torn (tab 0 b erase) left₀ left image₀ image
+Inv-loop image₀ blocks torn reached₀ b₀ image reached b = (b ≤ blocks) × Ran small torn (tab 0 b erase) reached₀ reached image₀ image
 
 abbrev μ-loop : tie.MeasureT-loop
-μ-loop image₀ blocks torn left₀ b₀ image left b = blocks - b
+μ-loop image₀ blocks torn reached₀ b₀ image reached b = blocks - b
 
 -- src/format.rt:25:5
 loop-holds : tie.Need-loop-holds Inv-loop μ-loop
 loop-holds c =
     let a = c .before .before .args in
-    (search needs, ran-none small (a .torn .now) (a .power) (a .image .now))
+    (search needs, ran-none small (a .torn .now) (a .progress) (a .image .now))
 
 -- src/format.rt:26:9
 erase-requires : tie.Need-erase-requires Inv-loop μ-loop
@@ -43,7 +44,7 @@ loop-again c =
     let e = c .before .before in
     let l = e .before .before .before .loop in
     let a = e .before .before .before .before .before .before .args in
-    (search needs, erased-more small (a .torn .now) (l .b) (a .power) (l .left) (e .erase .result) (a .image .now) (l .image) _ (l .inv .1) (e .erase .ensures))
+    (search needs, erased-more small (a .torn .now) (l .b) (a .progress) (l .reached) (e .erase .result) (a .image .now) (l .image) _ (l .inv .1) (e .erase .ensures))
 
 -- src/format.rt:19:1
 same-length : tie.Need-same-length Inv-loop μ-loop

@@ -39,7 +39,7 @@ returns c =
     let e = w .before .before .before .before .before in
     let p = e .before .before .before in
     let a = p .before .before .before .before .args in
-    first-written (a .torn .now) (a .blocks) _ (a .power) (e .erase-all .result) (w .write-at .result) (a .image .now) _ _
+    first-written (a .torn .now) (a .blocks) _ (a .progress) (e .erase-all .result) (w .write-at .result) (a .image .now) _ _
     (p .put-first .ensures) (e .erase-all .ensures) (w .write-at .ensures)
 
 pub format-spec : {M : Type 1} → statement M

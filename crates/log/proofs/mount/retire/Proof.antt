@@ -3,7 +3,8 @@ use Prim.Native.Nat.{_≤_, _-_}
 use native.Mathlib.Omega.{arith}
 use lib.ListN.{take}
 use Rattle.chip.specs.Geometry.{small}
-use Rattle.chip.specs.Chip.{Ran, pagesOf}
+use Rattle.chip.specs.Chip.{pagesOf}
+use Rattle.chip.specs.RunCode.{Ran}
 use Rattle.chip.proofs.ImageLaws.{length-pages}
 use Rattle.chip.proofs.Runs.{ran-none}
 use Rattle.log.proofs.MountCode.{retire-more, retire-done}
@@ -16,16 +17,16 @@ use Rattle.log.proofs.mount.retire_at.Reads as retire-at-reads
 use Rattle.log.specs.MountCode.{retireOps}
 
 abbrev Inv-loop : tie.InvT-loop
-Inv-loop image₀ commit torn pages left₀ at₀ image left at = (at ≤ pages) × Ran small torn (retireOps small commit (take at (pagesOf small image₀))) left₀ left image₀ image
+Inv-loop image₀ commit torn pages reached₀ at₀ image reached at = (at ≤ pages) × Ran small torn (retireOps small commit (take at (pagesOf small image₀))) reached₀ reached image₀ image
 
 abbrev μ-loop : tie.MeasureT-loop
-μ-loop image₀ commit torn pages left₀ at₀ image left at = pages - at
+μ-loop image₀ commit torn pages reached₀ at₀ image reached at = pages - at
 
 -- src/mount.rt:48:5
 loop-holds : tie.Need-loop-holds Inv-loop μ-loop
 loop-holds c =
     let a = c .before .before .args in
-    (search needs, ran-none small (a .torn .now) (a .power) (a .image .now))
+    (search needs, ran-none small (a .torn .now) (a .progress) (a .image .now))
 
 -- src/mount.rt:49:9
 retire-at-requires : tie.Need-retire-at-requires Inv-loop μ-loop
@@ -52,7 +53,7 @@ loop-again c =
     let a = k .args in
     let xs = a .image .now in (
       search needs,
-      retire-more small (a .torn .now) (a .commit) (l .at) (a .power) (l .left) (r .retire-at .result) xs (l .image) _ (omega (arith, length-pages small xs)) (l .inv .1) (r .retire-at .ensures),
+      retire-more small (a .torn .now) (a .commit) (l .at) (a .progress) (l .reached) (r .retire-at .result) xs (l .image) _ (omega (arith, length-pages small xs)) (l .inv .1) (r .retire-at .ensures),
     )
 
 -- src/mount.rt:41:1
@@ -65,7 +66,7 @@ returns c =
     let l = c .before .loop in
     let a = c .before .before .before .before .args in
     let xs = a .image .now in
-    retire-done small (a .torn .now) (a .commit) (l .at) (a .power) (l .left) xs (l .image) (omega (arith, length-pages small xs)) (l .inv .1)
+    retire-done small (a .torn .now) (a .commit) (l .at) (a .progress) (l .reached) xs (l .image) (omega (arith, length-pages small xs)) (l .inv .1)
 
 pub retire-spec : {M : Type 1} → statement M
 retire-spec =

@@ -55,7 +55,7 @@ returns c =
     let xs = a .image .now in
     let on : a .at < length xs / 528 = omega (arith, k .pre) in
     let x = ap (λ (y : List ℕ). isOf small (a .commit) y) (page-at small xs (a .at) on ∙ ap (λ (n : ℕ). part (a .at * 528) n xs) (sym (add-sub-cancel-left (a .at * 528) 528))) in
-    retire-none small (a .torn .now) (a .commit) (a .at) _ (a .power) xs (x ∙ sym (o .is-of .ensures) ∙ not-true _ (c .if1 .taken))
+    retire-none small (a .torn .now) (a .commit) (a .at) _ (a .progress) xs (x ∙ sym (o .is-of .ensures) ∙ not-true _ (c .if1 .taken))
 
 -- src/mount.rt:37:5
 set-mark-requires : tie.Need-set-mark-requires
@@ -75,7 +75,7 @@ returns-2 c =
     let on : a .at < length xs / 528 = omega (arith, k .pre) in
     let x = ap (λ (y : List ℕ). isOf small (a .commit) y) (page-at small xs (a .at) on ∙ ap (λ (n : ℕ). part (a .at * 528) n xs) (sym (add-sub-cancel-left (a .at * 528) 528))) in
     let m = c .before .before in
-    retire-one small (a .torn .now) (a .commit) (a .at) _ (a .power) (m .set-mark .result) xs _ (x ∙ sym (o .is-of .ensures) ∙ not-false _ (m .before .before .if1 .left)) (m .set-mark .ensures)
+    retire-one small (a .torn .now) (a .commit) (a .at) _ (a .progress) (m .set-mark .result) xs _ (x ∙ sym (o .is-of .ensures) ∙ not-false _ (m .before .before .if1 .left)) (m .set-mark .ensures)
 
 pub retire-at-spec : {M : Type 1} → statement M
 retire-at-spec =

@@ -54,9 +54,9 @@ returns c =
     let fits : k .args .at * 528 + 528 ≤ length xs = search needs in
     let x = part (k .args .at * 528) 528 xs in
     let w = c .before .before .write-page in
-    let put = page-lent small xs n refl (omega (arith, k .pre)) (k .args .at) (written small torn bytes (k .args .power)) (omega (arith, fits))
-    (length-written small torn bytes (k .pre .2) (k .pre .3) (k .args .power) x (length-part xs (k .args .at * 528) 528 fits)) _ (w .ensures .page) in
-    written-ran small torn bytes (k .args .at) (k .args .power) (w .result) xs _ (w .ensures .power) (put .0) (put .1)
+    let put = page-lent small xs n refl (omega (arith, k .pre)) (k .args .at) (written small torn bytes (k .args .progress .left)) (omega (arith, fits))
+    (length-written small torn bytes (k .pre .2) (k .pre .3) (k .args .progress .left) x (length-part xs (k .args .at * 528) 528 fits)) _ (w .ensures .page) in
+    written-ran small torn bytes (k .args .at) (k .args .progress) (w .result) xs _ (w .ensures .power) (w .ensures .told) (put .0) (put .1)
 
 pub write-at-spec : {M : Type 1} → statement M
 write-at-spec =

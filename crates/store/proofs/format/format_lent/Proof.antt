@@ -7,10 +7,15 @@ use Rattle.store.proofs.format.format_lent.Statement.{statement}
 use Rattle.store.proofs.format.format_lent.Tie as tie
 use Rattle.store.proofs.format.format_lent.Reads as reads
 use Rattle.store.proofs.format.format_lent.Lts as lts
+use Rattle.chip.proofs.progress.begin.Reads as begin-reads
 use Rattle.log.proofs.format.format.Reads as format-reads
 use Rattle.store.proofs.admit.sized.Reads as sized-reads
 use Rattle.store.proofs.ending.ended.Reads as ended-reads
 use Rattle.store.proofs.ending.quiet.Reads as quiet-reads
+
+-- the allowance has 32 bits
+low : (w : tie.After-shared-slice-known) → w .before .before .args .allowance < 4294967296
+low w = search needs
 
 sized-requires : tie.Need-sized-requires
 sized-requires c κs = search needs
@@ -26,9 +31,12 @@ returns c buffer =
     let s = joined (a .numbers) buffer (a .lens .now) (a .slots .now) in
     rw (c .quiet .ensures) (format-size (a .allowance) (a .torn .now) s (a .image .now) (z .sized .result) (z .sized .ensures) (omega (arith, h .if1 .taken)))
 
+begin-requires : tie.Need-begin-requires
+begin-requires c κs = search needs
+
 format-requires : tie.Need-format-requires
 format-requires c κs =
-    let l = c .before in
+    let l = c .before .before in
     let z = l .before .sized in
     let p : 0 < z .result = omega (arith, l .if1 .left) in
     (z .ensures .chip p .size, p, z .ensures .torn p)
@@ -46,14 +54,16 @@ returns-2 : tie.Need-returns-2
 returns-2 c buffer =
     let k = c .before .before .before .before .before in
     let f = k .before .before in
-    let l = f .before .before in
+    let g = f .before .before in
+    let l = g .before in
     let z = l .before .sized in
     let a = l .before .before .before .before .args in
     let s = joined (a .numbers) buffer (a .lens .now) (a .slots .now) in
-    format-ended (a .allowance) (a .torn .now) s (a .image .now) _ (z .result) (z .ensures) (omega (arith, l .if1 .left)) (f .format .result) (f .format .ensures)
+    format-ended (a .allowance) (a .torn .now) s (a .image .now) _ (z .result) (z .ensures) (omega (arith, l .if1 .left)) (low (l .before .before)) (g .begin .result) (f .format .result)
+    (g .begin .ensures) (f .format .ensures)
     (λ j. omega (arith, k .slice-known2 .given j)) buffer _ (c .ended .ensures buffer)
 
 pub format-lent-spec : {M : Type 1} → statement M
 format-lent-spec =
     tie.close
-    (tie.spec sized-requires quiet-requires returns format-requires array-write-l ended-requires same-length returns-2)
+    (tie.spec sized-requires quiet-requires returns begin-requires format-requires array-write-l ended-requires same-length returns-2)

@@ -13,6 +13,7 @@ use Rattle.store.proofs.mount.mount_lent.Statement.{statement}
 use Rattle.store.proofs.mount.mount_lent.Tie as tie
 use Rattle.store.proofs.mount.mount_lent.Reads as reads
 use Rattle.store.proofs.mount.mount_lent.Lts as lts
+use Rattle.chip.proofs.progress.begin.Reads as begin-reads
 use Rattle.store.proofs.admit.sized.Reads as sized-reads
 use Rattle.store.proofs.check.check.Reads as check-reads
 use Rattle.store.proofs.ending.ended.Reads as ended-reads
@@ -31,6 +32,10 @@ sizes e =
 -- the image holds bytes
 bytes : (w : tie.After-slice-known) → (j : ℕ) → getD (w .before .args .image .now) j 0 < 256
 bytes w j = omega (arith, w .slice-known .given j)
+
+-- the allowance has 32 bits
+low : (w : tie.After-slice-known) → w .before .args .allowance < 4294967296
+low w = search needs
 
 -- what the image means
 meaning : (w : tie.After-commit)
@@ -87,9 +92,12 @@ cast-limit c = omega (arith, sizes (c .before .before .before .before .before .b
 next-number-requires : tie.Need-next-number-requires
 next-number-requires c κs = omega (arith, sizes (c .before .before .before .before .before .before .before .before) .0 .most)
 
+begin-requires : tie.Need-begin-requires
+begin-requires c κs = search needs
+
 retire-requires : tie.Need-retire-requires
 retire-requires c κs =
-    let k = c .before .before .before .before .before .before in
+    let k = c .before .before .before .before .before .before .before in
     let z = sizes (k .before .before .before .before) in
     (omega (arith, z .0 .size), z .1)
 
@@ -148,7 +156,8 @@ returns-5 : tie.Need-returns-5
 returns-5 c buffer =
     let v = c .before .before .before .before .before in
     let n = v .before .before in
-    let o = n .before .before in
+    let g = n .before .before in
+    let o = g .before in
     let t = o .before .before .before in
     let k = t .before .before in
     let e = k .before .before .before .before in
@@ -157,7 +166,8 @@ returns-5 c buffer =
     let s = joined (a .numbers) buffer (a .lens .now) (a .slots .now) in
     marked-mounts (a .allowance) (a .torn .now) s (a .image .now) (bytes w) (e .before .sized .result) (sizes e .0) (sizes e .1)
     (k .check .last .1 .1 .0) (k .check .last .1 .1 .1 .0) (t .commit .given .0 .0) (t .commit .given .0 .1 .0) (meaning t)
-    (n .retire .last .0) (n .retire .result) (n .retire .ensures) (λ j. omega (arith, v .slice-known2 .given j)) (o .next-number .result) (o .next-number .ensures)
+    (n .retire .last .0) (low w) (g .begin .result) (n .retire .result)
+    (g .begin .ensures) (n .retire .ensures) (λ j. omega (arith, v .slice-known2 .given j)) (o .next-number .result) (o .next-number .ensures)
     buffer _ (c .ended .ensures buffer)
 
 pub mount-lent-spec : {M : Type 1} → statement M
@@ -178,6 +188,7 @@ mount-lent-spec =
     mul-limit
     cast-limit
     next-number-requires
+    begin-requires
     retire-requires
     ended-requires
     same-length

@@ -11,7 +11,7 @@ use Rattle.log.proofs.mount.retire.Reads as retire-reads
 returns : tie.Need-returns
 returns c =
     let a = c .before .before .before in
-    rw (eq-eqb _ _ (c .if1 .taken)) (ran-none small (a .args .torn .now) (a .args .power) (a .args .image .now))
+    rw (eq-eqb _ _ (c .if1 .taken)) (ran-none small (a .args .torn .now) (a .args .progress) (a .args .image .now))
 
 retire-requires : tie.Need-retire-requires
 retire-requires c κs = search needs

@@ -5,17 +5,19 @@ use mathlib.Core.List.{List, [], map, foldl}
 use Prim.Native.Nat.{ℕ, suc, _*_, _^_, _<_, _≤_}
 use lib.ListN.{length}
 use Rattle.lists.specs.Lists.{All}
-use Rattle.chip.specs.declared.power.Power.{Power}
+use Rattle.chip.specs.declared.progress.Progress.{Progress}
 use Rattle.chip.specs.Geometry.{Geometry, pageSize, small}
 use Rattle.chip.specs.Page.{Page}
-use Rattle.chip.specs.Chip.{pagesOf, Ran}
+use Rattle.chip.specs.Chip.{pagesOf}
+use Rattle.chip.specs.RunCode.{Ran}
 use Rattle.pages.specs.declared.unit.Unit as U
 use Rattle.pages.specs.declared.unit.Decoded.the-variants.{Good}
 use Rattle.pages.specs.Units.{Valid, decodes}
-use Rattle.pages.specs.Steps.{liveFrom, ordered, stand, steps}
+use Rattle.pages.specs.Steps.{Live, liveFrom, ordered, stand, steps}
 use Rattle.views.specs.Table.{Node, events, isWhole, meaning, means, turn}
 use Rattle.views.specs.Groups.{present}
 use Rattle.views.specs.Stored.{Stores}
+use Rattle.log.specs.Commit.{commitOps}
 use Rattle.log.specs.Plan.{Plan, isEmpty, opsOf, newsOf, nodeAt}
 use Rattle.log.specs.Policy.{planOf}
 use Rattle.commits.specs.declared.execute.Ended.{Ended}
@@ -42,17 +44,18 @@ pub record Plannable (limit B : ℕ) (lens slots : List ℕ) (count : ℕ) (buff
   pub whole : (n : ℕ) → n < limit → isWhole (present n (nodeAt tb n .now) us) ≡ true
 
 -- the plan q done as far as the power goes; and the lists with the pages of the plan noted
-pub record Executed (limit G : ℕ) (tb : List Node) (q : Plan) (torn : List ℕ) (p : Power) (before after lens slots : List ℕ) (left : Power) : Type 0 where
-  pub ran : Ran small torn (opsOf small G q) p left before after
+pub record Executed (limit G : ℕ) (tb : List Node) (q : Plan) (torn : List ℕ) (p : Progress) (before after lens slots : List ℕ) (reached : Progress) : Type 0 where
+  pub ran : Ran small torn (opsOf small G q) p reached before after
   pub lists : (n : ℕ) → n < limit → Stores lens slots n (foldl (turn n) (nodeAt tb n) (events limit (newsOf small G q)) .pages)
 
--- on any arrays the image keeps its length, and is as it was where the commit is stuck; on arrays that hold a table and units it is stuck where
--- the plan has no page, and else the plan is executed. The arrays l and s become r and t
-pub record Executes (limit B : ℕ) (lens slots : List ℕ) (count : ℕ) (buffer : List ℕ) (G : ℕ) (torn : List ℕ) (p : Power)
+-- on any arrays the image keeps its length, is as it was where the commit is stuck, and else some blocks were erased and some pages written; on arrays that hold
+-- a table and units it is stuck where the plan has no page, and else the plan is executed. The arrays l and s become r and t
+pub record Executes (limit B : ℕ) (lens slots : List ℕ) (count : ℕ) (buffer : List ℕ) (G : ℕ) (torn : List ℕ) (p : Progress)
     (before after l s r t : List ℕ) (e : Ended) : Type 0 where
   pub size : length after ≡ length before
   pub still : e .stuck ≡ true → after ≡ before
+  pub some : e .stuck ≡ false → (bs : List ℕ) × (news : List Live) × Ran small torn (commitOps bs news) p (e .reached) before after
   pub stuck : (tb : List Node) (us : List U.Unit) → Plannable limit B lens slots count buffer (pagesOf small before) tb G us
       → e .stuck ≡ isEmpty (planOf small limit B (pagesOf small before) tb G us .written)
   pub is : (tb : List Node) (us : List U.Unit) → Plannable limit B lens slots count buffer (pagesOf small before) tb G us → l ≡ lens → s ≡ slots
-      → e .stuck ≡ false → Executed limit G tb (planOf small limit B (pagesOf small before) tb G us) torn p before after r t (e .left)
+      → e .stuck ≡ false → Executed limit G tb (planOf small limit B (pagesOf small before) tb G us) torn p before after r t (e .reached)

@@ -1,0 +1,102 @@
+-- What the counts told say of a call, by its contract alone: a finished format 1, 2, B; a finished commit the pages and erases of its plan; a mount
+-- marks alone; a call refused otherwise than with 10 nothing. Assumes nothing.
+use mathlib.Core.Path.{_≡_, refl, sym, ap, _∙_}
+use mathlib.Core.Bool.{true, false, not, _&&_}
+use mathlib.Core.List.{List}
+use Prim.Native.Nat.{ℕ, zero, suc, _*_, _≤_}
+use native.Mathlib.Omega.{arith}
+use lib.Dec.{leb}
+use lib.ListN.{length}
+use borrow.Author.Tests.{leb-true, leb-false}
+use Rattle.lists.proofs.Tests.{cases}
+use Rattle.chip.specs.declared.progress.Counts.{Counts}
+use Rattle.chip.specs.Geometry.{small, blocksOf}
+use Rattle.chip.specs.Counts.{nothing, total}
+use Rattle.chip.specs.Chip.{pagesOf}
+use Rattle.chip.proofs.CountLaws.{total-nothing}
+use Rattle.log.specs.Format.{formatOps}
+use Rattle.log.proofs.KindLaws.{format-kinds, mount-kinds, commit-kinds}
+use Rattle.promise.specs.Plain.{refuses, accepted, formats, mounts, firstRefusal, isChipSize, isTornSize}
+use Rattle.promise.specs.Plain as Plain
+use Rattle.promise.specs.Calls as P
+use Rattle.promise.specs.Calls.{Meaning, invalid, means}
+use Rattle.promise.specs.Image.{imageMeaning}
+use Rattle.promise.proofs.Promise.{accepted-not, when-is}
+use Rattle.store.specs.declared.state.State.{State}
+use Rattle.store.specs.declared.state.Wrote.{Wrote}
+use Rattle.store.specs.Answers.{answerOf}
+use Rattle.store.specs.State.{commitCount}
+use Rattle.store.specs.Contracts.{index, thePlan, theOps, Formats, Mounts, Commits}
+use Rattle.store.proofs.CommitGood.{count-some}
+use Rattle.store.proofs.CommitDone.{all-told}
+
+module _ (n : ℕ) (torn : List ℕ) (s : State) (i : List ℕ) (r : Wrote) (i' : List ℕ) where
+  -- an accepted call passed the first tests
+  passed : (c : Plain.Call) (m : ℕ) → firstRefusal small (s .on) (s .blocks) c ≡ m
+      → P.FirstTests small (index small) c s i (answerOf (r .answer)) (r .state) i' → answerOf (r .answer) ≡ accepted → firstRefusal small (s .on) (s .blocks) c ≡ 0
+  passed c zero e f a = e
+  passed c (suc m) e f a = absurd (accepted-not (suc m) (sym a ∙ f .refused m e .0))
+
+  -- and had power for all its operations
+  powered : (need : ℕ) → P.OpsTold need n (answerOf (r .answer)) (total (r .ops)) → answerOf (r .answer) ≡ accepted → need ≤ n
+  powered need p a =
+      cases (leb need n) (λ t. leb-true need n t) (λ t. absurd (accepted-not 10 (sym a ∙ p .short (leb-false need n t) .0)))
+
+  -- ---- format
+  pub format-refused : Formats n torn s i r i' → (k : ℕ) → answerOf (r .answer) ≡ refuses k → (k ≡ 10 → ⊥) → r .ops ≡ nothing
+  format-refused f k a d = total-nothing (r .ops) (f .says .quiet k a d)
+
+  pub format-told : Formats n torn s i r i' → answerOf (r .answer) ≡ accepted → r .ops ≡ record { programs = 1; marks = 2; erases = blocksOf small (length i) }
+  format-told f a =
+      let z = passed (formats n (length i) (length torn)) _ refl (f .says .first) a in
+      f .kinds z
+      ∙ all-told n (formatOps small (blocksOf small (length i))) (powered (length (formatOps small (blocksOf small (length i)))) (f .says .power z) a)
+      ∙ format-kinds small (blocksOf small (length i))
+
+  -- ---- mount
+  pub mount-refused : Mounts n torn s i r i' → (k : ℕ) → answerOf (r .answer) ≡ refuses k → (k ≡ 10 → ⊥) → r .ops ≡ nothing
+  mount-refused f k a d = total-nothing (r .ops) (f .says .quiet k a d)
+
+  -- finished, cut or refused: marks alone
+  abbrev MarksAlone : Counts → Type 0
+  MarksAlone c = (c .programs ≡ 0) × (c .erases ≡ 0)
+
+  alone : (c : Counts) → c ≡ nothing → MarksAlone c
+  alone c e = (ap (λ (d : Counts). d .programs) e, ap (λ (d : Counts). d .erases) e)
+
+  by-meaning : Mounts n torn s i r i' → firstRefusal small (s .on) (s .blocks) (mounts n (length i) (length torn)) ≡ 0
+      → (m : Meaning) → imageMeaning small i ≡ m → MarksAlone (r .ops)
+  by-meaning f z (invalid k) e = alone (r .ops) (total-nothing (r .ops) (f .says .refused z k e .1))
+  by-meaning f z (means K G) e =
+      let q = f .kinds z K G e ∙ mount-kinds small n (pagesOf small i) in
+      (ap (λ (d : Counts). d .programs) q, ap (λ (d : Counts). d .erases) q)
+
+  ten-not : (m : ℕ) → firstRefusal small (s .on) (s .blocks) (mounts n (length i) (length torn)) ≡ suc m → suc m ≡ 10 → ⊥
+  ten-not m e t = omega (arith, when-is 1 m (not (isChipSize small (length i) && isTornSize small (length torn))) e, t)
+
+  by-first : Mounts n torn s i r i' → (m : ℕ) → firstRefusal small (s .on) (s .blocks) (mounts n (length i) (length torn)) ≡ m → MarksAlone (r .ops)
+  by-first f zero e = by-meaning f e (imageMeaning small i) refl
+  by-first f (suc m) e = alone (r .ops) (mount-refused f (suc m) (f .says .first .refused m e .0) (λ t. ten-not m e t))
+
+  pub mount-told : Mounts n torn s i r i' → MarksAlone (r .ops)
+  mount-told f = by-first f (firstRefusal small (s .on) (s .blocks) (mounts n (length i) (length torn))) refl
+
+  -- ---- commit
+  pub commit-refused : Commits n torn s i r i' → (k : ℕ) → answerOf (r .answer) ≡ refuses k → (k ≡ 10 → ⊥) → r .ops ≡ nothing
+  commit-refused f k a d = total-nothing (r .ops) (f .says .quiet k a d .0)
+
+  -- with updates pending: a data program and two marks for each page of the plan, and its erases
+  pub commit-told : Commits n torn s i r i' → P.Committing small (index small) n torn s i → answerOf (r .answer) ≡ accepted
+      → r .ops ≡ record { programs = length (thePlan s i .written); marks = 2 * length (thePlan s i .written); erases = length (thePlan s i .erased) }
+  commit-told f c a =
+      f .kinds c
+      ∙ all-told n (theOps s i) enough
+      ∙ commit-kinds small (s .commit) (thePlan s i)
+    where
+      able : index small .able s i ≡ true
+      able = cases (index small .able s i) (λ t. t) (λ t. absurd (accepted-not 6 (sym a ∙ f .says .stuck c t)))
+
+      enough : length (theOps s i) ≤ n
+      enough =
+          let p : commitCount small s i ≤ n = powered (commitCount small s i) (f .says .power c able) a in
+          omega (arith, p, count-some s i (c .pending))
