@@ -121,7 +121,11 @@ impl Both {
     /// The report of each block, and of one past the last, compared.
     pub fn block_reports(&self) {
         for block in 0..=(self.image.len() / BLOCK) as u32 {
-            assert_eq!(self.library.block_report(&self.image, block), self.twin.block_report(&self.twin_image, block), "block report");
+            assert_eq!(
+                self.library.block_report(&self.image, block),
+                twin::block_report(&self.twin, &self.twin_image, block),
+                "block report"
+            );
         }
     }
 

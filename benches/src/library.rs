@@ -2,10 +2,11 @@
 
 use model::twin::told::{Counts, Told};
 
-/// The parts of a state: its numbers, the lengths and the pages of the lists, the reservation buffer.
+/// The parts of a state: its numbers, the lengths and the pages of the lists, the erases of each block, the reservation buffer.
 type Numbers = [u32; 6];
 type Lens = [u32; 256];
 type Slots = [u32; 1024];
+type Erases = [u64; 32];
 type Buffer = [u8; 11520];
 
 /// What a call counts: data programs, marks set, erases.
@@ -41,11 +42,19 @@ extern "C" {
         image_len: usize,
         key: u32,
     ) -> u32;
-    fn vehinoke_block_report(numbers: &Numbers, image: *const u8, image_len: usize, block: u32, told: &mut [u32; 2]) -> u32;
+    fn vehinoke_block_report(
+        numbers: &Numbers,
+        erases: &Erases,
+        image: *const u8,
+        image_len: usize,
+        block: u32,
+        told: &mut [u64; 3],
+    ) -> u32;
     fn vehinoke_format(
         numbers: &mut Numbers,
         lens: &mut Lens,
         slots: &mut Slots,
+        erases: &mut Erases,
         image: *mut u8,
         image_len: usize,
         torn: *const u8,
@@ -57,6 +66,7 @@ extern "C" {
         numbers: &mut Numbers,
         lens: &mut Lens,
         slots: &mut Slots,
+        erases: &mut Erases,
         image: *mut u8,
         image_len: usize,
         torn: *const u8,
@@ -68,6 +78,7 @@ extern "C" {
         numbers: &mut Numbers,
         lens: &mut Lens,
         slots: &mut Slots,
+        erases: &mut Erases,
         buffer: &Buffer,
         image: *mut u8,
         image_len: usize,
@@ -90,6 +101,7 @@ pub struct Library {
     numbers: Numbers,
     lens: Box<Lens>,
     slots: Box<Slots>,
+    erases: Erases,
     buffer: Box<Buffer>,
 }
 
@@ -101,7 +113,7 @@ fn told(refusal: u32, [programs, marks, erases]: Ops) -> Told {
 impl Library {
     /// A state that is off.
     pub fn new() -> Library {
-        Library { numbers: [0; 6], lens: Box::new([0; 256]), slots: Box::new([0; 1024]), buffer: Box::new([0; 11520]) }
+        Library { numbers: [0; 6], lens: Box::new([0; 256]), slots: Box::new([0; 1024]), erases: [0; 32], buffer: Box::new([0; 11520]) }
     }
 
     /// The state made equal to another, in place.
@@ -109,6 +121,7 @@ impl Library {
         self.numbers = other.numbers;
         self.lens.clone_from(&other.lens);
         self.slots.clone_from(&other.slots);
+        self.erases = other.erases;
         self.buffer.clone_from(&other.buffer);
     }
 
@@ -116,24 +129,24 @@ impl Library {
     pub fn format(&mut self, image: &mut [u8], torn: &[u8], allowance: u32) -> Told {
         let mut ops = [0; 3];
         let (i, t) = (image.as_mut_ptr(), torn.as_ptr());
-        let (n, l, s) = (&mut self.numbers, &mut self.lens, &mut self.slots);
-        let refusal = unsafe { vehinoke_format(n, l, s, i, image.len(), t, torn.len(), allowance, &mut ops) };
+        let (n, l, s, e) = (&mut self.numbers, &mut self.lens, &mut self.slots, &mut self.erases);
+        let refusal = unsafe { vehinoke_format(n, l, s, e, i, image.len(), t, torn.len(), allowance, &mut ops) };
         told(refusal, ops)
     }
 
     pub fn mount(&mut self, image: &mut [u8], torn: &[u8], allowance: u32) -> Told {
         let mut ops = [0; 3];
         let (i, t) = (image.as_mut_ptr(), torn.as_ptr());
-        let (n, l, s) = (&mut self.numbers, &mut self.lens, &mut self.slots);
-        let refusal = unsafe { vehinoke_mount(n, l, s, i, image.len(), t, torn.len(), allowance, &mut ops) };
+        let (n, l, s, e) = (&mut self.numbers, &mut self.lens, &mut self.slots, &mut self.erases);
+        let refusal = unsafe { vehinoke_mount(n, l, s, e, i, image.len(), t, torn.len(), allowance, &mut ops) };
         told(refusal, ops)
     }
 
     pub fn commit(&mut self, image: &mut [u8], torn: &[u8], allowance: u32) -> Told {
         let mut ops = [0; 3];
         let (i, t) = (image.as_mut_ptr(), torn.as_ptr());
-        let (n, l, s, b) = (&mut self.numbers, &mut self.lens, &mut self.slots, &self.buffer);
-        let refusal = unsafe { vehinoke_commit(n, l, s, b, i, image.len(), t, torn.len(), allowance, &mut ops) };
+        let (n, l, s, e, b) = (&mut self.numbers, &mut self.lens, &mut self.slots, &mut self.erases, &self.buffer);
+        let refusal = unsafe { vehinoke_commit(n, l, s, e, b, i, image.len(), t, torn.len(), allowance, &mut ops) };
         told(refusal, ops)
     }
 
@@ -157,11 +170,12 @@ impl Library {
         unsafe { vehinoke_delete(n, l, s, b, image.as_ptr(), image.len(), key) }
     }
 
-    /// The free pages of a block and the first free one; else the refusal.
-    pub fn block_report(&self, image: &[u8], block: u32) -> Result<(u32, u32), u32> {
-        let mut told = [0, 0];
-        match unsafe { vehinoke_block_report(&self.numbers, image.as_ptr(), image.len(), block, &mut told) } {
-            0 => Ok((told[0], told[1])),
+    /// The free pages of a block, the first free one and its erases on record; else the refusal.
+    pub fn block_report(&self, image: &[u8], block: u32) -> Result<(u32, u32, u64), u32> {
+        let mut told = [0, 0, 0];
+        let (n, e) = (&self.numbers, &self.erases);
+        match unsafe { vehinoke_block_report(n, e, image.as_ptr(), image.len(), block, &mut told) } {
+            0 => Ok((told[0] as u32, told[1] as u32, told[2])),
             refusal => Err(refusal),
         }
     }

@@ -31,7 +31,7 @@ fn twin(call: &str, both: &mut Both, number: u32) {
         "insert" => assert_eq!(both.twin.insert(&both.twin_image, number, number), 0),
         "commit" => assert_eq!(both.twin.commit(&mut both.twin_image, &TORN, ALLOWANCE).refusal, 0),
         "mount" => assert_eq!(both.twin.mount(&mut both.twin_image, &TORN, ALLOWANCE).refusal, 0),
-        "block-report" => drop(black_box(both.twin.block_report(&both.twin_image, number))),
+        "block-report" => drop(black_box(twin::block_report(&both.twin, &both.twin_image, number))),
         _ => assert_eq!(both.twin.format(&mut both.twin_image, &TORN, ALLOWANCE).refusal, 0),
     }
 }

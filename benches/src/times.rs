@@ -65,7 +65,7 @@ fn block_report(both: &Both, rounds: usize) -> Vec<Round> {
     let blocks = (both.image.len() / BLOCK) as u32;
     let list: Vec<u32> = (0..64).flat_map(|_| 0..blocks).collect();
     let library = |block| both.library.block_report(black_box(&both.image), block);
-    asked(&list, rounds, library, |block| both.twin.block_report(black_box(&both.twin_image), block))
+    asked(&list, rounds, library, |block| twin::block_report(&both.twin, black_box(&both.twin_image), block))
 }
 
 /// The times of inserts of `list`, of library and twin, each into the state of `both`; what they leave is compared by look ups.

@@ -55,7 +55,8 @@ impl Run {
         self.wear.erases += u64::from(counts.erases);
     }
 
-    /// A commit, counted; the pages and the blocks erased that it tells are those found on the image.
+    /// A commit, counted; the pages and the blocks erased that it tells are those found on the image. Behind an erase the reports of
+    /// library and twin are compared.
     fn commit(&mut self) {
         if self.both.pending == 0 {
             return;
@@ -67,6 +68,9 @@ impl Run {
         assert_eq!(self.both.last_pages(), counts.programs, "the pages programmed");
         assert_eq!(erased.len(), counts.erases as usize, "the blocks erased");
         erased.iter().for_each(|&b| self.wear.worn[b] += 1);
+        if !erased.is_empty() {
+            self.both.block_reports();
+        }
         self.wear.commits += 1;
         self.count(counts);
     }

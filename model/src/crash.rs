@@ -102,11 +102,12 @@ impl Case {
         }
     }
 
-    /// A checksum, a mount with power enough, a checksum, and a look up of every key of the case and of some others.
+    /// A checksum, a mount with power enough, a checksum, reports of all blocks, and a look up of every key of the case and of some others.
     fn check(&self, writer: &mut Writer) {
         writer.check();
         writer.mount(255);
         writer.check();
+        writer.reports();
         for &key in &self.keys {
             writer.look_up(key);
         }
@@ -172,8 +173,10 @@ impl Case {
             self.replay(writer);
             writer.format(allowance);
             writer.check();
+            writer.reports();
             writer.mount(255);
             writer.check();
+            writer.reports();
         }
         need as usize + 1
     }

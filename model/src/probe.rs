@@ -3,6 +3,7 @@
 use crate::crc::crc32;
 use crate::frame::parse;
 use crate::twin::chip::{BLOCK, PAGE};
+use crate::twin::report::Report;
 use crate::twin::show::show;
 use crate::twin::state::State;
 use crate::twin::told::{Counts, Told};
@@ -85,7 +86,7 @@ impl Probe {
             (4, 10) => wrote(self.state.commit(image, torn, first)),
             (5, 10) => wrote(self.state.mount(image, torn, first)),
             (6, 10) => match self.state.block_report(image, first) {
-                Ok((free, first)) => format!("00{free:02X}{first:02X}"),
+                Ok(Report { free, first, erases }) => format!("00{free:02X}{first:02X}{erases:016X}"),
                 Err(refusal) => plain(refusal),
             },
             (7, 10) => self.show(first),

@@ -1,4 +1,5 @@
-//! The three counts of format, mount and commit: data programs, marks set, erases; replies and images made by hand.
+//! The three counts of format, mount and commit, data programs, marks set, erases, and the erases of blocks; made by hand.
+mod erases;
 mod hand;
 
 use hand::{data, obsolete, reply, write, Hand};

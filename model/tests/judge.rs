@@ -1,4 +1,5 @@
 //! The judge against a tiny store: right answers pass, each fault of the store is seen.
+mod lists;
 mod tiny;
 
 use model::model::chip::{BLOCK, PAGE};
@@ -128,6 +129,14 @@ fn growth(run: &mut Run, random: &mut Random) -> Result<(), String> {
     Ok(())
 }
 
+/// A commit refused for the torn length, and the report of a block.
+fn refused_commit(run: &mut Run) -> Result<(), String> {
+    run.frame(Frame::TornLength(527))?;
+    run.frame(Frame::Commit(2000))?;
+    run.frame(Frame::Report(0))?;
+    run.frame(Frame::TornLength(528)).map(|_| ())
+}
+
 /// A script of a list of calls with few frames that change what is lent.
 fn script(run: &mut Run, random: &mut Random, lines: u64) -> Result<(), String> {
     run.frame(Frame::Format(2000))?;
@@ -138,6 +147,7 @@ fn script(run: &mut Run, random: &mut Random, lines: u64) -> Result<(), String> 
         if random.once_in(400) {
             run.frame(Frame::Insert(5, 5))?;
             run.frame(Frame::Commit(random.below(2) as u32 * 2000))?;
+            refused_commit(run)?;
             for _ in 0..random.below(4) {
                 run.frame(outside(random))?;
             }

@@ -1,12 +1,12 @@
 //! What the twin's format, mount and commit count: the operations done whole, by kind, at every allowance.
+mod filled;
+
+use filled::{formatted, update, TORN};
 use model::random::Random;
 use model::twin::chip::{is_live, BLOCK, PAGE};
 use model::twin::state::State;
 use model::twin::told::{Counts, Kind, Told};
 use model::twin::unit::word;
-
-/// The torn bytes.
-const TORN: [u8; PAGE] = [0x5A; PAGE];
 
 /// The kinds of a call's operations: blocks erased, and then pages written.
 fn kinds(erases: u32, pages: u32) -> Vec<Kind> {
@@ -24,24 +24,6 @@ fn cut_everywhere(kinds: &[Kind], call: impl Fn(u32) -> Told) {
     }
     for allowance in [kinds.len() as u32, u32::MAX] {
         assert_eq!(call(allowance), Told { refusal: 0, counts });
-    }
-}
-
-/// A store formatted on a chip of this many blocks.
-fn formatted(blocks: usize) -> (State, Vec<u8>) {
-    let (mut state, mut image) = (State::new(), vec![255; blocks * BLOCK]);
-    state.format(&mut image, &TORN, u32::MAX);
-    (state, image)
-}
-
-/// Updates of random keys of `range`: as many as may be pending, or fewer.
-fn update(random: &mut Random, state: &mut State, image: &[u8], range: u64) {
-    for _ in 0..1 + random.below(40) {
-        let key = random.below(range) as u32 * 1_000_003;
-        match random.below(5) {
-            0 => state.delete(image, key),
-            _ => state.insert(image, key, random.next() as u32),
-        };
     }
 }
 

@@ -26,24 +26,24 @@ fn tell_refusal(refusal: u32) {
 }
 
 // A number behind a space.
-fn tell_number(n: u32) {
+fn tell_number(n: u64) {
     io::write_all(1, b" ");
-    io::print_decimal(1, n as u64);
+    io::print_decimal(1, n);
 }
 
 // The refusal, and a number that the call tells.
 fn tell(refusal: u32, told: u32) {
     tell_refusal(refusal);
-    tell_number(told);
+    tell_number(told as u64);
     io::write_all(1, b"\n");
 }
 
 // The refusal, and the operations that the call tells by kind.
 fn tell_counts(refusal: u32, ops: Counts) {
     tell_refusal(refusal);
-    tell_number(ops.programs);
-    tell_number(ops.marks);
-    tell_number(ops.erases);
+    tell_number(ops.programs as u64);
+    tell_number(ops.marks as u64);
+    tell_number(ops.erases as u64);
     io::write_all(1, b"\n");
 }
 
@@ -60,12 +60,15 @@ fn look(state: State, image: &[u8], key: u32) {
     }
 }
 
-// A block report: the refusal, the free pages and the first of them.
+// A block report: the refusal; the free pages, the first of them and the erases of the block.
 fn free(state: State, image: &[u8], block: u32) {
     match report::block_report(state, image, block) {
-        Report::Free(count, first) => {
-            tell(0, count);
-            tell(0, first);
+        Report::Free(count, first, erases) => {
+            tell_refusal(0);
+            tell_number(count as u64);
+            tell_number(first as u64);
+            tell_number(erases);
+            io::write_all(1, b"\n");
         }
         Report::Off => tell(2, 0),
         Report::Size => tell(1, 0),

@@ -1,5 +1,6 @@
 pub mod PowerLaws
 pub mod CountLaws
+pub mod EraseLaws
 pub mod PageLaws
 pub mod SetLaws
 pub mod BlockLaws

@@ -10,7 +10,7 @@ use lib.Seq.{take-at, getD-append-add, getD-drop, getD-set-same, getD-set-other,
 use borrow.Author.Tests.{ne-eqb, leb-true, leb-false}
 use Rattle.lists.specs.Lists.{At, mapFrom}
 use Rattle.lists.proofs.Tests.{cases, and-left}
-use Rattle.lists.proofs.Places.{At-mapFrom}
+use Rattle.lists.proofs.Places.{At-mapFrom, getD-same}
 use Rattle.chip.specs.declared.page.Mark.{Mark}
 use Rattle.chip.specs.declared.page.Mark.the-variants.{Used, Valid, Obsolete}
 use Rattle.chip.specs.Geometry.{Geometry}
@@ -50,17 +50,12 @@ pub programmed-data : (g : Geometry) (d : List ℕ) (x : Page) → length d ≡ 
 programmed-data g d x l = take-at d (drop (g .area) x) (g .area) l
 
 -- ---- an erased page, and a page whose erase was torn: no mark is set
-at-blank : (n i : ℕ) → _≡_ {A = ℕ} (getD (replicate n 255) i 255) 255
-at-blank zero i = refl
-at-blank (suc n) zero = refl
-at-blank (suc n) (suc i) = at-blank n i
-
 pub blank-unset : (g : Geometry) (m : Mark) → isSet g m (blank g) ≡ false
 unfolding isSet blank
 blank-unset g m =
     ap (λ (b : ℕ). eqb b 0)
     (ap (λ (l : List ℕ). getD l (g .area + spareByte m) 255) (replicate-append-replicate (g .area) (g .spare) 255)
-    ∙ at-blank (g .area + g .spare) (g .area + spareByte m))
+    ∙ getD-same (g .area + g .spare) (g .area + spareByte m) 255)
 
 mend-set : (n : ℕ) → mend n ≡ 0 → ⊥
 mend-set zero e = omega arith

@@ -2,7 +2,7 @@
 use mathlib.Core.Path.{_≡_, refl, sym, ap, ap₂, _∙_, subst}
 use mathlib.Core.Logic.{⊎-elim}
 use mathlib.Core.Bool.{true, false}
-use mathlib.Core.List.{List, [], _∷_, foldl}
+use mathlib.Core.List.{List, [], _∷_, foldl, map}
 use Prim.Native.Nat.{ℕ, zero, suc, _+_, _*_, _<_, _≤_}
 use native.Mathlib.Numerals.{add-one}
 use native.Mathlib.Omega.{arith}
@@ -15,7 +15,8 @@ use Rattle.lists.proofs.Tests.{clash}
 use Rattle.chip.specs.declared.progress.Progress.{Progress}
 use Rattle.chip.specs.Geometry.{small}
 use Rattle.chip.specs.Page.{Page}
-use Rattle.chip.specs.Chip.{pagesOf}
+use Rattle.chip.specs.Chip.{erase, pagesOf}
+use Rattle.chip.specs.Erases.{figuresAfter}
 use Rattle.chip.specs.RunCode.{Ran}
 use Rattle.pages.specs.declared.unit.Unit as U
 use Rattle.pages.specs.declared.unit.Update.{Update}
@@ -28,6 +29,7 @@ use Rattle.log.specs.Plan.{Plan, erases, headBlock, isEmpty, newsOf, nodeAt, op
 use Rattle.log.specs.Admissible.{Assignment, Contents, allPacks, contentsOf, pagePacks, unusedBlocks, writtenOf}
 use Rattle.log.specs.Policy.{Decision, decide, decideOn, planOf, follow, nothing, planBy, usedBlocks}
 use Rattle.log.specs.PlanCode.{targetIn}
+use Rattle.log.proofs.EraseLaws.{commit-figures}
 use Rattle.log.proofs.ContentsLaws.{decide-same, page-same, plan-by-same}
 use Rattle.log.proofs.AssignedChoice.{Chip, Committable}
 use Rattle.log.proofs.PlanKept.{chip-small, wide-small, ready}
@@ -207,30 +209,33 @@ module _ {limit B : ℕ} {lens slots : List ℕ} {count : ℕ} {bytes : List ℕ
     -- carried out
     pub executed : 0 < r .pages → (torn : List ℕ) → length torn ≡ 528 → 3 ≤ B → B ≤ 32 → {p reached : Progress} {before after u v : List ℕ}
         → CarriesOut limit G r targets sizes units torn p reached before after lens slots u v
-        → Executed limit G tb (planOf small limit B ps tb G us) torn p before after u v reached
-    executed h torn size many most {p} {reached} {before} {after} {u} {v} c =
-        let x = follows (decisionOf limit B lens slots count bytes G ps) refl h in
-        let A = x .0 in
-        let e : namedPlan limit (f A (x .1) h) targets r ≡ planOf small limit B ps tb G us = named-is A (x .1) h ∙ sym (plan-is (follow A) (x .1)) in
-        let hold = named-holds A (x .1) h in
+        → {w x : List ℕ} → x ≡ figuresAfter (map erase (take (r .erases) (r .erased))) w
+        → Executed limit G tb (planOf small limit B ps tb G us) torn p before after u v w x reached
+    executed h torn size many most {p} {reached} {before} {after} {u} {v} c {w} {x} k =
+        let y = follows (decisionOf limit B lens slots count bytes G ps) refl h in
+        let A = y .0 in
+        let e : namedPlan limit (f A (y .1) h) targets r ≡ planOf small limit B ps tb G us = named-is A (y .1) h ∙ sym (plan-is (follow A) (y .1)) in
+        let hold = named-holds A (y .1) h in
         let ran : Ran small torn (opsOf small G (planOf small limit B ps tb G us)) p reached before after =
-        subst (λ (q : Plan). Ran small torn (opsOf small G q) p reached before after) e (c .ran (f A (x .1) h) hold) in
-        let valid : All (ValidSheet small limit) (namedPlan limit (f A (x .1) h) targets r .written) =
+        subst (λ (q : Plan). Ran small torn (opsOf small G q) p reached before after) e (c .ran (f A (y .1) h) hold) in
+        let valid : All (ValidSheet small limit) (namedPlan limit (f A (y .1) h) targets r .written) =
         subst (λ (q : Plan). All (ValidSheet small limit) (q .written)) (sym e) (plan-holds torn size many) in
         let turned : Turned (events limit (newsOf small G (planOf small limit B ps tb G us))) lens slots u v =
-        subst (λ (q : Plan). Turned (events limit (newsOf small G q)) lens slots u v) e (c .turned (f A (x .1) h) hold valid) in
+        subst (λ (q : Plan). Turned (events limit (newsOf small G q)) lens slots u v) e (c .turned (f A (y .1) h) hold valid) in
         record {
           ran = ran;
           lists = stores-after limit (nodeAt tb) (newsOf small G (planOf small limit B ps tb G us)) lens slots u v (omega (arith, pl .limits)) (pl .held .lists) turned;
+          figures = k ∙ ap (λ (q : Plan). figuresAfter (map erase (q .erased)) w) e
+              ∙ commit-figures (planOf small limit B ps tb G us .erased) (newsOf small G (planOf small limit B ps tb G us)) w;
         }
 
 -- ---- the call
 module _ {limit B : ℕ} {lens slots : List ℕ} {count : ℕ} {bytes : List ℕ} {G : ℕ} (before : List ℕ) {targets sizes units : List ℕ} {r : M.Plan}
     (m : Makes limit B lens slots count bytes G (pagesOf small before) targets sizes units r) where
   -- no page: nothing is done
-  pub executes-none : r .pages ≡ 0 → (torn : List ℕ) (p : Progress) (l s u v : List ℕ)
-      → Executes limit B lens slots count bytes G torn p before before l s u v (record { stuck = true; reached = p })
-  executes-none z torn p l s u v =
+  pub executes-none : r .pages ≡ 0 → (torn : List ℕ) (p : Progress) (l s u v w x : List ℕ)
+      → Executes limit B lens slots count bytes G torn p before before l s u v w x (record { stuck = true; reached = p })
+  executes-none z torn p l s u v w x =
       record {
         size = refl;
         still = λ e. refl;
@@ -242,16 +247,17 @@ module _ {limit B : ℕ} {lens slots : List ℕ} {count : ℕ} {bytes : List ℕ
   -- pages: the plan is carried out
   pub executes-some : 0 < r .pages → (torn : List ℕ) → length torn ≡ 528 → 3 ≤ B → B ≤ 32 → {p reached : Progress} {after l s u v : List ℕ}
       → CarriesOut limit G r targets sizes units torn p reached before after l s u v
-      → Executes limit B lens slots count bytes G torn p before after l s u v (record { stuck = false; reached = reached })
-  executes-some h torn size many most {p} {reached} {after} {l} {s} {u} {v} c =
+      → {w x : List ℕ} → x ≡ figuresAfter (map erase (take (r .erases) (r .erased))) w
+      → Executes limit B lens slots count bytes G torn p before after l s u v w x (record { stuck = false; reached = reached })
+  executes-some h torn size many most {p} {reached} {after} {l} {s} {u} {v} c {w} {x} k =
       record {
         size = c .size;
         still = λ e. clash e refl;
-        some = λ e. (take (r .erases) (r .erased), c .some .0, c .some .1);
+        some = λ e. (take (r .erases) (r .erased), c .some .0, c .some .1, k ∙ commit-figures (take (r .erases) (r .erased)) (c .some .0) w);
         stuck = λ tb us pl. sym (empty-some m pl h);
         is = λ tb us pl a b e. executed m pl h torn size many most
-            (subst (λ (x : List ℕ). CarriesOut limit G r targets sizes units torn p reached before after x slots u v) a
-            (subst (λ (y : List ℕ). CarriesOut limit G r targets sizes units torn p reached before after l y u v) b c));
+            (subst (λ (y : List ℕ). CarriesOut limit G r targets sizes units torn p reached before after y slots u v) a
+            (subst (λ (y : List ℕ). CarriesOut limit G r targets sizes units torn p reached before after l y u v) b c)) k;
       }
 
   -- what the execution asks of the plan

@@ -6,6 +6,7 @@ ghost use Rattle.commits.specs.ExecuteCode.{Executes};
 use chip::progress::Progress;
 use execution::execute as carry;
 use execution::execute::Commit;
+use execution::figures;
 use plan::make;
 use plan::make::Basis;
 
@@ -15,7 +16,8 @@ pub struct Ended {
     pub reached: Progress,
 }
 
-// A commit of the units of the buffer, numbered one above the last: the image, and the node table that it leaves.
+// A commit of the units of the buffer, numbered one above the last: the image, and the node table and the erases of each block that it
+// leaves.
 pub fn execute(
     image: &mut [u8],
     lens: &[u32; 256],
@@ -26,11 +28,13 @@ pub fn execute(
     progress: Progress,
     new_lens: &mut [u32; 256],
     new_slots: &mut [u32; 1024],
+    new_erases: &mut [u64; 32],
 ) -> Ended
     requires { ⌜ (length (now image) ≡ basis .blocks * 16896) × (3 ≤ basis .blocks) × (basis .blocks ≤ 32) × (basis .count ≤ 960) × (length (now torn) ≡ 528)
         × (basis .commit < 4294967295) ⌝ }
     ensures { λ r. ⌜ Executes (8 * basis .blocks) (basis .blocks) (now (lens .entry)) (now (slots .entry)) (basis .count) (now (buffer .entry)) (basis .commit) (now (torn .entry)) progress
-        (now (image .entry)) (now (image .exit)) (now («new_lens» .entry)) (now («new_slots» .entry)) (now («new_lens» .exit)) (now («new_slots» .exit)) r ⌝ }
+        (now (image .entry)) (now (image .exit)) (now («new_lens» .entry)) (now («new_slots» .entry)) (now («new_lens» .exit)) (now («new_slots» .exit))
+        (now («new_erases» .entry)) (now («new_erases» .exit)) r ⌝ }
 {
     let mut targets = [0; 256];
     let mut sizes = [0; 256];
@@ -67,8 +71,7 @@ pub fn execute(
         new_lens,
         new_slots,
     );
-    Ended {
-        stuck: false,
-        reached,
-    }
+    figures::count_erases(new_erases, &plan.erased, plan.erases);
+    let stuck = false;
+    Ended { stuck, reached }
 }

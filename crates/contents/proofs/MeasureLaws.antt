@@ -12,6 +12,8 @@ use lib.ListN.{drop, drop-of-length-le, getD, length, length-drop, length-replic
 use lib.Seq.{drop-cons, getD-drop, getD-set-other, getD-set-same, getD-take, take-all, take-take}
 use borrow.Author.Tests.{eqb-false, eqb-true, le-leb, le-ltb, leb-false, lt-leb, lt-ltb, ltb-false, ltb-true, ne-eqb}
 use Rattle.lists.specs.Lists.{any, bit}
+use Rattle.lists.proofs.Places.{getD-same}
+use Rattle.lists.proofs.Filters.{bit-most}
 use Rattle.lists.proofs.Tests.{below-or-not, cases, clash, neither-left, neither-right}
 use Rattle.chip.specs.Geometry.{small}
 use Rattle.chip.specs.Page.{Page}
@@ -24,7 +26,6 @@ use Rattle.log.specs.Admissible.{Contents}
 use Rattle.log.specs.PlanCode.{KeepsUnits, isMarked}
 use Rattle.log.proofs.PlanPlaces.{in-block, out-block}
 use Rattle.contents.specs.ContentsCode.{AllRead, FillsArray, Keeps, KeepsRead, Measured, ReadsNode, ReadsNodes, Tallied, contentsIn, isForcedBy, isRead, isWanted, ownIn}
-use Rattle.contents.proofs.TallyLaws.{getD-zeros}
 use Rattle.contents.proofs.UnitsLaws.{keeps-other, keeps-this}
 
 -- ---- the block of a page
@@ -200,10 +201,6 @@ pub marked-bit : (b : Bool) → eqb (bit b) 1 ≡ b
 marked-bit true = refl
 marked-bit false = refl
 
-bit-most : (b : Bool) → bit b ≤ 1
-bit-most true = omega arith
-bit-most false = omega arith
-
 -- ---- all of it
 module _ (limit oldest : ℕ) (ps : List Page) (lens slots : List ℕ) (count : ℕ) (buffer : List ℕ) (parts resets forms wholes₀ wholes olds₀ olds units₀ units : List ℕ) where
   abbrev N : Contents
@@ -214,7 +211,7 @@ module _ (limit oldest : ℕ) (ps : List Page) (lens slots : List ℕ) (count : 
       (r : ReadsNodes limit (isWanted false parts olds) (λ (n : ℕ). rewrite (N .after n)) wholes₀ wholes units₀ units)
       (m : FillsArray limit (λ (n : ℕ). bit (isForcedBy (getD resets n 0) (getD parts n 0) (getD wholes n 0) (length (storedList lens slots n)))) resets forms) where
     zeros : (n : ℕ) → getD wholes₀ n 0 ≡ 0
-    zeros n = ap (λ (xs : List ℕ). getD xs n 0) z ∙ getD-zeros 256 n
+    zeros n = ap (λ (xs : List ℕ). getD xs n 0) z ∙ getD-same 256 n 0
 
     whole-read : (n : ℕ) → n < limit → isRead parts olds n ≡ true → getD wholes n 0 ≡ length (rewrite (N .after n))
     whole-read n l w = r .count .done n l ∙ rw w

@@ -2,13 +2,14 @@
 use mathlib.Core.Path.{_≡_, refl, sym, ap, _∙_}
 use mathlib.Core.Bool.{Bool, true, false, cond, _||_}
 use mathlib.Core.List.{List, []}
-use Prim.Native.Nat.{ℕ, zero, suc, _+_, _*_, _-_, _<_, _≤_}
+use Prim.Native.Nat.{ℕ, _+_, _*_, _-_, _<_, _≤_}
 use native.Mathlib.Omega.{arith}
 use lib.Dec.{eqb}
 use lib.ListN.{drop, getD, length, length-replicate, length-set, replicate, set, take}
 use lib.Seq.{getD-set-other, getD-set-same}
 use borrow.Author.Tests.{eqb-false, eqb-true}
 use Rattle.lists.specs.Lists.{any}
+use Rattle.lists.proofs.Places.{getD-same}
 use Rattle.lists.proofs.Tests.{cases, or-right}
 use Rattle.pages.specs.declared.unit.Update.{Update}
 use Rattle.pages.specs.declared.unit.Unit as U
@@ -21,11 +22,6 @@ use Rattle.contents.specs.ContentsCode.{Tallied, counted, noted, ownIn, 
 use Rattle.contents.proofs.OwnLaws.{ownFrom, own-end, own-next, own-start, node-below}
 
 -- every number of an array of zeros
-pub getD-zeros : (n b : ℕ) → _≡_ {A = ℕ} (getD (replicate n 0) b 0) 0
-getD-zeros zero b = refl
-getD-zeros (suc n) zero = refl
-getD-zeros (suc n) (suc b) = getD-zeros n b
-
 or-none : (b : Bool) → b ≡ (b || false)
 or-none true = refl
 or-none false = refl
@@ -109,8 +105,8 @@ module _ (limit count : ℕ) (p : List ℕ) where
 
   pub tallying-start : (parts resets : List ℕ) → parts ≡ replicate 256 0 → resets ≡ replicate 256 0 → Tallying 0 parts resets
   tallying-start parts resets e q =
-      let z : (n : ℕ) → getD parts n 0 ≡ 0 = λ n. ap (λ (xs : List ℕ). getD xs n 0) e ∙ getD-zeros 256 n in
-      let y : (n : ℕ) → getD resets n 0 ≡ 0 = λ n. ap (λ (xs : List ℕ). getD xs n 0) q ∙ getD-zeros 256 n in
+      let z : (n : ℕ) → getD parts n 0 ≡ 0 = λ n. ap (λ (xs : List ℕ). getD xs n 0) e ∙ getD-same 256 n 0 in
+      let y : (n : ℕ) → getD resets n 0 ≡ 0 = λ n. ap (λ (xs : List ℕ). getD xs n 0) q ∙ getD-same 256 n 0 in
       record {
         part = λ n. omega (arith, z n, ap length (own-start limit n count p));
         reset = λ n. rw (y n) (ap (any isReset) (own-start limit n count p));

@@ -61,7 +61,7 @@ module _ (n : ℕ) (torn : List ℕ) (s : State) (i : List ℕ) (r : Wrote) (i' 
   format-by f (suc k) e = same-narrow s (r .state) (f .says .first .refused k e .1 .state) h
   format-by f zero e =
       ⊎-elim (λ l. off-narrow (f .off (f .says .power e .short l .0))) (λ l. good-narrow (r .state) i' (f .says .done e l .2))
-      (below-or-not n (index small .formatCount (blocksOf small (length i))))
+      (below-or-not n (length (index small .formatOps (blocksOf small (length i)))))
 
   pub format-narrow : Formats n torn s i r i' → Narrow (r .state)
   format-narrow f = format-by f _ refl
@@ -72,7 +72,7 @@ module _ (n : ℕ) (torn : List ℕ) (s : State) (i : List ℕ) (r : Wrote) (i' 
   mount-by f zero e (invalid m) q = off-narrow (f .off e m (f .says .refused e m q .0))
   mount-by f zero e (means K G) q =
       ⊎-elim (λ l. off-narrow (f .off e 10 (f .says .power e K G q .short l .0))) (λ l. good-narrow (r .state) i' (f .says .done e K G q l .1))
-      (below-or-not n (index small .mountCount i))
+      (below-or-not n (length (index small .mountOps i)))
 
   pub mount-narrow : Mounts n torn s i r i' → Narrow (r .state)
   mount-narrow f = mount-by f _ refl _ refl

@@ -1,5 +1,6 @@
 -- A list of exported calls is a list on lent arrays, and so one of the promise: what each call ensures is one step of it. Assumes nothing.
 use mathlib.Core.Path.{_≡_, refl, sym, ap, subst, _∙_}
+use mathlib.Core.Bool.{true}
 use mathlib.Core.List.{List, [], _∷_, map}
 use Prim.Native.Nat.{ℕ}
 use native.Mathlib.Omega.{arith}
@@ -7,26 +8,28 @@ use lib.ListN.{getD}
 use Rattle.chip.specs.Geometry.{small}
 use Rattle.tree.specs.Tree.{Table}
 use Rattle.promise.specs.Plain.{Plain}
-use Rattle.promise.specs.Steps.{Step, Hands, Only, Started, Uncut, starts, next, Agrees}
+use Rattle.promise.specs.Steps.{Step, Hands, Only, Started, Uncut, lastHands, starts, next, Agrees}
+use Rattle.promise.specs.Erases.{Unworn, sinceStart, wholeErases}
 use Rattle.store.specs.declared.state.Numbers.{Numbers}
 use Rattle.store.specs.declared.state.State.{State}
 use Rattle.store.specs.declared.step.Call.{Call}
 use Rattle.store.specs.declared.step.Call.the-variants.{Format, Insert, Delete, LookUp, Commit, Mount}
 use Rattle.store.specs.Answers.{answerOf, refusalIn}
+use Rattle.store.specs.State.{Good}
 use Rattle.store.specs.Contracts.{index, Formats, Mounts, Inserts, Deletes, Commits}
 use Rattle.store.specs.Parts.{joined}
 use Rattle.store.specs.Step.{ofLook}
 use Rattle.store.specs.Lent.{stateFrom, Meets, lentStep, RunsLent}
 use Rattle.store.proofs.StepLaws.{look-answer}
-use Rattle.store.proofs.LentLists.{lent-promise}
+use Rattle.store.proofs.LentLists.{lent-figures, lent-promise}
 use Rattle.exports.specs.Told.{valueIn}
 use Rattle.exports.specs.Words.{numbersIn}
 use Rattle.exports.specs.Exported.{Memory, partsIn, Ensures, Exported, answerBy, opsBy, exportedStep, promiseStep, RunsExported, TellsAnswer, AgreesTold}
 
 -- the state that memory holds is the one of these numbers, where its words read back as them
-state-is : (m : Memory) (n : Numbers) (buffer lens slots : List ℕ) → numbersIn (m .words) ≡ n → m .buffer ≡ buffer → m .lens ≡ lens → m .slots ≡ slots
-    → stateFrom (partsIn m) ≡ joined n buffer lens slots
-state-is m n buffer lens slots e b l s = cc
+state-is : (m : Memory) (n : Numbers) (buffer lens slots erases : List ℕ) → numbersIn (m .words) ≡ n → m .buffer ≡ buffer → m .lens ≡ lens → m .slots ≡ slots → m .erases ≡ erases
+    → stateFrom (partsIn m) ≡ joined n buffer lens slots erases
+state-is m n buffer lens slots erases e b l s f = cc
 
 -- ---- a list
 module _ (x : Exported) where
@@ -44,30 +47,30 @@ module _ (x : Exported) where
       })
   meets (Format n) h =
       subst (λ (s : State). Formats n (x .torn) (stateFrom (partsIn (x .given))) (x .lent) (record { answer = h .0 .result .answer; ops = h .0 .result .ops; state = s }) (x .left))
-      (sym (state-is (x .after) (h .0 .result .numbers) (x .given .buffer) (x .after .lens) (x .after .slots) (h .0 .exact) (h .1) refl refl)) (h .0 .says (x .given .buffer))
+      (sym (state-is (x .after) (h .0 .result .numbers) (x .given .buffer) (x .after .lens) (x .after .slots) (x .after .erases) (h .0 .exact) (h .1) refl refl refl)) (h .0 .says (x .given .buffer))
   meets (Mount n) h =
       subst (λ (s : State). Mounts n (x .torn) (stateFrom (partsIn (x .given))) (x .lent) (record { answer = h .0 .result .answer; ops = h .0 .result .ops; state = s }) (x .left))
-      (sym (state-is (x .after) (h .0 .result .numbers) (x .given .buffer) (x .after .lens) (x .after .slots) (h .0 .exact) (h .1) refl refl)) (h .0 .says (x .given .buffer))
+      (sym (state-is (x .after) (h .0 .result .numbers) (x .given .buffer) (x .after .lens) (x .after .slots) (x .after .erases) (h .0 .exact) (h .1) refl refl refl)) (h .0 .says (x .given .buffer))
   meets (Commit n) h =
       subst (λ (s : State). Commits n (x .torn) (stateFrom (partsIn (x .given))) (x .lent) (record { answer = h .0 .result .answer; ops = h .0 .result .ops; state = s }) (x .left))
-      (sym (state-is (x .after) (h .0 .result .numbers) (x .given .buffer) (x .after .lens) (x .after .slots) (h .0 .exact) (h .1) refl refl)) (h .0 .says)
+      (sym (state-is (x .after) (h .0 .result .numbers) (x .given .buffer) (x .after .lens) (x .after .slots) (x .after .erases) (h .0 .exact) (h .1) refl refl refl)) (h .0 .says)
   meets (Insert k v) h =
       record {
         says =
             subst (λ (s : State). Inserts k v (stateFrom (partsIn (x .given))) (x .lent) (record { answer = h .0 .result .answer; state = s }))
-            (sym (state-is (x .after) (h .0 .result .numbers) (x .after .buffer) (x .given .lens) (x .given .slots) (h .0 .exact) refl (h .1) (h .2))) (h .0 .says);
+            (sym (state-is (x .after) (h .0 .result .numbers) (x .after .buffer) (x .given .lens) (x .given .slots) (x .given .erases) (h .0 .exact) refl (h .1) (h .2) (h .3))) (h .0 .says (x .given .erases));
         ops = refl;
-        image = h .3;
+        image = h .4;
       }
   meets (Delete k) h =
       record {
         says =
             subst (λ (s : State). Deletes k (stateFrom (partsIn (x .given))) (x .lent) (record { answer = h .0 .result .answer; state = s }))
-            (sym (state-is (x .after) (h .0 .result .numbers) (x .after .buffer) (x .given .lens) (x .given .slots) (h .0 .exact) refl (h .1) (h .2))) (h .0 .says);
+            (sym (state-is (x .after) (h .0 .result .numbers) (x .after .buffer) (x .given .lens) (x .given .slots) (x .given .erases) (h .0 .exact) refl (h .1) (h .2) (h .3))) (h .0 .says (x .given .erases));
         ops = refl;
-        image = h .3;
+        image = h .4;
       }
-  meets (LookUp k) h = record { look = h .0 .look; says = h .0 .says; is = ap (λ (m : Memory). ofLook (h .0 .look) (stateFrom (partsIn m))) (h .1); image = h .2 }
+  meets (LookUp k) h = record { look = h .0 .look; says = h .0 .says (x .given .erases); is = ap (λ (m : Memory). ofLook (h .0 .look) (stateFrom (partsIn m))) (h .1); image = h .2 }
 
   -- what a call tells is its answer
   tells-by : (c : Call) (h : Ensures (x .torn) (x .given) (x .lent) (x .refusal) (x .told) (x .after) (x .left) c) → x .refusal ≡ refusalIn (answerOf (answerBy (x .torn) (x .given) (x .lent) (x .refusal) (x .told) (x .after) (x .left) c h))
@@ -114,3 +117,14 @@ pub exported-promise : (K : Table) (G : ℕ) (m : Memory) (i : List ℕ) (xs : L
 exported-promise K G m i xs s r u =
     agrees-told (starts small (index small) K G i) i xs
     (lent-promise K G (partsIn m) i (map exportedStep xs) s (exported-runs (Only (index small) (stateFrom (partsIn m))) i xs r) (subst (Uncut (index small)) (steps-same xs) u))
+
+-- erases on record: where a list from figures of 0 leaves the store on, the figures in memory are the whole erases since the last finished mount or format
+pub exported-figures : (m : Memory) (i : List ℕ) (xs : List Exported) → Good small (stateFrom (partsIn m)) i → RunsExported (Only (index small) (stateFrom (partsIn m))) i xs
+    → Unworn small (index small) (stateFrom (partsIn m))
+    → (t : State) → lastHands (index small) (Only (index small) (stateFrom (partsIn m))) (map promiseStep xs) t → t .on ≡ true
+    → (b : ℕ) → getD (t .erases) b 0 ≡ wholeErases small (index small) b (sinceStart (index small) (map promiseStep xs))
+exported-figures m i xs g r z =
+    subst
+    (λ (ys : List (Step (index small))). (t : State) → lastHands (index small) (Only (index small) (stateFrom (partsIn m))) ys t → t .on ≡ true
+    → (b : ℕ) → getD (t .erases) b 0 ≡ wholeErases small (index small) b (sinceStart (index small) ys))
+    (sym (steps-same xs)) (lent-figures (partsIn m) i (map exportedStep xs) g (exported-runs (Only (index small) (stateFrom (partsIn m))) i xs r) z)

@@ -16,21 +16,21 @@ use Rattle.exports.specs.Words.{numbersIn, wordsOf}
 -- look up: the refusal r, and the value and the pages read in `told`
 pub record LooksTold (key : ℕ) (words buffer lens slots image : List ℕ) (r : ℕ) (told : List ℕ) : Type 0 where
   pub look : Look
-  pub says : Looks key (joined (numbersIn words) buffer lens slots) image look
+  pub says : (erases : List ℕ) → Looks key (joined (numbersIn words) buffer lens slots erases) image look
   pub refusal : r ≡ lookTold look .refusal
   pub tells : told ≡ lookTold look .first ∷ lookTold look .second ∷ []
 
--- block report, whatever the arrays: the refusal r, and the free pages and the first of them in `told`
-pub record ReportsTold (block : ℕ) (words image : List ℕ) (r : ℕ) (told : List ℕ) : Type 0 where
+-- block report, whatever the buffer and the node table: the refusal r, and the free pages, the first of them and the erases in `told`
+pub record ReportsTold (block : ℕ) (words erases image : List ℕ) (r : ℕ) (told : List ℕ) : Type 0 where
   pub report : Report
-  pub says : (buffer lens slots : List ℕ) → Reports block (joined (numbersIn words) buffer lens slots) image report
+  pub says : (buffer lens slots : List ℕ) → Reports block (joined (numbersIn words) buffer lens slots erases) image report
   pub refusal : r ≡ reportTold report .refusal
-  pub tells : told ≡ reportTold report .first ∷ reportTold report .second ∷ []
+  pub tells : told ≡ reportTold report .free ∷ reportTold report .first ∷ reportTold report .erases ∷ []
 
 -- insert: the refusal r, and the words and the buffer that it leaves
 pub record InsertsTold (key value : ℕ) (words buffer lens slots image : List ℕ) (r : ℕ) (words' buffer' : List ℕ) : Type 0 where
   pub result : UpdatedParts
-  pub says : Inserts key value (joined (numbersIn words) buffer lens slots) image (updatedWith result buffer' lens slots)
+  pub says : (erases : List ℕ) → Inserts key value (joined (numbersIn words) buffer lens slots erases) image (updatedWith result buffer' lens slots erases)
   pub refusal : r ≡ refusalNumber (result .answer)
   pub saved : words' ≡ wordsOf (result .numbers)
   pub exact : numbersIn words' ≡ result .numbers
@@ -38,7 +38,7 @@ pub record InsertsTold (key value : ℕ) (words buffer lens slots image : List �
 -- delete: the same
 pub record DeletesTold (key : ℕ) (words buffer lens slots image : List ℕ) (r : ℕ) (words' buffer' : List ℕ) : Type 0 where
   pub result : UpdatedParts
-  pub says : Deletes key (joined (numbersIn words) buffer lens slots) image (updatedWith result buffer' lens slots)
+  pub says : (erases : List ℕ) → Deletes key (joined (numbersIn words) buffer lens slots erases) image (updatedWith result buffer' lens slots erases)
   pub refusal : r ≡ refusalNumber (result .answer)
   pub saved : words' ≡ wordsOf (result .numbers)
   pub exact : numbersIn words' ≡ result .numbers
@@ -49,23 +49,23 @@ pub record Tells (result : WroteParts) (r : ℕ) (ops words' : List ℕ) : Type 
   pub saved : words' ≡ wordsOf (result .numbers)
   pub done : ops ≡ result .ops .programs ∷ result .ops .marks ∷ result .ops .erases ∷ []
 
--- format, whatever the buffer: the node table and the image that it leaves
-pub record FormatsTold (allowance : ℕ) (torn words lens slots image : List ℕ) (r : ℕ) (ops words' lens' slots' image' : List ℕ) : Type 0 where
+-- format, whatever the buffer: the node table, the erases and the image that it leaves
+pub record FormatsTold (allowance : ℕ) (torn words lens slots erases image : List ℕ) (r : ℕ) (ops words' lens' slots' erases' image' : List ℕ) : Type 0 where
   pub result : WroteParts
-  pub says : (buffer : List ℕ) → Formats allowance torn (joined (numbersIn words) buffer lens slots) image (wroteWith result buffer lens' slots') image'
+  pub says : (buffer : List ℕ) → Formats allowance torn (joined (numbersIn words) buffer lens slots erases) image (wroteWith result buffer lens' slots' erases') image'
   pub tells : Tells result r ops words'
   pub exact : numbersIn words' ≡ result .numbers
 
 -- mount, whatever the buffer: the same
-pub record MountsTold (allowance : ℕ) (torn words lens slots image : List ℕ) (r : ℕ) (ops words' lens' slots' image' : List ℕ) : Type 0 where
+pub record MountsTold (allowance : ℕ) (torn words lens slots erases image : List ℕ) (r : ℕ) (ops words' lens' slots' erases' image' : List ℕ) : Type 0 where
   pub result : WroteParts
-  pub says : (buffer : List ℕ) → Mounts allowance torn (joined (numbersIn words) buffer lens slots) image (wroteWith result buffer lens' slots') image'
+  pub says : (buffer : List ℕ) → Mounts allowance torn (joined (numbersIn words) buffer lens slots erases) image (wroteWith result buffer lens' slots' erases') image'
   pub tells : Tells result r ops words'
   pub exact : numbersIn words' ≡ result .numbers
 
 -- commit: the same with the buffer
-pub record CommitsTold (allowance : ℕ) (torn words buffer lens slots image : List ℕ) (r : ℕ) (ops words' lens' slots' image' : List ℕ) : Type 0 where
+pub record CommitsTold (allowance : ℕ) (torn words buffer lens slots erases image : List ℕ) (r : ℕ) (ops words' lens' slots' erases' image' : List ℕ) : Type 0 where
   pub result : WroteParts
-  pub says : Commits allowance torn (joined (numbersIn words) buffer lens slots) image (wroteWith result buffer lens' slots') image'
+  pub says : Commits allowance torn (joined (numbersIn words) buffer lens slots erases) image (wroteWith result buffer lens' slots' erases') image'
   pub tells : Tells result r ops words'
   pub exact : numbersIn words' ≡ result .numbers

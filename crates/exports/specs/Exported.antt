@@ -30,22 +30,23 @@ pub record Memory : Type 0 where
   pub buffer : List ℕ
   pub lens : List ℕ
   pub slots : List ℕ
+  pub erases : List ℕ
 
 -- the parts of the state that it holds
 abbrev pub partsIn : Memory → Parts
-partsIn m = record { numbers = numbersIn (m .words); buffer = m .buffer; lens = m .lens; slots = m .slots }
+partsIn m = record { numbers = numbersIn (m .words); buffer = m .buffer; lens = m .lens; slots = m .slots; erases = m .erases }
 
 -- from the memory m and the image i to the refusal r, the numbers told, the memory m' and the image i'
 module _ (torn : List ℕ) (m : Memory) (i : List ℕ) (r : ℕ) (told : List ℕ) (m' : Memory) (i' : List ℕ) where
   -- what a call ensures: its contract; and what is lent to it for reading only, or not at all, stays
   abbrev pub Ensures : Call → Type 0
-  Ensures (Format n) = FormatsTold n torn (m .words) (m .lens) (m .slots) i r told (m' .words) (m' .lens) (m' .slots) i' × (m' .buffer ≡ m .buffer)
-  Ensures (Mount n) = MountsTold n torn (m .words) (m .lens) (m .slots) i r told (m' .words) (m' .lens) (m' .slots) i' × (m' .buffer ≡ m .buffer)
-  Ensures (Commit n) = CommitsTold n torn (m .words) (m .buffer) (m .lens) (m .slots) i r told (m' .words) (m' .lens) (m' .slots) i' × (m' .buffer ≡ m .buffer)
+  Ensures (Format n) = FormatsTold n torn (m .words) (m .lens) (m .slots) (m .erases) i r told (m' .words) (m' .lens) (m' .slots) (m' .erases) i' × (m' .buffer ≡ m .buffer)
+  Ensures (Mount n) = MountsTold n torn (m .words) (m .lens) (m .slots) (m .erases) i r told (m' .words) (m' .lens) (m' .slots) (m' .erases) i' × (m' .buffer ≡ m .buffer)
+  Ensures (Commit n) = CommitsTold n torn (m .words) (m .buffer) (m .lens) (m .slots) (m .erases) i r told (m' .words) (m' .lens) (m' .slots) (m' .erases) i' × (m' .buffer ≡ m .buffer)
   Ensures (Insert k v) =
-      InsertsTold k v (m .words) (m .buffer) (m .lens) (m .slots) i r (m' .words) (m' .buffer) × (m' .lens ≡ m .lens) × (m' .slots ≡ m .slots) × (i' ≡ i)
+      InsertsTold k v (m .words) (m .buffer) (m .lens) (m .slots) i r (m' .words) (m' .buffer) × (m' .lens ≡ m .lens) × (m' .slots ≡ m .slots) × (m' .erases ≡ m .erases) × (i' ≡ i)
   Ensures (Delete k) =
-      DeletesTold k (m .words) (m .buffer) (m .lens) (m .slots) i r (m' .words) (m' .buffer) × (m' .lens ≡ m .lens) × (m' .slots ≡ m .slots) × (i' ≡ i)
+      DeletesTold k (m .words) (m .buffer) (m .lens) (m .slots) i r (m' .words) (m' .buffer) × (m' .lens ≡ m .lens) × (m' .slots ≡ m .slots) × (m' .erases ≡ m .erases) × (i' ≡ i)
   Ensures (LookUp k) = LooksTold k (m .words) (m .buffer) (m .lens) (m .slots) i r told × (m' ≡ m) × (i' ≡ i)
 
   -- the answer and the operations of the result that it tells

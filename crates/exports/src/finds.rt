@@ -8,11 +8,19 @@ use store::answer::Report;
 use store::find;
 use store::report;
 
-// What a call tells: its refusal, 0 for none, and two numbers, 0 where there are none.
+// What a look up tells: its refusal, 0 for none, and two numbers, 0 where there are none.
 struct Told {
     refusal: u32,
     first: u32,
     second: u32,
+}
+
+// What a block report tells: its refusal, 0 for none, and three numbers, 0 where there are none.
+struct Reported {
+    refusal: u32,
+    free: u64,
+    first: u64,
+    erases: u64,
 }
 
 // A look up's answer in numbers: the value found and the pages read.
@@ -43,31 +51,32 @@ fn look_told(look: Look) -> Told
     }
 }
 
-// A block report's answer in numbers: how many pages are free and the first free one.
-fn report_told(report: Report) -> Told
+// A block report that is refused.
+fn not_reported(refusal: u32) -> Reported
+    ensures { λ r. ⌜ r ≡ record { refusal = refusal; free = 0; first = 0; erases = 0 } ⌝ }
+{
+    Reported {
+        refusal,
+        free: 0,
+        first: 0,
+        erases: 0,
+    }
+}
+
+// A block report's answer in numbers: how many pages are free, the first free one and the erases of the block.
+fn report_told(report: Report) -> Reported
     ensures { λ r. ⌜ r ≡ reportTold report ⌝ }
 {
     match report {
-        Report::Free(first, second) => Told {
+        Report::Free(free, first, erases) => Reported {
             refusal: 0,
-            first,
-            second,
+            free: free as u64,
+            first: first as u64,
+            erases,
         },
-        Report::Off => Told {
-            refusal: 2,
-            first: 0,
-            second: 0,
-        },
-        Report::Size => Told {
-            refusal: 1,
-            first: 0,
-            second: 0,
-        },
-        Report::Absent => Told {
-            refusal: 4,
-            first: 0,
-            second: 0,
-        },
+        Report::Off => not_reported(2),
+        Report::Size => not_reported(1),
+        Report::Absent => not_reported(4),
     }
 }
 
@@ -90,18 +99,19 @@ pub extern "C" fn vehinoke_look_up<'a>(
     t.refusal
 }
 
-// Block report: the refusal, and in `told` how many pages of the block are free and the first free one.
+// Block report: the refusal, and in `told` how many pages of the block are free, the first free one and the erases of the block.
 #[no_mangle]
 pub extern "C" fn vehinoke_block_report(
     numbers: &[u32; 6],
+    erases: &[u64; 32],
     image: &[u8],
     block: u32,
-    told: &mut [u32; 2],
+    told: &mut [u64; 3],
 ) -> u32
-    ensures { λ r. ⌜ ReportsTold block (now (numbers .entry)) (now (image .entry)) r (now (told .exit)) ⌝ }
+    ensures { λ r. ⌜ ReportsTold block (now (numbers .entry)) (now (erases .entry)) (now (image .entry)) r (now (told .exit)) ⌝ }
 {
     let n = numbers::load(numbers);
-    let t = report_told(report::block_report_lent(n, image, block));
-    *told = [t.first, t.second];
+    let t = report_told(report::block_report_lent(n, erases, image, block));
+    *told = [t.free, t.first, t.erases];
     t.refusal
 }

@@ -25,16 +25,17 @@ pub extern "C" fn vehinoke_format(
     numbers: &mut [u32; 6],
     lens: &mut [u32; 256],
     slots: &mut [u32; 1024],
+    erases: &mut [u64; 32],
     image: &mut [u8],
     torn: &[u8],
     allowance: u32,
     ops: &mut [u32; 3],
 ) -> u32
-    ensures { λ r. ⌜ FormatsTold allowance (now (torn .entry)) (now (numbers .entry)) (now (lens .entry)) (now (slots .entry)) (now (image .entry))
-        r (now (ops .exit)) (now (numbers .exit)) (now (lens .exit)) (now (slots .exit)) (now (image .exit)) ⌝ }
+    ensures { λ r. ⌜ FormatsTold allowance (now (torn .entry)) (now (numbers .entry)) (now (lens .entry)) (now (slots .entry)) (now (erases .entry)) (now (image .entry))
+        r (now (ops .exit)) (now (numbers .exit)) (now (lens .exit)) (now (slots .exit)) (now (erases .exit)) (now (image .exit)) ⌝ }
 {
     let n = numbers::load(numbers);
-    let w = format::format_lent(n, lens, slots, image, torn, allowance);
+    let w = format::format_lent(n, lens, slots, erases, image, torn, allowance);
     give(w, numbers, ops)
 }
 
@@ -44,16 +45,17 @@ pub extern "C" fn vehinoke_mount(
     numbers: &mut [u32; 6],
     lens: &mut [u32; 256],
     slots: &mut [u32; 1024],
+    erases: &mut [u64; 32],
     image: &mut [u8],
     torn: &[u8],
     allowance: u32,
     ops: &mut [u32; 3],
 ) -> u32
-    ensures { λ r. ⌜ MountsTold allowance (now (torn .entry)) (now (numbers .entry)) (now (lens .entry)) (now (slots .entry)) (now (image .entry))
-        r (now (ops .exit)) (now (numbers .exit)) (now (lens .exit)) (now (slots .exit)) (now (image .exit)) ⌝ }
+    ensures { λ r. ⌜ MountsTold allowance (now (torn .entry)) (now (numbers .entry)) (now (lens .entry)) (now (slots .entry)) (now (erases .entry)) (now (image .entry))
+        r (now (ops .exit)) (now (numbers .exit)) (now (lens .exit)) (now (slots .exit)) (now (erases .exit)) (now (image .exit)) ⌝ }
 {
     let n = numbers::load(numbers);
-    let w = mount::mount_lent(n, lens, slots, image, torn, allowance);
+    let w = mount::mount_lent(n, lens, slots, erases, image, torn, allowance);
     give(w, numbers, ops)
 }
 
@@ -63,16 +65,17 @@ pub extern "C" fn vehinoke_commit(
     numbers: &mut [u32; 6],
     lens: &mut [u32; 256],
     slots: &mut [u32; 1024],
+    erases: &mut [u64; 32],
     buffer: &[u8; 11520],
     image: &mut [u8],
     torn: &[u8],
     allowance: u32,
     ops: &mut [u32; 3],
 ) -> u32
-    ensures { λ r. ⌜ CommitsTold allowance (now (torn .entry)) (now (numbers .entry)) (now (buffer .entry)) (now (lens .entry)) (now (slots .entry)) (now (image .entry))
-        r (now (ops .exit)) (now (numbers .exit)) (now (lens .exit)) (now (slots .exit)) (now (image .exit)) ⌝ }
+    ensures { λ r. ⌜ CommitsTold allowance (now (torn .entry)) (now (numbers .entry)) (now (buffer .entry)) (now (lens .entry)) (now (slots .entry)) (now (erases .entry)) (now (image .entry))
+        r (now (ops .exit)) (now (numbers .exit)) (now (lens .exit)) (now (slots .exit)) (now (erases .exit)) (now (image .exit)) ⌝ }
 {
     let n = numbers::load(numbers);
-    let w = commit::commit_lent(n, lens, slots, buffer, image, torn, allowance);
+    let w = commit::commit_lent(n, lens, slots, erases, buffer, image, torn, allowance);
     give(w, numbers, ops)
 }

@@ -5,7 +5,7 @@ use mathlib.Core.List.{List, [], _∷_, _++_}
 use Prim.Native.Nat.{_+_, _≤_}
 use native.Mathlib.Omega.{arith}
 use lib.ListN.{length}
-use Rattle.lists.specs.Lists.{filter, all, All, none, more, count}
+use Rattle.lists.specs.Lists.{filter, all, All, none, more, bit, count}
 use Rattle.lists.proofs.Tests.{cases}
 
 module _ {A : Type 0} where
@@ -37,6 +37,11 @@ module _ {A : Type 0} where
   pub count-most : (p : A → Bool) (xs : List A) → count p xs ≤ length xs
   count-most p [] = omega arith
   count-most p (x ∷ xs) = cases (p x) (λ t. rw t (omega (arith, count-most p xs))) (λ t. rw t (omega (arith, count-most p xs)))
+
+-- a test counts at most 1
+pub bit-most : (b : Bool) → bit b ≤ 1
+bit-most true = omega arith
+bit-most false = omega arith
 
 pub count-append : {A : Type 0} (p : A → Bool) (a b : List A) → count p (a ++ b) ≡ count p a + count p b
 count-append p [] b = omega arith

@@ -1,10 +1,10 @@
--- Laws of modify, mapFrom and At: one element altered, each altered by its index. Assumes nothing.
-use mathlib.Core.Path.{_≡_, refl, sym, ap, ap₂}
+-- Laws of modify, mapFrom, replicate and At: one element altered, each altered by its index, all of one value. Assumes nothing.
+use mathlib.Core.Path.{_≡_, refl, sym, ap, ap₂, _∙_}
 use mathlib.Core.List.{List, [], _∷_, _++_}
-use Prim.Native.Nat.{ℕ, zero, suc, _+_, _<_}
+use Prim.Native.Nat.{ℕ, zero, suc, _+_, _<_, _≤_}
 use native.Mathlib.Nat.{not-suc-le-zero}
 use native.Mathlib.Omega.{arith}
-use lib.ListN.{length, getD}
+use lib.ListN.{length, getD, set, replicate}
 use Rattle.lists.specs.Lists.{At, modify, mapFrom, patch}
 
 module _ {A : Type 0} where
@@ -16,6 +16,34 @@ module _ {A : Type 0} where
   pub length-mapFrom : (i : ℕ) (f : ℕ → A → A) (xs : List A) → length (mapFrom i f xs) ≡ length xs
   length-mapFrom i f [] = refl
   length-mapFrom i f (x ∷ xs) = ap suc (length-mapFrom (suc i) f xs)
+
+  -- an element altered by its index
+  pub getD-mapFrom : (i : ℕ) (f : ℕ → A → A) (xs : List A) (b : ℕ) (d : A) → b < length xs → getD (mapFrom i f xs) b d ≡ f (i + b) (getD xs b d)
+  getD-mapFrom i f [] b d h = absurd (omega arith)
+  getD-mapFrom i f (x ∷ xs) zero d h = let e : i ≡ i + 0 = omega arith in ap (λ (k : ℕ). f k x) e
+  getD-mapFrom i f (x ∷ xs) (suc b) d h = let e : suc i + b ≡ i + suc b = omega arith in getD-mapFrom (suc i) f xs b d (omega arith) ∙ ap (λ (k : ℕ). f k (getD xs b d)) e
+
+  -- two alterations that agree from index i on
+  pub mapFrom-same : (i : ℕ) (f h : ℕ → A → A) (xs : List A) → ((c : ℕ) (x : A) → i ≤ c → f c x ≡ h c x) → mapFrom i f xs ≡ mapFrom i h xs
+  mapFrom-same i f h [] e = refl
+  mapFrom-same i f h (x ∷ xs) e = rw (e i x (omega arith), mapFrom-same (suc i) f h xs (λ c y l. e c y (omega arith)))
+
+  -- two that agree but at one index
+  pub mapFrom-set : (i : ℕ) (f h : ℕ → A → A) (xs : List A) (b : ℕ) (v d : A) → b < length xs → v ≡ h (i + b) (getD xs b d) → ((c : ℕ) (x : A) → (c ≡ i + b → ⊥) → f c x ≡ h c x)
+      → set (mapFrom i f xs) b v ≡ mapFrom i h xs
+  mapFrom-set i f h [] b v d l e o = absurd (omega arith)
+  mapFrom-set i f h (x ∷ xs) zero v d l e o =
+      let z : i + 0 ≡ i = omega arith in
+      rw (e, z, mapFrom-same (suc i) f h xs (λ c y m. o c y (λ q. omega arith)))
+  mapFrom-set i f h (x ∷ xs) (suc b) v d l e o =
+      let z : i + suc b ≡ suc i + b = omega arith in
+      rw (o i x (λ q. omega arith), mapFrom-set (suc i) f h xs b v d (omega arith) (e ∙ ap (λ (k : ℕ). h k (getD xs b d)) z) (λ c y n. o c y (λ q. n (q ∙ z))))
+
+  -- an element of a list that has one value, and past its end
+  pub getD-same : (k n : ℕ) (v : A) → getD (replicate k v) n v ≡ v
+  getD-same zero n v = refl
+  getD-same (suc k) zero v = refl
+  getD-same (suc k) (suc n) v = getD-same k n v
 
   pub At-same : (f : A → A) (n : ℕ) (x : A) (xs : List A) → At n x xs → At n (f x) (modify n f xs)
   At-same f n x [] h = h

@@ -8,6 +8,7 @@ pub mod CommitBuilt
 pub mod CommitCut
 pub mod CommitLaws
 pub mod KindLaws
+pub mod EraseLaws
 pub mod PlanNodes
 pub mod PlanFair
 pub mod PlanPacks

@@ -1,11 +1,11 @@
 -- Bytes gathered one after the other. Assumes nothing.
-use mathlib.Core.Path.{_≡_, refl, sym, ap, _∙_}
+use mathlib.Core.Path.{_≡_, refl, sym, ap, ap₂, _∙_}
 use mathlib.Core.List.{List, [], _∷_, _++_, append-assoc, append-nil}
 use Prim.Native.Nat.{ℕ, zero, suc, _+_, _-_, _*_, _/_, _%_, _^_, _≤_, _<_}
 use native.Mathlib.Omega.{arith}
 use native.Mathlib.Numerals.{add-one}
 use native.Mathlib.Nat.{pow-suc}
-use lib.Pow.{pow-add}
+use lib.Pow.{field, mod-mod-pow, pow-add, shr-shr}
 use lib.ListN.{length, take, drop, set, getD, length-set, length-append}
 use lib.Seq.{take-suc-set, drop-cons}
 use Rattle.frames.specs.Frames.{digitText, hexText}
@@ -44,6 +44,33 @@ powers zero = refl
 powers (suc k) =
     let e : 4 * suc k ≡ 4 * k + 4 = omega arith in
     ap (λ (j : ℕ). 2 ^ j) e ∙ pow-add 2 (4 * k) 4 ∙ ap (λ (p : ℕ). p * 16) (powers k) ∙ sym (pow-suc 16 k)
+
+-- ---- 16 digits are those of the two halves
+digit-high : (n k : ℕ) → n / 16 ^ (k + 8) % 16 ≡ n / 2 ^ 32 / 16 ^ k % 16
+digit-high n k =
+    let e : 4 * (k + 8) ≡ 32 + 4 * k = omega arith in
+    ap (λ (p : ℕ). n / p % 16) (sym (powers (k + 8)) ∙ ap (λ (j : ℕ). 2 ^ j) e) ∙ ap (λ (m : ℕ). m % 16) (sym (shr-shr n 32 (4 * k)))
+    ∙ ap (λ (p : ℕ). n / 2 ^ 32 / p % 16) (powers k)
+
+digit-low : (n k : ℕ) → k < 8 → n / 16 ^ k % 16 ≡ n % 2 ^ 32 / 16 ^ k % 16
+digit-low n k h =
+    let e : 32 ≡ (28 - 4 * k) + 4 + 4 * k = omega arith in
+    sym (ap (λ (p : ℕ). n % 2 ^ 32 / p % 16) (sym (powers k)) ∙ ap (λ (j : ℕ). n % 2 ^ j / 2 ^ (4 * k) % 16) e
+    ∙ ap (λ (m : ℕ). m % 16) (field n ((28 - 4 * k) + 4) (4 * k)) ∙ mod-mod-pow (n / 2 ^ (4 * k)) (28 - 4 * k) 4
+    ∙ ap (λ (p : ℕ). n / p % 16) (powers k))
+
+high-half : (n k : ℕ) → hexText n (k + 8) ≡ hexText (n / 2 ^ 32) k ++ hexText n 8
+high-half n zero = refl
+high-half n (suc k) =
+    let e : suc k + 8 ≡ suc (k + 8) = omega arith in
+    ap (hexText n) e ∙ ap₂ (λ (d : ℕ) (ds : List ℕ). digitText d ∷ ds) (digit-high n k) (high-half n k)
+
+low-half : (n k : ℕ) → k ≤ 8 → hexText n k ≡ hexText (n % 2 ^ 32) k
+low-half n zero h = refl
+low-half n (suc k) h = ap₂ (λ (d : ℕ) (ds : List ℕ). digitText d ∷ ds) (digit-low n k (omega arith)) (low-half n k (omega arith))
+
+pub halves : (n : ℕ) → hexText n 16 ≡ hexText (n / 4294967296) 8 ++ hexText (n % 4294967296) 8
+halves n = high-half n 8 ∙ ap (λ (ds : List ℕ). hexText (n / 2 ^ 32) 8 ++ ds) (low-half n 8 (omega arith))
 
 pub writes : (b : List ℕ) (at n k : ℕ) (out : List ℕ) (end left d : ℕ) → Digits b at n k out end left → 0 < left → end < length out
     → d ≡ digitText (n / 2 ^ (4 * (left - 1)) % 16) → Digits b at n k (set out end d) (end + 1) (left - 1)

@@ -36,9 +36,9 @@ lookLine (L.Absent pages) = hexText 4 2 ++ shortLine pages
 lookLine L.Off = shortLine 2
 lookLine L.Size = shortLine 1
 
--- the free pages and the first of them, or a refusal
+-- the free pages, the first of them and the erases of the block, or a refusal
 abbrev pub reportLine : Report → List ℕ
-reportLine (R.Free count first) = hexText 0 2 ++ (hexText count 2 ++ shortLine first)
+reportLine (R.Free count first erases) = hexText 0 2 ++ (hexText count 2 ++ (hexText first 2 ++ (hexText erases 16 ++ feed)))
 reportLine R.Off = shortLine 2
 reportLine R.Size = shortLine 1
 reportLine R.Absent = shortLine 4

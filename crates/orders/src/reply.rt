@@ -27,6 +27,17 @@ fn put_number(out: &mut [u8], at: usize, n: u32, digits: u32) -> usize
     end
 }
 
+// A number of 64 bits in 16 digits.
+fn put_wide(out: &mut [u8], at: usize, n: u64) -> usize
+    requires { ⌜ at + 16 ≤ length (now out) ⌝ }
+    ensures { λ r. ⌜ Adds (now (out .entry)) at (hexText n 16) (now (out .exit)) r ⌝ }
+{
+    let high = (n / 4294967296) as u32;
+    let low = (n % 4294967296) as u32;
+    let a = put_number(out, at, high, 8);
+    put_number(out, a, low, 8)
+}
+
 // A line feed.
 fn put_feed(out: &mut [u8], at: usize) -> usize
     requires { ⌜ at + 1 ≤ length (now out) ⌝ }
@@ -95,14 +106,16 @@ pub fn put_look(out: &mut [u8], at: usize, look: Look) -> usize
 
 // What a block report answers.
 pub fn put_report(out: &mut [u8], at: usize, report: Report) -> usize
-    requires { ⌜ at + 7 ≤ length (now out) ⌝ }
+    requires { ⌜ at + 23 ≤ length (now out) ⌝ }
     ensures { λ r. ⌜ Adds (now (out .entry)) at (reportLine report) (now (out .exit)) r ⌝ }
 {
     match report {
-        Report::Free(count, first) => {
+        Report::Free(count, first, erases) => {
             let a = put_number(out, at, 0, 2);
             let b = put_number(out, a, count, 2);
-            put_short(out, b, first)
+            let c = put_number(out, b, first, 2);
+            let d = put_wide(out, c, erases);
+            put_feed(out, d)
         }
         Report::Off => put_short(out, at, 2),
         Report::Size => put_short(out, at, 1),

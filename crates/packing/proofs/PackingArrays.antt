@@ -11,7 +11,7 @@ use lib.Seq.{drop-cons, getD-set-other, getD-set-same, getD-take, length-take-le
 use borrow.Author.Tests.{eqb-false, eqb-true, ne-eqb, le-leb, lt-leb, lt-ltb}
 use Rattle.lists.specs.Lists.{filter, first, modify}
 use Rattle.lists.proofs.Tests.{cases}
-use Rattle.lists.proofs.Places.{getD-default}
+use Rattle.lists.proofs.Places.{getD-default, getD-same}
 use Rattle.log.specs.Plan.{countFrom}
 use Rattle.log.specs.Admissible.{Target, unwritten, inPage}
 use Rattle.log.specs.Packing.{Packing, Sizes, fit, assign, sizeOf, changedAt, packNode, packed, unpacked}
@@ -236,11 +236,6 @@ module _ (wholes parts : List ℕ) (n count : ℕ) (rooms targets forms : List �
       }
 
 -- ---- the two passes
-getD-same : (k n v : ℕ) → getD (replicate k v) n v ≡ v
-getD-same zero n v = refl
-getD-same (suc k) zero v = refl
-getD-same (suc k) (suc n) v = getD-same k n v
-
 -- no node has a page
 module _ (k : ℕ) (rooms forms targets : List ℕ) (none : targets ≡ replicate k 65535) where
   target-unset : (n : ℕ) → getD targets n 65535 ≡ 65535

@@ -2,7 +2,7 @@
 use mathlib.Core.Path.{_≡_, refl, sym, ap, ap₂, _∙_}
 use mathlib.Core.Bool.{Bool, true, false, cond, _||_, not}
 use mathlib.Core.List.{List, [], _∷_, _++_, foldl, foldl-append, append-assoc, append-nil}
-use Prim.Native.Nat.{ℕ, zero, suc, _+_, _-_, _*_, _/_, _<_, _≤_, min}
+use Prim.Native.Nat.{ℕ, suc, _+_, _-_, _*_, _/_, _<_, _≤_, min}
 use native.Mathlib.Nat.{div-mul-le-self, lt-div-mul-add}
 use native.Mathlib.Numerals.{add-one}
 use native.Mathlib.Omega.{arith}
@@ -12,6 +12,7 @@ use lib.Seq.{getD-set-same, getD-set-other, take-all, take-take, drop-cons, getD
 use borrow.Author.Tests.{eqb-true, eqb-false, ltb-true, ltb-false}
 use lib.Dec.{ltb}
 use Rattle.lists.specs.Lists.{filter, any, flat}
+use Rattle.lists.proofs.Places.{getD-same}
 use Rattle.lists.proofs.Tests.{cases}
 use Rattle.lists.proofs.Anys.{any-append}
 use Rattle.chip.specs.Geometry.{Geometry, small}
@@ -74,11 +75,6 @@ any-flat : {A B : Type 0} (p : B → Bool) (f : A → List B) (xs : List A) → 
 any-flat p f [] = refl
 any-flat p f (x ∷ xs) = any-append p (f x) (flat f xs) ∙ ap (λ (t : Bool). any p (f x) || t) (any-flat p f xs)
 
-getD-zeros : (n b : ℕ) → _≡_ {A = ℕ} (getD (replicate n 0) b 0) 0
-getD-zeros zero b = refl
-getD-zeros (suc n) zero = refl
-getD-zeros (suc n) (suc b) = getD-zeros n b
-
 -- what both passes leave unmarked is unused
 pub marked-all : (limit : ℕ) (lens slots : List ℕ) (c : ℕ) (ps : List Page) (m : List ℕ)
     → m ≡ markHeld small c (liveFrom small 0 ps) (foldl (mark small) (replicate 32 0) (flat (storedList lens slots) (countFrom 0 limit)))
@@ -96,7 +92,7 @@ marked-all limit lens slots c ps m e =
           ∙ held-at small (omega arith) c xs (foldl (mark small) z f) b (rw (length-marks small (omega arith) f z, lz) h)
           ∙ ap (cond (holdsCommit small c xs b) 1)
           (marks-at small (omega arith) f z b (rw lz h)
-          ∙ ap₂ (λ (t : Bool) (v : ℕ). cond t 1 v) (any-flat (inBlock small b) (storedList lens slots) (countFrom 0 limit)) (getD-zeros 32 b)) in
+          ∙ ap₂ (λ (t : Bool) (v : ℕ). cond t 1 v) (any-flat (inBlock small b) (storedList lens slots) (countFrom 0 limit)) (getD-same 32 b 0)) in
           rw a (ends (holdsCommit small c xs b) (listedIn small limit lens slots b));
     }
   where

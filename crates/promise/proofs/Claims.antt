@@ -3,7 +3,7 @@ use mathlib.Core.Path.{_≡_, refl, sym, ap, ap₂, _∙_, subst}
 use mathlib.Core.Logic.{_⊎_, ⊎-elim}
 use mathlib.Core.Bool.{Bool, true, false, not, _&&_}
 use mathlib.Core.List.{List, [], _∷_, map}
-use Prim.Native.Nat.{ℕ, zero, suc, _<_, _≤_}
+use Prim.Native.Nat.{ℕ, zero, suc, _<_}
 use native.Mathlib.Omega.{arith}
 use lib.Dec.{ltb, leb, eqb}
 use lib.ListN.{length}
@@ -15,7 +15,7 @@ use Rattle.promise.specs.Calls.{Store, Committing, Commit}
 use Rattle.promise.specs.Steps.{Act, commit, mount, format, fed, isTen, boots, Step, Lends, one, other, lastImage, Only, starts, counts, next, Agrees, feed, feeds, choices, seen, expected, Allowed, promised}
 use Rattle.promise.specs.Promise as P
 use Rattle.promise.specs.Promise.{FormatRefusal, format1, format10, MountRefusal, mount1, mount10, CommitRefusal, commit2, commit1, commit6, commit10, CommitPower}
-use Rattle.promise.proofs.Promise.{apart, accepted-not, and-false, when-is, on-of, Invariant, begins, started, agrees, agrees-any}
+use Rattle.promise.proofs.Promise.{apart, accepted-not, and-false, when-is, first-most, on-of, Invariant, begins, started, agrees, agrees-any}
 use Rattle.promise.proofs.Lists as L
 use Rattle.promise.proofs.Lists.{place, answer-at}
 
@@ -150,17 +150,12 @@ module _ (g : Geometry) (S : Store) where
   neither : (a : Answer) (m : ℕ) → (a ≡ accepted) ⊎ (a ≡ refuses 10) → a ≡ refuses m → (m ≡ 10 → ⊥) → ⊥
   neither a m h e d = ⊎-elim (λ q. accepted-not m (sym q ∙ e)) (λ q. apart 10 m (λ k. d (sym k)) (sym q ∙ e)) h
 
-  two-most : (a b : Bool) → orElse (when 2 a) (when 1 b) ≤ 2
-  two-most true b = omega arith
-  two-most false true = omega arith
-  two-most false false = omega arith
-
   module _ (n : ℕ) (torn : List ℕ) (p : Plain) (s : S .State) (i : S .Image) (a : Answer) (ops : ℕ) (s' : S .State) (i' : S .Image) (v : Invariant g S true p s i)
       (c : Commit g S n torn s i a ops s' i') (h : (a ≡ accepted) ⊎ (a ≡ refuses 10)) where
     power-by : (m k : ℕ) → firstRefusal g (S .on s) (S .blocks s) (commits n (S .size i) (length torn)) ≡ m
         → numbersRefusal (S .pending s) (S .number s) (commits n (S .size i) (length torn)) ≡ k → CommitPower g S n s i a ops
     power-by (suc m) k e l =
-        let d = two-most (not (S .on s)) (not (isChipSize g (S .size i) && (isTornSize g (length torn) && hasBlocks g (S .blocks s) (S .size i)))) in
+        let d = first-most g (commit n torn) (S .size i) (S .on s) (S .blocks s) in
         absurd (neither a (suc m) h (c .first .refused m e .0) (λ t. omega arith))
     power-by zero (suc k) e l =
         let d = when-is 6 k (ltb 0 (S .pending s) && eqb (S .number s) lastNumber) l in
@@ -173,12 +168,12 @@ module _ (g : Geometry) (S : Store) where
         let w = c .power q b in
         record {
           few = c .few q b;
-          finished = λ y. cases (leb (S .commitCount s i) n)
-              (λ t. let z = leb-true (S .commitCount s i) n t in (z, w .enough z .1))
-              (λ t. absurd (accepted-not 10 (sym y ∙ w .short (leb-false (S .commitCount s i) n t) .0)));
-          short = λ y. cases (leb (S .commitCount s i) n)
-              (λ t. absurd (accepted-not 10 (sym (w .enough (leb-true (S .commitCount s i) n t) .0) ∙ y)))
-              (λ t. let z = leb-false (S .commitCount s i) n t in (z, w .short z .1));
+          finished = λ y. cases (leb (length (S .commitOps s i)) n)
+              (λ t. let z = leb-true (length (S .commitOps s i)) n t in (z, w .enough z .1))
+              (λ t. absurd (accepted-not 10 (sym y ∙ w .short (leb-false (length (S .commitOps s i)) n t) .0)));
+          short = λ y. cases (leb (length (S .commitOps s i)) n)
+              (λ t. absurd (accepted-not 10 (sym (w .enough (leb-true (length (S .commitOps s i)) n t) .0) ∙ y)))
+              (λ t. let z = leb-false (length (S .commitOps s i)) n t in (z, w .short z .1));
         })
         (λ z. let y = ltb-false 0 (S .pending s) z in
         let d = c .idle e (omega arith) in

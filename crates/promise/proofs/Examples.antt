@@ -105,11 +105,11 @@ abbrev pub chip : SampleImage
 chip = record { tree = []; number = 0; whole = false; void = false; roomy = false; size = image }
 
 abbrev pub start : SampleState
-start = record { on = false; blocks = 0; number = 0; pending = 0; buffer = [] }
+start = record { on = false; blocks = 0; number = 0; pending = 0; buffer = []; erases = λ b. 0 }
 
 -- a state that no call gave
 abbrev pub junk : SampleState
-junk = record { on = true; blocks = 3; number = 77; pending = 5; buffer = [] }
+junk = record { on = true; blocks = 3; number = 77; pending = 5; buffer = []; erases = λ b. 9 }
 
 abbrev pub sampleAnswer : Step sample → Answer
 sampleAnswer x = x .answer

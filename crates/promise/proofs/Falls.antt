@@ -8,11 +8,12 @@ use lib.Dec.{ltb, leb, eqb}
 use lib.ListN.{length, getD}
 use borrow.Author.Tests.{leb-true, leb-false, ltb-true, ltb-false}
 use Rattle.lists.proofs.Tests.{cases}
-use Rattle.chip.specs.Geometry.{Geometry}
+use Rattle.chip.specs.Geometry.{Geometry, blocksOf}
 use Rattle.chip.specs.Power.{takesEffect}
+use Rattle.chip.specs.Erases.{erasesIn}
 use Rattle.tree.specs.Tree.{Table, find, found}
 use Rattle.promise.specs.Plain.{Answer, refuses, accepted, finds, lookedUp, Plain, when, UpdateCall, updates, reads, commits, mounts, lookingUp, numbersRefusal, laterRefusal, lastNumber, updated, enoughWrites}
-use Rattle.promise.specs.Calls.{means, numberIn, Store, stateOf, PassesFirst, Updates, LookUp, OpsTold, Committing, Commit, Mount}
+use Rattle.promise.specs.Calls.{means, numberIn, Store, stateOf, PassesFirst, Updates, LookUp, OpsTold, Format, Committing, Commit, Mount}
 use Rattle.promise.specs.Steps.{counts}
 use Rattle.promise.proofs.Promise.{apart, accepted-not, counts-not, counts-so, when-is}
 
@@ -21,12 +22,12 @@ module _ (g : Geometry) (S : Store) (s : S .State) (i : S .Image) (good : S .Goo
   pub lazy-commit : (n : ℕ) (torn : List ℕ) (ops : ℕ) (s' : S .State) (i' : S .Image) (K : Table) → Committing g S n torn s i → S .able s i ≡ true
       → S .meaning i ≡ means K (S .number s) → S .meaning i' ≡ S .meaning i → Commit g S n torn s i accepted ops s' i' → ⊥
   lazy-commit n torn ops s' i' K q b m e c =
-      cases (leb (S .commitCount s i) n)
+      cases (leb (length (S .commitOps s i)) n)
       (λ l. let r : S .meaning i' ≡ means (S .present s i) (suc (S .number s))
-      = c .choice q b ∙ ap (λ o. cond (o || (eqb (suc n) (S .commitCount s i) && eqb (getD torn 0 0) 0)) (means (S .present s i) (suc (S .number s))) (S .meaning i)) l in
+      = c .choice q b ∙ ap (λ o. cond (o || (eqb (suc n) (length (S .commitOps s i)) && eqb (getD torn 0 0) 0)) (means (S .present s i) (suc (S .number s))) (S .meaning i)) l in
       let z : suc (S .number s) ≡ S .number s = ap numberIn (sym r ∙ e ∙ m) in
       omega arith)
-      (λ l. accepted-not 10 (c .power q b .short (leb-false (S .commitCount s i) n l) .0))
+      (λ l. accepted-not 10 (c .power q b .short (leb-false (length (S .commitOps s i)) n l) .0))
 
   -- an update that is accepted and changes nothing
   lazy-by : (u : UpdateCall) (k : ℕ) → laterRefusal (stateOf S s i) (updates u (S .size i)) ≡ k → PassesFirst g S (updates u (S .size i)) s → Updates g S u s i accepted s i → ⊥
@@ -75,9 +76,9 @@ module _ (g : Geometry) (S : Store) (s : S .State) (i : S .Image) (good : S .Goo
 pub false-refusal : (g : Geometry) (S : Store) (n m : ℕ) (torn : List ℕ) (s : S .State) (i : S .Image) (ops : ℕ) (s' : S .State) (i' : S .Image) (K : Table) (G : ℕ)
     → PassesFirst g S (mounts n (S .size i) (length torn)) s → S .meaning i ≡ means K G → (m ≡ 10 → ⊥) → Mount g S n torn s i (refuses m) ops s' i' → ⊥
 false-refusal g S n m torn s i ops s' i' K G t e h c =
-    cases (leb (S .mountCount i) n)
-    (λ l. accepted-not m (sym (c .power t K G e .enough (leb-true (S .mountCount i) n l) .0)))
-    (λ l. apart m 10 h (c .power t K G e .short (leb-false (S .mountCount i) n l) .0))
+    cases (leb (length (S .mountOps i)) n)
+    (λ l. accepted-not m (sym (c .power t K G e .enough (leb-true (length (S .mountOps i)) n l) .0)))
+    (λ l. apart m 10 h (c .power t K G e .short (leb-false (length (S .mountOps i)) n l) .0))
 
 -- an invented operation count: with so many operations to do and that allowance, answer and count are these
 pub count-is : (need n ops ops' : ℕ) (a a' : Answer) → OpsTold need n a ops → OpsTold need n a' ops' → (a ≡ a') × (ops ≡ ops')
@@ -94,6 +95,16 @@ choice-by g S i i' K P G false e f = counts-not g S i i' f
 
 pub choice-is : (g : Geometry) (S : Store) (n : ℕ) (torn : List ℕ) (s : S .State) (i : S .Image) (a : Answer) (ops : ℕ) (s' : S .State) (i' : S .Image) (K : Table)
     → Committing g S n torn s i → S .able s i ≡ true → S .meaning i ≡ means K (S .number s) → Commit g S n torn s i a ops s' i'
-    → counts S i i' ≡ takesEffect (getD torn 0 0) n (S .commitCount s i)
+    → counts S i i' ≡ takesEffect (getD torn 0 0) n (length (S .commitOps s i))
 choice-is g S n torn s i a ops s' i' K q b m c =
-    choice-by g S i i' K (S .present s i) (S .number s) (takesEffect (getD torn 0 0) n (S .commitCount s i)) m (c .choice q b)
+    choice-by g S i i' K (S .present s i) (S .number s) (takesEffect (getD torn 0 0) n (length (S .commitOps s i))) m (c .choice q b)
+
+-- a mount that keeps a figure above 0
+pub kept-figure : (g : Geometry) (S : Store) (n : ℕ) (torn : List ℕ) (s : S .State) (i : S .Image) (ops : ℕ) (s' : S .State) (i' : S .Image) (b : ℕ)
+    → 0 < S .erases s b → S .erases s' b ≡ S .erases s b → Mount g S n torn s i accepted ops s' i' → ⊥
+kept-figure g S n torn s i ops s' i' b h e c = let z = c .zeros refl b in omega arith
+
+-- a format that counts its own erases
+pub own-erases : (g : Geometry) (S : Store) (n : ℕ) (torn : List ℕ) (s : S .State) (i : S .Image) (ops : ℕ) (s' : S .State) (i' : S .Image) (b : ℕ)
+    → 0 < erasesIn b (S .formatOps (blocksOf g (S .size i))) → S .erases s' b ≡ erasesIn b (S .formatOps (blocksOf g (S .size i))) → Format g S n torn s i accepted ops s' i' → ⊥
+own-erases g S n torn s i ops s' i' b h e c = let z = c .zeros refl b in omega arith

@@ -5,7 +5,9 @@ pub mod Images
 pub mod Trees
 pub mod Values
 pub mod Durable
+pub mod Figures
 pub mod Proper
 pub mod Falls
 pub mod Sample
 pub mod Examples
+pub mod FigureExamples

@@ -12,7 +12,7 @@ use Rattle.lists.proofs.Tests.{cases, clash}
 use Rattle.chip.specs.Geometry.{Geometry, blocksOf}
 use Rattle.chip.specs.Power.{takesEffect}
 use Rattle.tree.specs.Tree.{Table}
-use Rattle.promise.specs.Plain.{Answer, refuses, accepted, tells, Plain, orElse, when, ReadCall, UpdateCall, Call, reads, updates, formats, commits, mounts, isChipSize, isTornSize, firstRefusal, numbersRefusal, laterRefusal, refusalOf, lastNumber, mayCut, denied, cut, passed, judge, verdict, leaf, resting, fresh, updated, committed, mounted, finished, off, cutOff, acceptedAnswer, answer, after, answerBy, afterBy, enoughWrites, enoughMarks}
+use Rattle.promise.specs.Plain.{Answer, refuses, accepted, tells, Plain, orElse, when, ReadCall, UpdateCall, Call, reads, updates, formats, commits, mounts, isChipSize, isTornSize, hasBlocks, firstRefusal, numbersRefusal, laterRefusal, refusalOf, lastNumber, mayCut, denied, cut, passed, judge, verdict, leaf, resting, fresh, updated, committed, mounted, finished, off, cutOff, acceptedAnswer, answer, after, answerBy, afterBy, enoughWrites, enoughMarks}
 use Rattle.promise.specs.Calls.{means, treeIn, numberIn, Store, stateOf, Same, FirstTests, Reads, Updates, Format, Committing, Commit, Mount}
 use Rattle.promise.specs.Steps.{Act, read, update, format, commit, mount, fed, isTen, isAccepted, isFormat, boots, Step, Lends, one, other, Only, Hands, counts, SixIsLast, Unstuck, isCutFormat, isFinishedFormat, Uncut, Allowed, Takes, Runs, Started, Mounted, starts, Formatted, next, answerTo, Agrees, Mode, promised, unpromised, nextMode, AnswerIs, MeaningIs, AgreesAny}
 
@@ -31,7 +31,7 @@ ten-is (refuses n) e = ap refuses (eqb-true n 10 e)
 ten-is accepted e = let u : _≡_ {A = ℕ} 0 1 = cc in absurd (omega arith)
 ten-is (tells v) e = let u : _≡_ {A = ℕ} 0 1 = cc in absurd (omega arith)
 
-accepted-is : (a : Answer) → isAccepted a ≡ true → a ≡ accepted
+pub accepted-is : (a : Answer) → isAccepted a ≡ true → a ≡ accepted
 accepted-is (refuses n) e = let u : _≡_ {A = ℕ} 0 1 = cc in absurd (omega arith)
 accepted-is accepted e = refl
 accepted-is (tells v) e = let u : _≡_ {A = ℕ} 0 1 = cc in absurd (omega arith)
@@ -68,12 +68,25 @@ first-boots g (format a t) i b d B C h = refl
 first-boots g (commit a t) i b d B C h = clash h refl
 first-boots g (mount a t) i b d B C h = refl
 
-one-boots : (g : Geometry) (x : Act) (image : ℕ) (b : Bool) (B n : ℕ) → boots x ≡ true → firstRefusal g b B (fed x image) ≡ suc n → suc n ≡ 1
+pub one-boots : (g : Geometry) (x : Act) (image : ℕ) (b : Bool) (B n : ℕ) → boots x ≡ true → firstRefusal g b B (fed x image) ≡ suc n → suc n ≡ 1
 one-boots g (read r) i b B n h e = clash h refl
 one-boots g (update u) i b B n h e = clash h refl
 one-boots g (format a t) i b B n h e = when-is 1 n (not (isChipSize g i && isTornSize g (length t))) e
 one-boots g (commit a t) i b B n h e = clash h refl
 one-boots g (mount a t) i b B n h e = when-is 1 n (not (isChipSize g i && isTornSize g (length t))) e
+
+-- all of them give 2 or 1
+two-most : (a b : Bool) → orElse (when 2 a) (when 1 b) ≤ 2
+two-most true b = omega arith
+two-most false true = omega arith
+two-most false false = omega arith
+
+pub first-most : (g : Geometry) (x : Act) (image : ℕ) (b : Bool) (B : ℕ) → firstRefusal g b B (fed x image) ≤ 2
+first-most g (read r) i b B = two-most (not b) (not (isChipSize g i && hasBlocks g B i))
+first-most g (update u) i b B = two-most (not b) (not (isChipSize g i && hasBlocks g B i))
+first-most g (format a t) i b B = two-most false (not (isChipSize g i && isTornSize g (length t)))
+first-most g (commit a t) i b B = two-most (not b) (not (isChipSize g i && (isTornSize g (length t) && hasBlocks g B i)))
+first-most g (mount a t) i b B = two-most false (not (isChipSize g i && isTornSize g (length t)))
 
 -- what passes a test of 2 is on
 pub on-of : (b : Bool) (n : ℕ) → orElse (when 2 (not b)) n ≡ 0 → b ≡ true
@@ -225,7 +238,7 @@ module _ (g : Geometry) (S : Store) (rooms : Bool) where
         out-passed (stateOf S s i) C (counts S i i') a s' i' (refusal-later (stateOf S s i) C 0 t (rw e)) (not-cut (stateOf S s i) C a (d .0)) (d .0)
         (rw (le-ltb 0 (S .pending s) (omega arith)) (moved (stateOf S s i) s s' i i' (d .2) v))
 
-    commit-done : Committing g S n torn s i → S .able s i ≡ true → S .commitCount s i ≤ n
+    commit-done : Committing g S n torn s i → S .able s i ≡ true → length (S .commitOps s i) ≤ n
         → Conforms (stateOf S s i) (commits n (S .size i) (length torn)) (counts S i i') a s' i'
     unfolding stateOf finished acceptedAnswer committed
     commit-done q b l =
@@ -237,7 +250,7 @@ module _ (g : Geometry) (S : Store) (rooms : Bool) where
         (rw (lt-ltb 0 (S .pending s) (q .pending))
         (record {
           image = record {
-            is = c .choice q b ∙ ap (λ o. cond (o || (eqb (suc n) (S .commitCount s i) && eqb (getD torn 0 0) 0)) (means (S .present s i) (suc (S .number s))) (S .meaning i)) (le-leb (S .commitCount s i) n l);
+            is = c .choice q b ∙ ap (λ o. cond (o || (eqb (suc n) (length (S .commitOps s i)) && eqb (getD torn 0 0) 0)) (means (S .present s i) (suc (S .number s))) (S .meaning i)) (le-leb (length (S .commitOps s i)) n l);
             room = λ r. c .room q b (v .image .room r);
             sized = v .image .sized ∙ ap (blocksOf g) (sym (c .first .sameSize));
           };
@@ -245,7 +258,7 @@ module _ (g : Geometry) (S : Store) (rooms : Bool) where
           live = λ h. (d .0, d .1);
         }))
 
-    commit-cut : Committing g S n torn s i → S .able s i ≡ true → n < S .commitCount s i
+    commit-cut : Committing g S n torn s i → S .able s i ≡ true → n < length (S .commitOps s i)
         → Conforms (stateOf S s i) (commits n (S .size i) (length torn)) (counts S i i') a s' i'
     unfolding stateOf cutOff committed
     commit-cut q b l =
@@ -259,7 +272,7 @@ module _ (g : Geometry) (S : Store) (rooms : Bool) where
         let z : (stateOf S s i) .blocks ≡ blocksOf g (S .size i') = v .image .sized ∙ ap (blocksOf g) (sym (c .first .sameSize)) in
         out-cut (stateOf S s i) C (counts S i i') a s' i' (refusal-later (stateOf S s i) C 0 t (rw e))
         (rw (lt-ltb n (enoughWrites) (omega arith), lt-ltb 0 (S .pending s) (q .pending))) (r .0)
-        (either-or (takesEffect (getD torn 0 0) n (S .commitCount s i)) (S .meaning i') (means (S .present s i) (suc (S .number s))) (S .meaning i) (c .choice q b) _
+        (either-or (takesEffect (getD torn 0 0) n (length (S .commitOps s i))) (S .meaning i') (means (S .present s i) (suc (S .number s))) (S .meaning i) (c .choice q b) _
         (λ h. rw (counts-so g S i i' (treeIn (S .meaning i)) (S .present s i) (S .number s) (v .image .is) h)
         (off-inv (committed (stateOf S s i)) s' i' (record { is = h; room = m; sized = z }) o))
         (λ h. rw (counts-not g S i i' h) (off-inv (stateOf S s i) s' i' (record { is = h ∙ v .image .is; room = m; sized = z }) o)))
@@ -284,7 +297,7 @@ module _ (g : Geometry) (S : Store) (rooms : Bool) where
         cases (ltb 0 (S .pending s))
         (λ z. let q : Committing g S n torn s i = record { good = good; passes = t; numbers = e; pending = ltb-true 0 (S .pending s) z } in
         let b = cases rooms (λ r. c .able q (v .image .room r)) (λ r. unstuck q (y r)) in
-        cases (leb (S .commitCount s i) n) (λ l. commit-done q b (leb-true (S .commitCount s i) n l)) (λ l. commit-cut q b (leb-false (S .commitCount s i) n l)))
+        cases (leb (length (S .commitOps s i)) n) (λ l. commit-done q b (leb-true (length (S .commitOps s i)) n l)) (λ l. commit-cut q b (leb-false (length (S .commitOps s i)) n l)))
         (λ z. let h = ltb-false 0 (S .pending s) z in commit-idle e (omega arith))
 
   -- ---- mount: the state given is of no account
@@ -295,7 +308,7 @@ module _ (g : Geometry) (S : Store) (rooms : Bool) where
         let k = c .stays t (p .kept) (p .number) (v .is) in
         record { is = k .0; room = λ b. k .1 (v .room b); sized = v .sized ∙ ap (blocksOf g) (sym (c .first .sameSize)) }
 
-    mount-done : S .mountCount i ≤ n → Conforms p (mounts n (S .size i) (length torn)) w a s' i'
+    mount-done : length (S .mountOps i) ≤ n → Conforms p (mounts n (S .size i) (length torn)) w a s' i'
     unfolding stateOf resting finished acceptedAnswer
     mount-done l =
         let C = mounts n (S .size i) (length torn) in
@@ -306,7 +319,7 @@ module _ (g : Geometry) (S : Store) (rooms : Bool) where
         out-passed p C w a s' i' (refusal-later p C 0 t refl) (not-cut p C a (r .0)) (r .0)
         (record { image = record { is = k .is; room = k .room; sized = k .sized }; power = ap (λ (x : Plain). x .on) q; live = λ h. (q, d .1) })
 
-    mount-cut : n < S .mountCount i → Conforms p (mounts n (S .size i) (length torn)) w a s' i'
+    mount-cut : n < length (S .mountOps i) → Conforms p (mounts n (S .size i) (length torn)) w a s' i'
     unfolding cutOff
     mount-cut l =
         let C = mounts n (S .size i) (length torn) in
@@ -316,11 +329,11 @@ module _ (g : Geometry) (S : Store) (rooms : Bool) where
         (off-inv p s' i' mounted-kept (c .cut t (p .kept) (p .number) (v .is) l))
 
     mount-step : Conforms p (mounts n (S .size i) (length torn)) w a s' i'
-    mount-step = cases (leb (S .mountCount i) n) (λ l. mount-done (leb-true (S .mountCount i) n l)) (λ l. mount-cut (leb-false (S .mountCount i) n l))
+    mount-step = cases (leb (length (S .mountOps i)) n) (λ l. mount-done (leb-true (length (S .mountOps i)) n l)) (λ l. mount-cut (leb-false (length (S .mountOps i)) n l))
 
   -- ---- format
   formatted-start : (n : ℕ) (torn : List ℕ) (s : S .State) (i : S .Image) (a : Answer) (ops : ℕ) (s' : S .State) (i' : S .Image)
-      → firstRefusal g (S .on s) (S .blocks s) (formats n (S .size i) (length torn)) ≡ 0 → Format g S n torn s i a ops s' i' → S .formatCount (blocksOf g (S .size i)) ≤ n
+      → firstRefusal g (S .on s) (S .blocks s) (formats n (S .size i) (length torn)) ≡ 0 → Format g S n torn s i a ops s' i' → length (S .formatOps (blocksOf g (S .size i))) ≤ n
       → Invariant (fresh (blocksOf g (S .size i))) s' i'
   unfolding stateOf resting
   formatted-start n torn s i a ops s' i' t c l =
@@ -337,11 +350,11 @@ module _ (g : Geometry) (S : Store) (rooms : Bool) where
   unfolding finished acceptedAnswer
   format-step n torn w p s i a ops s' i' t c u =
       let C = formats n (S .size i) (length torn) in
-      cases (leb (S .formatCount (blocksOf g (S .size i))) n)
-      (λ l. let h = leb-true (S .formatCount (blocksOf g (S .size i))) n l in
+      cases (leb (length (S .formatOps (blocksOf g (S .size i)))) n)
+      (λ l. let h = leb-true (length (S .formatOps (blocksOf g (S .size i)))) n l in
       let r = c .power t .enough h in
       out-passed p C w a s' i' (refusal-later p C 0 t refl) (not-cut p C a (r .0)) (r .0) (formatted-start n torn s i a ops s' i' t c h))
-      (λ l. clash (ap isTen (c .power t .short (leb-false (S .formatCount (blocksOf g (S .size i))) n l) .0)) u)
+      (λ l. clash (ap isTen (c .power t .short (leb-false (length (S .formatOps (blocksOf g (S .size i)))) n l) .0)) u)
 
   -- ---- any call on the one image that is refused with neither 1 nor 2
   on-live : (Q : Plain → Type 0) (p : Plain) (s : S .State) (i : S .Image) → Invariant p s i → S .on s ≡ true
@@ -366,7 +379,7 @@ module _ (g : Geometry) (S : Store) (rooms : Bool) where
   step (mount n torn) p s i a ops s' i' m v t c u y = mount-step n torn (counts S i i') p s i a ops s' i' m t c
 
   -- ---- any call of a list
-  image-kept : (i : S .Image) (x : Step S) → Lends S i x → x .left ≡ x .lent → x .image ≡ i
+  pub image-kept : (i : S .Image) (x : Step S) → Lends S i x → x .left ≡ x .lent → x .image ≡ i
   image-kept i x (one e f) h = f ∙ h ∙ e
   image-kept i x (other r f) h = f
 
@@ -460,10 +473,10 @@ module _ (g : Geometry) (S : Store) where
       → Started g S (leaf (blocksOf g (S .size i'))) 1 s' i'
   format-passed n torn s i ops s' i' (suc m) e c = absurd (accepted-not (suc m) (c .first .refused m e .0))
   format-passed n torn s i ops s' i' zero e c =
-      cases (leb (S .formatCount (blocksOf g (S .size i))) n)
-      (λ l. let d = c .done e (leb-true (S .formatCount (blocksOf g (S .size i))) n l) in
+      cases (leb (length (S .formatOps (blocksOf g (S .size i)))) n)
+      (λ l. let d = c .done e (leb-true (length (S .formatOps (blocksOf g (S .size i)))) n l) in
       rw (c .first .sameSize) (record { mounted = record { is = rw (c .first .sameSize) (d .0); image = d .1; good = d .2 }; room = d .3 }))
-      (λ l. absurd (accepted-not 10 (c .power e .short (leb-false (S .formatCount (blocksOf g (S .size i))) n l) .0)))
+      (λ l. absurd (accepted-not 10 (c .power e .short (leb-false (length (S .formatOps (blocksOf g (S .size i)))) n l) .0)))
 
   -- a finished format is a start
   pub format-starts : (s : S .State) (i : S .Image) → Formatted g S s i → Started g S (leaf (blocksOf g (S .size i))) 1 s i
@@ -477,11 +490,11 @@ module _ (g : Geometry) (S : Store) where
       → Mounted g S K G s' i' × (S .Room i → S .Room i')
   mount-passed n torn s i ops s' i' K G (suc m) e k c = absurd (accepted-not (suc m) (c .first .refused m e .0))
   mount-passed n torn s i ops s' i' K G zero e k c =
-      cases (leb (S .mountCount i) n)
-      (λ l. let d = c .done e K G k (leb-true (S .mountCount i) n l) in
+      cases (leb (length (S .mountOps i)) n)
+      (λ l. let d = c .done e K G k (leb-true (length (S .mountOps i)) n l) in
       let y = c .stays e K G k in
       (record { is = rw (c .first .sameSize) (d .0); image = y .0; good = d .1 }, y .1))
-      (λ l. absurd (accepted-not 10 (c .power e K G k .short (leb-false (S .mountCount i) n l) .0)))
+      (λ l. absurd (accepted-not 10 (c .power e K G k .short (leb-false (length (S .mountOps i)) n l) .0)))
 
   pub mount-mounts : (n : ℕ) (torn : List ℕ) (s : S .State) (i : S .Image) (ops : ℕ) (s' : S .State) (i' : S .Image) (K : Table) (G : ℕ)
       → S .meaning i ≡ means K G → Mount g S n torn s i accepted ops s' i' → Mounted g S K G s' i' × (S .Room i → Started g S K G s' i')
@@ -523,9 +536,9 @@ module _ (g : Geometry) (S : Store) where
       let k = when-is 1 m (not (isChipSize g (S .size i) && isTornSize g (length torn))) e in
       absurd (apart 10 (suc m) (λ q. omega arith) (c .first .refused m e .0))
   cut-by n torn p s i ops s' i' zero e c =
-      cases (leb (S .formatCount (blocksOf g (S .size i))) n)
-      (λ l. absurd (accepted-not 10 (sym (c .power e .enough (leb-true (S .formatCount (blocksOf g (S .size i))) n l) .0))))
-      (λ l. let h = leb-false (S .formatCount (blocksOf g (S .size i))) n l in
+      cases (leb (length (S .formatOps (blocksOf g (S .size i)))) n)
+      (λ l. absurd (accepted-not 10 (sym (c .power e .enough (leb-true (length (S .formatOps (blocksOf g (S .size i)))) n l) .0))))
+      (λ l. let h = leb-false (length (S .formatOps (blocksOf g (S .size i)))) n l in
       let k = c .few e in
       let C = formats n (S .size i) (length torn) in
       let d : verdict g p C true ≡ cut = verdict-is g p C true 0 (rw e) ∙ ap (λ b. judge 0 (b && true)) (lt-ltb n enoughWrites (omega arith)) in

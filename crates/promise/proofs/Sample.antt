@@ -2,27 +2,33 @@
 use mathlib.Core.Path.{_≡_, refl, sym, ap, _∙_, subst}
 use mathlib.Core.Bool.{Bool, true, false, cond, not, _&&_}
 use mathlib.Core.List.{List, [], _∷_}
-use Prim.Native.Nat.{ℕ, zero, suc, _<_, _≤_}
+use Prim.Native.Nat.{ℕ, zero, suc, _+_, _%_, _<_, _≤_}
 use native.Mathlib.Omega.{arith}
 use lib.Dec.{ltb, leb, eqb}
 use lib.ListN.{length, getD}
 use borrow.Author.Tests.{le-leb, lt-leb, lt-ltb, le-ltb}
+use Rattle.lists.proofs.Filters.{bit-most}
 use Rattle.lists.proofs.Tests.{cases, clash, or-right}
+use Rattle.lists.specs.Lists.{bit}
 use Rattle.chip.specs.Geometry.{small, blocksOf}
+use Rattle.chip.specs.declared.page.Mark.the-variants.{Valid, Obsolete}
+use Rattle.chip.specs.Chip.{Op, program, mark, erase}
+use Rattle.chip.specs.Erases.{erasesIn}
 use Rattle.tree.specs.Tree.{Table}
-use Rattle.promise.specs.Plain.{Answer, refuses, accepted, tells, Plain, orElse, when, ReadCall, UpdateCall, Call, reads, updates, formats, commits, mounts, isChipSize, isTornSize, hasBlocks, firstRefusal, laterRefusal, lastNumber, leaf, resting, updated, committed}
+use Rattle.promise.specs.Plain.{Answer, refuses, accepted, tells, Plain, orElse, when, ReadCall, UpdateCall, Call, reads, updates, formats, commits, mounts, isChipSize, isTornSize, hasBlocks, firstRefusal, laterRefusal, lastNumber, leaf, resting, fresh, updated, committed}
 use Rattle.promise.specs.Calls.{Meaning, invalid, means, treeIn, Store, isOneOf, tellsOr, acceptsOr, ProperRead, ProperUpdate, stateOf, Same, FirstTests, Reads, Updates, Format, Committing, Commit, Mount}
 use Rattle.promise.specs.Steps.{Act, read, update, format, commit, mount, boots, Step, one, Hands, Allowed, Runs}
 use Rattle.promise.proofs.Promise.{apart, accepted-not, when-is}
 use Rattle.promise.proofs.Proper.{apart-from}
 
--- the state, with the newest update first; the image: the tree and number of its last whole commit, whether it has a void page, whether it has room
+-- the state, with the newest update first and a figure for each block; the image: the tree and number of its last whole commit, whether it has a void page, whether it has room
 pub record SampleState : Type 0 where
   pub on : Bool
   pub blocks : ℕ
   pub number : ℕ
   pub pending : ℕ
   pub buffer : List UpdateCall
+  pub erases : ℕ → ℕ
 
 pub record SampleImage : Type 0 where
   pub tree : Table
@@ -42,11 +48,15 @@ meaningOf i = cond (i .whole) (means (i .tree) (i .number)) (invalid 7)
 abbrev pub presentOf : SampleState → SampleImage → Table
 presentOf s i = grown (s .blocks) (s .buffer) (treeIn (meaningOf i))
 
-abbrev pub commitOpsOf : SampleState → ℕ
-commitOpsOf s = cond (ltb 0 (s .pending)) 3 0
+-- the operations of a commit with updates pending, by its number: it erases one of three blocks in turn
+abbrev pub workOf : ℕ → List Op
+workOf n = erase (n % 3) ∷ program 0 (7 ∷ []) ∷ mark 0 Valid ∷ []
 
-abbrev pub mountOpsOf : SampleImage → ℕ
-mountOpsOf i = cond (i .void) 1 0
+abbrev pub commitOpsOf : SampleState → List Op
+commitOpsOf s = cond (ltb 0 (s .pending)) (workOf (s .number)) []
+
+abbrev pub mountOpsOf : SampleImage → List Op
+mountOpsOf i = cond (i .void) (mark 0 Obsolete ∷ []) []
 
 abbrev pub sample : Store
 sample =
@@ -58,11 +68,12 @@ sample =
       blocks = λ s. s .blocks;
       pending = λ s. s .pending;
       number = λ s. s .number;
+      erases = λ s. s .erases;
       present = presentOf;
       meaning = meaningOf;
-      mountCount = mountOpsOf;
-      commitCount = λ s i. commitOpsOf s;
-      formatCount = λ B. 4;
+      mountOps = mountOpsOf;
+      commitOps = λ s i. commitOpsOf s;
+      formatOps = λ B. erase 0 ∷ erase 1 ∷ erase 2 ∷ program 0 (7 ∷ []) ∷ [];
       most = 3;
       Good = λ s i. Unit {0};
       Room = λ i. i .roomy ≡ true;
@@ -89,10 +100,10 @@ abbrev pub call : Call → SampleState → SampleImage → Outcome → Outcome
 call c s i o = sieve (firstRefusal small (s .on) (s .blocks) c) (laterRefusal (stateOf sample s i) c) s i o
 
 abbrev pub push : UpdateCall → SampleState → SampleState
-push u s = record { on = s .on; blocks = s .blocks; number = s .number; pending = suc (s .pending); buffer = u ∷ s .buffer }
+push u s = record { on = s .on; blocks = s .blocks; number = s .number; pending = suc (s .pending); buffer = u ∷ s .buffer; erases = s .erases }
 
 abbrev pub down : SampleState → SampleState
-down s = record { on = false; blocks = s .blocks; number = s .number; pending = s .pending; buffer = s .buffer }
+down s = record { on = false; blocks = s .blocks; number = s .number; pending = s .pending; buffer = s .buffer; erases = s .erases }
 
 abbrev pub written : SampleState → SampleImage → SampleImage
 written s i = record { tree = presentOf s i; number = suc (s .number); whole = true; void = false; roomy = i .roomy; size = i .size }
@@ -101,7 +112,8 @@ abbrev pub voided : Bool → SampleImage → SampleImage
 voided b i = record { tree = i .tree; number = i .number; whole = i .whole; void = b; roomy = i .roomy; size = i .size }
 
 abbrev pub emptied : SampleState → SampleState
-emptied s = record { on = s .on; blocks = s .blocks; number = suc (s .number); pending = 0; buffer = [] }
+emptied s =
+    record { on = s .on; blocks = s .blocks; number = suc (s .number); pending = 0; buffer = []; erases = λ b. s .erases b + erasesIn b (commitOpsOf s) }
 
 abbrev pub cutImage : ℕ → List ℕ → SampleState → SampleImage → SampleImage
 cutImage n torn s i = cond (eqb (suc n) 3 && eqb (getD torn 0 0) 0) (written s i) (voided true i)
@@ -113,18 +125,18 @@ commitDone n torn s i =
     (out accepted 0 s i)
 
 abbrev pub opened : SampleImage → SampleState
-opened i = record { on = true; blocks = blocksOf small (i .size); number = i .number; pending = 0; buffer = [] }
+opened i = record { on = true; blocks = blocksOf small (i .size); number = i .number; pending = 0; buffer = []; erases = λ b. 0 }
 
 abbrev pub mountDone : ℕ → SampleState → SampleImage → Outcome
 mountDone n s i =
     cond (i .whole)
-    (cond (leb (mountOpsOf i) n) (out accepted (mountOpsOf i) (opened i) (voided false i)) (out (refuses 10) n (down s) i))
+    (cond (leb (length (mountOpsOf i)) n) (out accepted (length (mountOpsOf i)) (opened i) (voided false i)) (out (refuses 10) n (down s) i))
     (out (refuses 7) 0 (down s) i)
 
 abbrev pub formatDone : ℕ → SampleState → SampleImage → Outcome
 formatDone n s i =
     cond (leb 4 n)
-    (out accepted 4 (record { on = true; blocks = blocksOf small (i .size); number = 1; pending = 0; buffer = [] })
+    (out accepted 4 (record { on = true; blocks = blocksOf small (i .size); number = 1; pending = 0; buffer = []; erases = λ b. 0 })
     (record { tree = leaf (blocksOf small (i .size)); number = 1; whole = true; void = false; roomy = true; size = i .size }))
     (out (refuses 10) n (down s) (record { tree = []; number = 0; whole = false; void = false; roomy = false; size = i .size }))
 
@@ -238,6 +250,7 @@ update-ok u w s i =
           (λ z e. refl);
       image = sieve-case (λ x. x .image ≡ i) f l s i o (λ k e. refl) (λ k z e. refl) (λ z e. refl);
       still = λ n. sieve-case (λ x. x .answer ≡ refuses n → x .state ≡ s) f l s i o (λ k e q. refl) (λ k z e q. refl) (λ z e q. absurd (accepted-not n q));
+      figures = λ b. sieve-case (λ x. x .state .erases b ≡ s .erases b) f l s i o (λ k e. refl) (λ k z e. refl) (λ z e. refl);
       full = λ t h. rw (t, le-leb 16 (s .pending) h);
       notFull = λ t h. sieve-case (λ x. x .answer ≡ refuses 3 → ⊥) f l s i o
           (λ k e. absurd (omega arith))
@@ -281,9 +294,10 @@ cut-means : (b : Bool) (s : SampleState) (i : SampleImage)
 cut-means true s i = refl
 cut-means false s i = refl
 
-commit-few : (b : Bool) → cond b 3 0 ≤ 3
-commit-few true = omega arith
-commit-few false = omega arith
+-- no block is erased twice
+commit-once : (b n : ℕ) (c : Bool) → erasesIn b (cond c (workOf n) []) ≤ 1
+commit-once b n true = let m = bit-most (eqb b (n % 3)) in omega arith
+commit-once b n false = omega arith
 
 quiet-ten : (n k : ℕ) (s s' : SampleState) (i i' : SampleImage) → refuses 10 ≡ refuses k → (k ≡ 10 → ⊥) → (n ≡ 0) × Same sample s i s' i'
 quiet-ten n k s s' i i' e f = let q : _≡_ {A = ℕ} 10 k = cc in absurd (f (sym q))
@@ -302,7 +316,7 @@ commit-able : (n : ℕ) (torn : List ℕ) (s : SampleState) (i : SampleImage) �
     → act (commit n torn) s i ≡ cond (leb 3 n) (out accepted 3 (emptied s) (written s i)) (out (refuses 10) n (down s) (cutImage n torn s i))
 commit-able n torn s i q b = commit-is n torn s i q ∙ rw b
 
-three-ops : (n : ℕ) (torn : List ℕ) (s : SampleState) (i : SampleImage) → Committing small sample n torn s i → commitOpsOf s ≡ 3
+three-ops : (n : ℕ) (torn : List ℕ) (s : SampleState) (i : SampleImage) → Committing small sample n torn s i → length (commitOpsOf s) ≡ 3
 three-ops n torn s i q = rw (lt-ltb 0 (s .pending) (q .pending))
 
 commit-ok : (n : ℕ) (torn : List ℕ) (s : SampleState) (i : SampleImage)
@@ -334,25 +348,27 @@ commit-ok n torn s i =
       bound = omega arith;
       stuck = λ q b. ap (λ x. x .answer) (commit-is n torn s i q) ∙ rw b;
       able = λ q r. r;
-      few = λ q b. commit-few (ltb 0 (s .pending));
+      few = λ q b. let e = three-ops n torn s i q in omega arith;
       power = λ q b. rw (commit-able n torn s i q b, three-ops n torn s i q)
           (record { enough = λ h. rw (le-leb 3 n h) (refl, refl); short = λ h. rw (lt-leb 3 n h) (refl, refl) });
       choice = λ q b. rw (commit-able n torn s i q b, three-ops n torn s i q)
           (cases (leb 3 n) (λ u. rw u) (λ u. rw u (cut-means (eqb (suc n) 3 && eqb (getD torn 0 0) 0) s i)));
       room = λ q b r. rw (commit-able n torn s i q b) (cases (leb 3 n) (λ u. rw u r) (λ u. rw u (cut-room (eqb (suc n) 3 && eqb (getD torn 0 0) 0) s i r)));
       done = λ q b h. let j : 3 ≤ n = (rw (three-ops n torn s i q) at h) in rw (commit-able n torn s i q b, le-leb 3 n j) (refl, tt);
+      once = λ q b x. commit-once x (s .number) (ltb 0 (s .pending));
+      adds = λ q b h x k. let j : 3 ≤ n = (rw (three-ops n torn s i q) at h) in rw (commit-able n torn s i q b, le-leb 3 n j);
       cut = λ q b h. let j : n < 3 = (rw (three-ops n torn s i q) at h) in rw (commit-able n torn s i q b, lt-leb 3 n j);
     }
 
 -- ---- mount
-mount-cases : (P : Outcome → Type 0) (n : ℕ) (s : SampleState) (i : SampleImage) → P (out accepted (mountOpsOf i) (opened i) (voided false i)) → P (out (refuses 10) n (down s) i)
+mount-cases : (P : Outcome → Type 0) (n : ℕ) (s : SampleState) (i : SampleImage) → P (out accepted (length (mountOpsOf i)) (opened i) (voided false i)) → P (out (refuses 10) n (down s) i)
     → P (out (refuses 7) 0 (down s) i) → P (mountDone n s i)
 mount-cases P n s i a b c =
-    let x = out accepted (mountOpsOf i) (opened i) (voided false i) in
+    let x = out accepted (length (mountOpsOf i)) (opened i) (voided false i) in
     let y = out (refuses 10) n (down s) i in
-    cond-case P (i .whole) (cond (leb (mountOpsOf i) n) x y) (out (refuses 7) 0 (down s) i) (cond-case P (leb (mountOpsOf i) n) x y a b) c
+    cond-case P (i .whole) (cond (leb (length (mountOpsOf i)) n) x y) (out (refuses 7) 0 (down s) i) (cond-case P (leb (length (mountOpsOf i)) n) x y a b) c
 
-void-few : (b : Bool) → cond b 1 0 ≤ 255
+void-few : (b : Bool) → length (cond b (mark 0 Obsolete ∷ []) []) ≤ 255
 void-few true = omega arith
 void-few false = omega arith
 
@@ -362,7 +378,7 @@ holds-by true t n K G e = (refl, cc, cc)
 holds-by false t n K G e = let u : _≡_ {A = ℕ} 0 1 = cc in absurd (omega arith)
 
 mount-whole : (n : ℕ) (s : SampleState) (i : SampleImage) → i .whole ≡ true
-    → mountDone n s i ≡ cond (leb (mountOpsOf i) n) (out accepted (mountOpsOf i) (opened i) (voided false i)) (out (refuses 10) n (down s) i)
+    → mountDone n s i ≡ cond (leb (length (mountOpsOf i)) n) (out accepted (length (mountOpsOf i)) (opened i) (voided false i)) (out (refuses 10) n (down s) i)
 mount-whole n s i e = rw e
 
 invalid-by : (b : Bool) (t : Table) (n m : ℕ) → cond b (means t n) (invalid 7) ≡ invalid m → (b ≡ false) × (7 ≡ m)
@@ -405,24 +421,27 @@ mount-ok n torn s i =
       power = λ t K G e.
           let b = holds-by (i .whole) (i .tree) (i .number) K G e in
           rw (mount-is n torn s i t, mount-whole n s i (b .0))
-          (record { enough = λ h. rw (le-leb (mountOpsOf i) n h) (refl, refl); short = λ h. rw (lt-leb (mountOpsOf i) n h) (refl, refl) });
+          (record { enough = λ h. rw (le-leb (length (mountOpsOf i)) n h) (refl, refl); short = λ h. rw (lt-leb (length (mountOpsOf i)) n h) (refl, refl) });
       stays = λ t K G e.
           let b = holds-by (i .whole) (i .tree) (i .number) K G e in
           let d = mount-is n torn s i t ∙ mount-whole n s i (b .0) in
-          let k = cond-means (leb (mountOpsOf i) n) i n (mountOpsOf i) (opened i) (down s) in
+          let k = cond-means (leb (length (mountOpsOf i)) n) i n (length (mountOpsOf i)) (opened i) (down s) in
           (ap (λ x. meaningOf (x .image)) d ∙ k .0 ∙ e, λ r. ap (λ x. x .image .roomy) d ∙ k .1 ∙ r);
       done = λ t K G e h.
           let b = holds-by (i .whole) (i .tree) (i .number) K G e in (
             ap (λ x. stateOf sample (x .state) (x .image)) (mount-is n torn s i t ∙ mount-whole n s i (b .0))
-                ∙ ap (λ u. stateOf sample (cond u (out accepted (mountOpsOf i) (opened i) (voided false i)) (out (refuses 10) n (down s) i) .state)
-                (cond u (out accepted (mountOpsOf i) (opened i) (voided false i)) (out (refuses 10) n (down s) i) .image)) (le-leb (mountOpsOf i) n h)
+                ∙ ap (λ u. stateOf sample (cond u (out accepted (length (mountOpsOf i)) (opened i) (voided false i)) (out (refuses 10) n (down s) i) .state)
+                (cond u (out accepted (length (mountOpsOf i)) (opened i) (voided false i)) (out (refuses 10) n (down s) i) .image)) (le-leb (length (mountOpsOf i)) n h)
                 ∙ ap (λ m. record { kept = treeIn m; present = treeIn m; pending = 0; number = i .number; on = true; blocks = blocksOf small (i .size) }) e
                 ∙ ap (λ m. record { kept = K; present = K; pending = 0; number = m; on = true; blocks = blocksOf small (i .size) }) (b .2),
             tt,
           );
       cut = λ t K G e h.
           let b = holds-by (i .whole) (i .tree) (i .number) K G e in
-          rw (mount-is n torn s i t, mount-whole n s i (b .0), lt-leb (mountOpsOf i) n h);
+          rw (mount-is n torn s i t, mount-whole n s i (b .0), lt-leb (length (mountOpsOf i)) n h);
+      zeros = sieve-case (λ x. x .answer ≡ accepted → (b : ℕ) → x .state .erases b ≡ 0) f 0 s i o (λ k e q. absurd (accepted-not (suc k) (sym q)))
+          (λ k z e. absurd (omega arith))
+          (λ z e. mount-cases (λ x. x .answer ≡ accepted → (b : ℕ) → x .state .erases b ≡ 0) n s i (λ q b. refl) (λ q. absurd (accepted-not 10 (sym q))) (λ q. absurd (accepted-not 7 (sym q))));
     }
 
 -- ---- format
@@ -448,7 +467,10 @@ format-ok n torn s i =
           (λ z e. format-cases (λ x. (k : ℕ) → x .answer ≡ refuses k → (k ≡ 10 → ⊥) → x .ops ≡ 0) n s i (λ k e f. absurd (accepted-not k e)) (ten-loud n));
       few = λ t. omega arith;
       power = λ t. rw t (record { enough = λ h. rw (le-leb 4 n h) (refl, refl); short = λ h. rw (lt-leb 4 n h) (refl, refl) });
-      done = λ t h. rw (t, le-leb 4 n h) (refl, refl, tt, refl);
+      done = λ t h. rw (t, le-leb 4 n h) (refl {a = fresh (blocksOf small (i .size))}, refl, tt, refl);
+      zeros = sieve-case (λ x. x .answer ≡ accepted → (b : ℕ) → x .state .erases b ≡ 0) f 0 s i o (λ k e q. absurd (accepted-not (suc k) (sym q)))
+          (λ k z e. absurd (omega arith))
+          (λ z e. format-cases (λ x. x .answer ≡ accepted → (b : ℕ) → x .state .erases b ≡ 0) n s i (λ q b. refl) (λ q. absurd (accepted-not 10 (sym q))));
       cut = λ t h. rw (t, lt-leb 4 n h);
     }
 

@@ -3,11 +3,13 @@
 use mathlib.Core.Path.{_≡_}
 use mathlib.Core.Bool.{Bool, true, false, cond, _||_}
 use mathlib.Core.List.{List, [], _∷_}
-use Prim.Native.Nat.{ℕ, suc, _<_, _≤_}
+use Prim.Native.Nat.{ℕ, suc, _+_, _<_, _≤_}
 use lib.Dec.{eqb}
 use lib.ListN.{length, getD}
 use Rattle.chip.specs.Geometry.{Geometry, blocksOf}
 use Rattle.chip.specs.Power.{takesEffect}
+use Rattle.chip.specs.Chip.{Op}
+use Rattle.chip.specs.Erases.{erasesIn}
 use Rattle.tree.specs.Tree.{Table}
 use Rattle.promise.specs.Plain.{Answer, refuses, accepted, tells, Plain, ReadCall, UpdateCall, Call, reads, updates, formats, commits, mounts, lookingUp, insertion, deletion, firstRefusal, numbersRefusal, laterRefusal, leaf, resting, fresh, updated, committed, enoughWrites, enoughMarks}
 
@@ -34,13 +36,15 @@ pub record Store : Type 1 where
   pub blocks : State → ℕ
   pub pending : State → ℕ
   pub number : State → ℕ
+  -- the figure of a block: its erases since the last finished mount or format
+  pub erases : State → ℕ → ℕ
   -- P: what the pages of the image and the buffer of the state give
   pub present : State → Image → Table
   pub meaning : Image → Meaning
-  -- the operations of a mount (one for each void page), of a commit, and of a format of a chip with that many blocks
-  pub mountCount : Image → ℕ
-  pub commitCount : State → Image → ℕ
-  pub formatCount : ℕ → ℕ
+  -- the operations of a mount (a mark for each void page), of a commit, and of a format of a chip with that many blocks
+  pub mountOps : Image → List Op
+  pub commitOps : State → Image → List Op
+  pub formatOps : ℕ → List Op
   -- the most operations that a commit has
   pub most : ℕ
   -- the state is one that calls gave for this image; the image has the unused blocks that a commit may need
@@ -124,6 +128,7 @@ module _ (g : Geometry) (S : Store) where
     pub range : acceptsOr (2 ∷ 1 ∷ 3 ∷ u .numbers) a ≡ true
     pub image : i' ≡ i
     pub still : (n : ℕ) → a ≡ refuses n → s' ≡ s
+    pub figures : (b : ℕ) → S .erases s' b ≡ S .erases s b
     -- 3 exactly when 16 are pending, on any state and any image
     pub full : PassesFirst (updates u (S .size i)) s → 16 ≤ S .pending s → a ≡ refuses 3
     pub notFull : PassesFirst (updates u (S .size i)) s → S .pending s < 16 → a ≡ refuses 3 → ⊥
@@ -147,11 +152,12 @@ module _ (g : Geometry) (S : Store) where
     pub range : acceptsOr (1 ∷ 10 ∷ []) a ≡ true
     -- with a refusal other than 10 no operation is told
     pub quiet : (n : ℕ) → a ≡ refuses n → (n ≡ 10 → ⊥) → ops ≡ 0
-    pub few : PassesFirst (formats allowance (S .size i) (length torn)) s → S .formatCount (blocksOf g (S .size i)) ≤ enoughWrites
-    pub power : PassesFirst (formats allowance (S .size i) (length torn)) s → OpsTold (S .formatCount (blocksOf g (S .size i))) allowance a ops
-    pub done : PassesFirst (formats allowance (S .size i) (length torn)) s → S .formatCount (blocksOf g (S .size i)) ≤ allowance
+    pub few : PassesFirst (formats allowance (S .size i) (length torn)) s → length (S .formatOps (blocksOf g (S .size i))) ≤ enoughWrites
+    pub power : PassesFirst (formats allowance (S .size i) (length torn)) s → OpsTold (length (S .formatOps (blocksOf g (S .size i)))) allowance a ops
+    pub done : PassesFirst (formats allowance (S .size i) (length torn)) s → length (S .formatOps (blocksOf g (S .size i))) ≤ allowance
         → (stateOf S s' i' ≡ fresh (blocksOf g (S .size i))) × (S .meaning i' ≡ means (leaf (blocksOf g (S .size i))) 1) × S .Good s' i' × S .Room i'
-    pub cut : PassesFirst (formats allowance (S .size i) (length torn)) s → allowance < S .formatCount (blocksOf g (S .size i)) → S .on s' ≡ false
+    pub zeros : a ≡ accepted → (b : ℕ) → S .erases s' b ≡ 0
+    pub cut : PassesFirst (formats allowance (S .size i) (length torn)) s → allowance < length (S .formatOps (blocksOf g (S .size i))) → S .on s' ≡ false
 
   -- a commit that the first tests pass, with updates pending and a number left, on a state that calls gave
   pub record Committing (allowance : ℕ) (torn : List ℕ) (s : S .State) (i : S .Image) : Type 0 where
@@ -170,20 +176,24 @@ module _ (g : Geometry) (S : Store) where
         → numbersRefusal (S .pending s) (S .number s) (commits allowance (S .size i) (length torn)) ≡ suc n → a ≡ refuses (suc n)
     -- nothing pending: accepted, no operation, nothing changed, on any state and any image
     pub idle : PassesFirst (commits allowance (S .size i) (length torn)) s → S .pending s ≡ 0 → (a ≡ accepted) × (ops ≡ 0) × Same S s i s' i'
-    pub none : S .pending s ≡ 0 → S .commitCount s i ≡ 0
+    pub none : S .pending s ≡ 0 → length (S .commitOps s i) ≡ 0
     pub bound : S .most ≤ enoughWrites
     -- no places: 6, and by `quiet` nothing is changed; where the image has room there are places
     pub stuck : Committing allowance torn s i → S .able s i ≡ false → a ≡ refuses 6
     pub able : Committing allowance torn s i → S .Room i → S .able s i ≡ true
-    pub few : Committing allowance torn s i → S .able s i ≡ true → S .commitCount s i ≤ S .most
-    pub power : Committing allowance torn s i → S .able s i ≡ true → OpsTold (S .commitCount s i) allowance a ops
+    pub few : Committing allowance torn s i → S .able s i ≡ true → length (S .commitOps s i) ≤ S .most
+    pub power : Committing allowance torn s i → S .able s i ≡ true → OpsTold (length (S .commitOps s i)) allowance a ops
     -- the image means P and G + 1 where the commit takes effect, else what it meant
     pub choice : Committing allowance torn s i → S .able s i ≡ true
-        → S .meaning i' ≡ cond (takesEffect (getD torn 0 0) allowance (S .commitCount s i)) (means (S .present s i) (suc (S .number s))) (S .meaning i)
+        → S .meaning i' ≡ cond (takesEffect (getD torn 0 0) allowance (length (S .commitOps s i))) (means (S .present s i) (suc (S .number s))) (S .meaning i)
     pub room : Committing allowance torn s i → S .able s i ≡ true → S .Room i → S .Room i'
-    pub done : Committing allowance torn s i → S .able s i ≡ true → S .commitCount s i ≤ allowance
+    pub done : Committing allowance torn s i → S .able s i ≡ true → length (S .commitOps s i) ≤ allowance
         → (stateOf S s' i' ≡ committed (stateOf S s i)) × S .Good s' i'
-    pub cut : Committing allowance torn s i → S .able s i ≡ true → allowance < S .commitCount s i → S .on s' ≡ false
+    -- no block is erased twice; finished, each figure grows by the erases of its block: one that is not above the number has room for that
+    pub once : Committing allowance torn s i → S .able s i ≡ true → (b : ℕ) → erasesIn b (S .commitOps s i) ≤ 1
+    pub adds : Committing allowance torn s i → S .able s i ≡ true → length (S .commitOps s i) ≤ allowance → (b : ℕ) → S .erases s b ≤ S .number s
+        → S .erases s' b ≡ S .erases s b + erasesIn b (S .commitOps s i)
+    pub cut : Committing allowance torn s i → S .able s i ≡ true → allowance < length (S .commitOps s i) → S .on s' ≡ false
 
   -- mount reads the image alone
   pub record Mount (allowance : ℕ) (torn : List ℕ) (s : S .State) (i : S .Image) (a : Answer) (ops : ℕ) (s' : S .State) (i' : S .Image) : Type 0 where
@@ -191,14 +201,15 @@ module _ (g : Geometry) (S : Store) where
     pub range : acceptsOr (1 ∷ 7 ∷ 8 ∷ 9 ∷ 10 ∷ []) a ≡ true
     -- with a refusal other than 10 no operation is told
     pub quiet : (n : ℕ) → a ≡ refuses n → (n ≡ 10 → ⊥) → ops ≡ 0
-    pub few : (K : Table) (G : ℕ) → S .meaning i ≡ means K G → S .mountCount i ≤ enoughMarks
+    pub few : (K : Table) (G : ℕ) → S .meaning i ≡ means K G → length (S .mountOps i) ≤ enoughMarks
     pub refused : PassesFirst (mounts allowance (S .size i) (length torn)) s → (n : ℕ) → S .meaning i ≡ invalid n
         → (a ≡ refuses n) × (ops ≡ 0) × (S .on s' ≡ false) × (i' ≡ i)
     pub power : PassesFirst (mounts allowance (S .size i) (length torn)) s → (K : Table) (G : ℕ) → S .meaning i ≡ means K G
-        → OpsTold (S .mountCount i) allowance a ops
+        → OpsTold (length (S .mountOps i)) allowance a ops
     pub stays : PassesFirst (mounts allowance (S .size i) (length torn)) s → (K : Table) (G : ℕ) → S .meaning i ≡ means K G
         → (S .meaning i' ≡ means K G) × (S .Room i → S .Room i')
     pub done : PassesFirst (mounts allowance (S .size i) (length torn)) s → (K : Table) (G : ℕ) → S .meaning i ≡ means K G
-        → S .mountCount i ≤ allowance → (stateOf S s' i' ≡ resting K G (blocksOf g (S .size i))) × S .Good s' i'
+        → length (S .mountOps i) ≤ allowance → (stateOf S s' i' ≡ resting K G (blocksOf g (S .size i))) × S .Good s' i'
     pub cut : PassesFirst (mounts allowance (S .size i) (length torn)) s → (K : Table) (G : ℕ) → S .meaning i ≡ means K G
-        → allowance < S .mountCount i → S .on s' ≡ false
+        → allowance < length (S .mountOps i) → S .on s' ≡ false
+    pub zeros : a ≡ accepted → (b : ℕ) → S .erases s' b ≡ 0

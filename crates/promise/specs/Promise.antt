@@ -87,9 +87,9 @@ module _ (g : Geometry) (S : Store) where
 
   -- the operations of a commit that is accepted or cut: never more than the most, which is 2,000 or less, and never cut for want of room
   pub record CommitPower (n : ℕ) (s : S .State) (i : S .Image) (a : Answer) (ops : ℕ) : Type 0 where
-    pub few : S .commitCount s i ≤ S .most
-    pub finished : a ≡ accepted → (S .commitCount s i ≤ n) × (ops ≡ S .commitCount s i)
-    pub short : a ≡ refuses 10 → (n < S .commitCount s i) × (ops ≡ n)
+    pub few : length (S .commitOps s i) ≤ S .most
+    pub finished : a ≡ accepted → (length (S .commitOps s i) ≤ n) × (ops ≡ length (S .commitOps s i))
+    pub short : a ≡ refuses 10 → (n < length (S .commitOps s i)) × (ops ≡ n)
 
   abbrev pub CommitPowered : Type 0
   CommitPowered = (K : Table) (G : ℕ) (s : S .State) (i : S .Image) (xs ys : List (Step S)) (x : Step S) → Course K G s i (xs ++ (x ∷ ys))

@@ -101,6 +101,7 @@ pub record Settled (s : State) (i : List ℕ) (nodes : List Node) : Type 0 where
   pub numbers : s .next ≤ 8 * s .blocks
   pub pending : s .pending ≡ 0
   pub count : s .count ≡ 0
+  pub past : (b : ℕ) → s .blocks ≤ b → getD (s .erases) b 0 ≡ 0
 
 module _ (s : State) (i : List ℕ) (nodes : List Node) (b : Settled s i nodes) where
   -- the image keeps its meaning
@@ -186,6 +187,7 @@ module _ (s : State) (i : List ℕ) (nodes : List Node) (b : Settled s i nodes) 
         levels = fair-level (present-fair 0);
         next = b .next ∙ ap next (sym settled-present);
         numbers = b .numbers;
+        past = b .past;
       }
 
 -- ---- the same with a next number counted from the lists: what a finished format and a finished mount give
@@ -199,6 +201,7 @@ pub record Begun (s : State) (i : List ℕ) (nodes : List Node) : Type 0 where
   pub next : NextOf (8 * s .blocks) (s .lens) (s .next)
   pub pending : s .pending ≡ 0
   pub count : s .count ≡ 0
+  pub past : (b : ℕ) → s .blocks ≤ b → getD (s .erases) b 0 ≡ 0
 
 module _ (s : State) (i : List ℕ) (nodes : List Node) (b : Begun s i nodes) where
   pub begun-kept : Kept small (8 * s .blocks) (pagesOf small i) nodes (s .commit)
@@ -217,6 +220,7 @@ module _ (s : State) (i : List ℕ) (nodes : List Node) (b : Begun s i nodes) wh
         numbers = b .next .most;
         pending = b .pending;
         count = b .count;
+        past = b .past;
       }
 
   pub begun-meaning : imageMeaning small i ≡ P.means (viewsOf nodes) (s .commit)

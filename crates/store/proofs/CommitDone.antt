@@ -18,7 +18,9 @@ use Rattle.chip.specs.Power.{isGone, takesEffect}
 use Rattle.chip.specs.Counts.{countsOf}
 use Rattle.chip.specs.Page.{Page}
 use Rattle.chip.specs.Chip.{Op, Machine, kindOf, kindsOf, pagesOf}
+use Rattle.chip.specs.Erases.{erasesIn}
 use Rattle.chip.specs.RunCode.{atStart}
+use Rattle.chip.proofs.EraseLaws.{figure-grows}
 use Rattle.chip.proofs.Runs.{run-gone, ran-told}
 use Rattle.pages.specs.declared.unit.Unit as U
 use Rattle.views.specs.Groups.{present}
@@ -30,6 +32,7 @@ use Rattle.tree.specs.Tree.{Table, next}
 use Rattle.tree.specs.Step6.{step6}
 use Rattle.log.specs.Plan.{Plan, freeAt, newsOf, nodeAt, spareBlocks}
 use Rattle.log.specs.Policy.{planOf}
+use Rattle.log.proofs.EraseLaws.{commit-erases, erased-none, erased-on}
 use Rattle.log.proofs.AdmissibleLaws.{Safe, imageAfter, nodeAfter}
 use Rattle.log.proofs.PolicyLaws.{rests-next}
 use Rattle.promise.specs.Image.{viewsOf, bySix, imageMeaning}
@@ -41,7 +44,7 @@ use Rattle.store.specs.State.{limitOf, nodesOf, unitsOf, presentOf, Good
 use Rattle.store.specs.Contracts.{thePlan, theOps, toldOf}
 use Rattle.store.proofs.BegunViews.{map-tab}
 use Rattle.store.proofs.Begun.{Settled}
-use Rattle.store.proofs.CommitGood.{good-chip, good-kept, good-present, good-room, room-by}
+use Rattle.store.proofs.CommitGood.{good-chip, good-kept, good-long, good-present, good-room, room-by}
 
 -- ---- with an allowance for all of them, all are told
 pub all-told : (n : ℕ) (os : List Op) → length os ≤ n → toldOf n os ≡ countsOf (kindsOf os)
@@ -63,8 +66,8 @@ same-plan {B = B} {C = C} {ps = ps} {qs = qs} {tb = tb} {nx = nx} {G = G} us b p
 not-member : (b : ℕ) (xs : List ℕ) → (Mem b xs → ⊥) → any (eqb b) xs ≡ false
 not-member b xs h = cases (any (eqb b) xs) (λ t. absurd (h (eqb-mem b xs t))) (λ t. t)
 
-module _ (n : ℕ) (torn : List ℕ) (s : State) (i i' lens slots : List ℕ) (reached : Progress) (g : Good small s i)
-    (x : Executed (limitOf s) (s .commit) (nodesOf small s i) (thePlan s i) torn (atStart n) i i' lens slots reached) where
+module _ (n : ℕ) (torn : List ℕ) (s : State) (i i' lens slots erases : List ℕ) (reached : Progress) (g : Good small s i)
+    (x : Executed (limitOf s) (s .commit) (nodesOf small s i) (thePlan s i) torn (atStart n) i i' lens slots (s .erases) erases reached) where
   abbrev ps : List Page
   ps = pagesOf small i
 
@@ -147,6 +150,13 @@ module _ (n : ℕ) (torn : List ℕ) (s : State) (i i' lens slots : List ℕ) (r
             room-by i' (s .blocks) nextNodes (suc (s .commit)) after-blocks q (rw after-pages (sf .room-done (good-room s i g r) n))
         go false q = room-by i' (s .blocks) tb (s .commit) after-blocks q (rw after-pages (sf .room-cut (good-room s i g r) n))
 
+    -- a block past the chip is not erased
+    pub after-past : (b : ℕ) → s .blocks ≤ b → erasesIn b (theOps s i) ≡ 0
+    after-past b h =
+        let l = good-long s i g in
+        commit-erases b (thePlan s i .erased) (newsOf small (s .commit) (thePlan s i))
+        ∙ erased-none b (thePlan s i .erased) (All-map (λ (k : ℕ) m q. omega (arith, l)) (erased-on small (thePlan s i .erased) _ ps (sf .legal)))
+
     -- ---- finished
     module _ (enough : length (theOps s i) ≤ n) where
       finished : Kept small (limitOf s) (pagesOf small i') nextNodes (suc (s .commit))
@@ -170,7 +180,7 @@ module _ (n : ℕ) (torn : List ℕ) (s : State) (i i' lens slots : List ℕ) (r
           (λ b m. not-member b (thePlan t i' .erased) (λ k. m (subst (λ (q : Plan). Mem b (q .erased)) (next-plan t h) k)))
           (rests-next small (limitOf s) (s .blocks) (spareBlocks small (s .blocks)) torn ps tb (s .commit) (unitsOf s) (thePlan s i) sf n enough (unitsOf t))
 
-      pub after-settled : ((j : ℕ) → getD i' j 0 < 256) → Settled (committedState s lens slots) i' nextNodes
+      pub after-settled : ((j : ℕ) → getD i' j 0 < 256) → Settled (committedState s lens slots erases) i' nextNodes
       after-settled bytes =
           let c = good-chip s i g in
           record {
@@ -184,4 +194,6 @@ module _ (n : ℕ) (torn : List ℕ) (s : State) (i i' lens slots : List ℕ) (r
             numbers = g .numbers;
             pending = refl;
             count = refl;
+            past = λ b l. let z = after-past b l in
+                ap (λ (fs : List ℕ). getD fs b 0) (x .figures) ∙ figure-grows (theOps s i) (s .erases) b (λ h. z) (omega (arith, z, g .past b l)) ∙ omega (arith, z, g .past b l);
           }

@@ -1,6 +1,6 @@
 -- What a commit starts from on a good state: the table and the units that its plan is made of. Assumes nothing.
 use mathlib.Core.Path.{_≡_, refl, sym, ap, subst, _∙_}
-use mathlib.Core.List.{List, reverse-reverse}
+use mathlib.Core.List.{[], List, reverse-reverse}
 use Prim.Native.Nat.{ℕ, _+_, _*_, _≤_, _<_}
 use native.Mathlib.Omega.{arith}
 use lib.Dec.{eqb}
@@ -34,7 +34,7 @@ use Rattle.log.proofs.PlanKept.{Buffer, ready}
 use Rattle.commits.specs.ExecuteCode.{Plannable}
 use Rattle.store.specs.declared.state.State.{State}
 use Rattle.store.specs.AdmitCode.{ChipOf}
-use Rattle.store.specs.State.{limitOf, nodeFrom, nodesOf, unitsOf, presentOf, Good, RoomIn, Room, commitCount}
+use Rattle.store.specs.State.{limitOf, nodeFrom, nodesOf, unitsOf, presentOf, Good, RoomIn, Room, commitOps}
 use Rattle.store.specs.Contracts.{theOps}
 use Rattle.store.proofs.BegunViews.{image-bytes}
 use Rattle.store.proofs.UpdateLaws.{units-many}
@@ -152,10 +152,10 @@ module _ (s : State) (i : List ℕ) (g : Good small s i) where
       }
 
 -- none with nothing pending, else those of the plan
-pub count-none : (s : State) (i : List ℕ) → s .pending ≡ 0 → commitCount small s i ≡ 0
-unfolding commitCount
-count-none s i h = rw (eq-eqb (s .pending) 0 h)
+pub ops-none : (s : State) (i : List ℕ) → s .pending ≡ 0 → commitOps small s i ≡ []
+unfolding commitOps
+ops-none s i h = rw (eq-eqb (s .pending) 0 h)
 
-pub count-some : (s : State) (i : List ℕ) → 0 < s .pending → commitCount small s i ≡ length (theOps s i)
-unfolding commitCount
-count-some s i h = rw (ne-eqb (s .pending) 0 (λ e. omega arith))
+pub ops-some : (s : State) (i : List ℕ) → 0 < s .pending → commitOps small s i ≡ theOps s i
+unfolding commitOps
+ops-some s i h = rw (ne-eqb (s .pending) 0 (λ e. omega arith))

@@ -2,12 +2,13 @@
 use mathlib.Core.Path.{_≡_, refl, sym, ap, subst, _∙_}
 use mathlib.Core.Logic.{_⊎_, inl, inr, ⊎-elim}
 use mathlib.Core.Bool.{Bool, true, false, cond, not, _&&_}
-use mathlib.Core.List.{List, [], _∷_}
+use mathlib.Core.List.{List, [], _∷_, map}
 use Prim.Native.Nat.{ℕ, zero, suc, _+_, _*_, _^_, _≤_, _<_, min}
 use native.Mathlib.Omega.{arith}
 use lib.Dec.{ltb, eqb}
 use lib.ListN.{length, getD, length-map}
 use borrow.Author.Tests.{ne-eqb, lt-ltb, le-ltb, le-leb, ltb-true, ltb-false}
+use Rattle.lists.specs.Lists.{count}
 use Rattle.lists.proofs.Tests.{clash}
 use Rattle.chip.specs.declared.power.Power.the-variants.{Left}
 use Rattle.chip.specs.declared.progress.Counts.{Counts}
@@ -15,16 +16,19 @@ use Rattle.chip.specs.declared.progress.Progress.{Progress}
 use Rattle.chip.specs.Geometry.{small}
 use Rattle.chip.specs.Power.{isGone, takesEffect}
 use Rattle.chip.specs.Counts.{countsOf, nothing, total}
-use Rattle.chip.specs.Chip.{Op, Legal, Machine, kindOf, kindsOf, pagesOf, run}
+use Rattle.chip.specs.Chip.{Op, Legal, erase, Machine, kindOf, kindsOf, pagesOf, run}
+use Rattle.chip.specs.Erases.{erasesIn, figuresAfter}
 use Rattle.chip.specs.RunCode.{atStart}
+use Rattle.chip.proofs.EraseLaws.{figure-grows}
 use Rattle.chip.proofs.CountLaws.{told-sum, wholes-none}
 use Rattle.chip.proofs.Runs.{ran-told, ran-total, run-gone, run-parts}
 use Rattle.views.specs.Table.{Node}
 use Rattle.views.specs.Groups.{Distinct}
 use Rattle.log.specs.Commit.{commitOps, groupsOf}
-use Rattle.log.specs.Plan.{Plan, opsOf, spareBlocks, stuck, isEmpty}
+use Rattle.log.specs.Plan.{Plan, newsOf, opsOf, spareBlocks, stuck, isEmpty}
 use Rattle.log.proofs.PlanKept.{chip-small, wide-small, few-small}
 use Rattle.log.proofs.KindLaws.{commit-ops-kinds}
+use Rattle.log.proofs.EraseLaws.{commit-erases, commit-figures, erased-most}
 use Rattle.log.proofs.AdmissibleLaws.{Safe}
 use Rattle.log.proofs.PolicyLaws.{committed, foreign}
 use Rattle.promise.specs.Plain.{Answer, refuses, accepted, commits, firstRefusal}
@@ -43,13 +47,14 @@ use Rattle.store.specs.AdmitCode.{commitTests, answerFor}
 use Rattle.store.specs.Answers.{answerOf}
 use Rattle.store.specs.EndingCode.{endedWith}
 use Rattle.store.specs.FreshCode.{committedState}
-use Rattle.store.specs.State.{turnedOff, limitOf, nodesOf, unitsOf, presentOf, Good, Room, commitCount}
+use Rattle.store.specs.State.{turnedOff, limitOf, nodesOf, unitsOf, presentOf, Good, Room}
+use Rattle.store.specs.State as State
 use Rattle.store.specs.Contracts.{index, thePlan, theOps, toldOf, Commits}
 use Rattle.store.proofs.EndingLaws.{either-end}
 use Rattle.store.proofs.Begun.{Settled, settled-good, settled-state}
 use Rattle.store.proofs.CommitPlan.{length-plan, safe-some}
-use Rattle.store.proofs.CommitGood.{good-chip, good-few, good-ready, good-buffer, good-plannable, good-room, count-none, count-some}
-use Rattle.store.proofs.CommitDone.{all-told, after-pages, after-gone, after-told, after-meaning, after-room, after-free, after-rests, after-settled, nextNodes, next-views}
+use Rattle.store.proofs.CommitGood.{good-chip, good-few, good-ready, good-buffer, good-plannable, good-room, ops-none, ops-some}
+use Rattle.store.proofs.CommitDone.{all-told, after-pages, after-gone, after-told, after-meaning, after-room, after-past, after-free, after-rests, after-settled, nextNodes, next-views}
 
 -- ---- numbers and answers that differ
 other : {Q : Type 0} (m k : ℕ) → (m ≡ k → ⊥) → refuses m ≡ refuses k → Q
@@ -90,8 +95,8 @@ module _ (n : ℕ) (torn : List ℕ) (s : State) (i : List ℕ) where
   not-begun : (a : A.Answer) → FirstTests small (index small) (commits n (length i) (length torn)) s i (answerOf a) s i
       → P.acceptsOr (2 ∷ 1 ∷ 6 ∷ 10 ∷ []) (answerOf a) ≡ true → (answerOf a ≡ refuses 10 → ⊥)
       → (first ≡ 0 → (m : ℕ) → later ≡ suc m → answerOf a ≡ refuses (suc m)) → (first ≡ 0 → s .pending ≡ 0 → answerOf a ≡ accepted) → (Begins → ⊥)
-      → Commits n torn s i (record { answer = a; ops = nothing; state = s }) i
-  not-begun a tests kind d l idle never =
+      → (answerOf a ≡ accepted → 0 < s .pending → ⊥) → Commits n torn s i (record { answer = a; ops = nothing; state = s }) i
+  not-begun a tests kind d l idle never rest =
       record {
         says = record {
           first = tests;
@@ -99,7 +104,7 @@ module _ (n : ℕ) (torn : List ℕ) (s : State) (i : List ℕ) where
           quiet = λ m e t. (refl, still);
           last = l;
           idle = λ p q. (idle p q, refl, still);
-          none = λ h. count-none s i h;
+          none = λ h. ap length (ops-none s i h);
           bound = omega arith;
           stuck = λ c. absurd (never c);
           able = λ c. absurd (never c);
@@ -108,11 +113,15 @@ module _ (n : ℕ) (torn : List ℕ) (s : State) (i : List ℕ) where
           choice = λ c. absurd (never c);
           room = λ c. absurd (never c);
           done = λ c. absurd (never c);
+          once = λ c. absurd (never c);
+          adds = λ c. absurd (never c);
           cut = λ c. absurd (never c);
         };
         kinds = λ c. absurd (never c);
         spent = λ e. absurd (d e);
         twice = λ e. refl;
+        figures = λ c. absurd (never c);
+        erased = λ e h. absurd (rest e h);
         bytes = λ c. absurd (never c);
         legal = λ c. absurd (never c);
         once = λ c. absurd (never c);
@@ -144,14 +153,14 @@ module _ (n : ℕ) (torn : List ℕ) (s : State) (i : List ℕ) where
       not-begun a
       (record { refused = λ m q. (e ∙ ap refuses (sym f ∙ q), still); not1 = λ p. absurd (omega arith); not2 = λ p. absurd (omega arith); sameSize = refl })
       (range-of k (answerOf a) e low) (not-cut a (suc k) e (λ z. omega arith)) (λ p. absurd (omega arith)) (λ p. absurd (omega arith))
-      (λ c. omega (arith, c .passes))
+      (λ c. omega (arith, c .passes)) (λ q h. not-refused (suc k) (sym q ∙ e))
   refused-by zero (suc k) f l a e h =
       let six : suc k ≡ 6 = when-is 6 k (ltb 0 (s .pending) && eqb (s .commit) 4294967295) l in
       let u : answerOf a ≡ refuses 6 = e ∙ ap refuses six in
       not-begun a
       (record { refused = λ m q. absurd (omega arith); not1 = λ p q. other 6 1 (λ z. omega arith) (sym u ∙ q); not2 = λ p q. other 6 2 (λ z. omega arith) (sym u ∙ q); sameSize = refl })
       (rw u) (not-cut a 6 u (λ z. omega arith)) (λ p m q. e ∙ ap refuses (sym l ∙ q)) (λ p q. absurd (omega (arith, later-idle (s .pending) (s .commit) q)))
-      (λ c. omega (arith, c .numbers))
+      (λ c. omega (arith, c .numbers)) (λ q h. not-refused 6 (sym q ∙ u))
   refused-by zero zero f l a e h = absurd (omega arith)
 
   pub commit-refused : (a : A.Answer) → answerOf a ≡ answerFor (commitTests small (s .on) (s .blocks) (s .pending) (s .commit) (length i) (length torn))
@@ -169,21 +178,23 @@ module _ (n : ℕ) (torn : List ℕ) (s : State) (i : List ℕ) where
     commit-idle h =
         not-begun Accepted (tests accepted s i (λ e. not-refused 1 e) (λ e. not-refused 2 e) refl) refl (λ e. not-refused 10 e)
         (λ p m e. absurd (omega (arith, later-idle (s .pending) (s .commit) h))) (λ p q. refl) (λ c. omega (arith, c .pending))
+        (λ e p. omega arith)
 
     -- more units than the buffer of a good state holds
     pub commit-full : 0 < s .pending → s .commit < 4294967295 → 960 < s .count → Commits n torn s i (record { answer = Last; ops = nothing; state = s }) i
     commit-full h low many =
         not-begun Last (tests (refuses 6) s i (λ e. other 6 1 (λ u. omega arith) e) (λ e. other 6 2 (λ u. omega arith) e) refl) refl (λ e. other 6 10 (λ u. omega arith) e)
         (λ p m e. absurd (omega (arith, later-low (s .pending) (s .commit) h low))) (λ p q. absurd (omega arith)) (λ c. omega (arith, good-few s i (c .good)))
+        (λ e p. not-refused 6 (sym e))
 
     -- ---- the plan is executed
     module _ (pending : 0 < s .pending) (number : s .commit < 4294967295) (size : length torn ≡ 528) (slots : length (s .slots) ≡ 1024)
-        (bytes : (j : ℕ) → getD i j 0 < 256) (i' lens' slots' : List ℕ) (e : Ended)
+        (figured : length (s .erases) ≡ 32) (bytes : (j : ℕ) → getD i j 0 < 256) (i' lens' slots' erases' : List ℕ) (e : Ended)
         (low : n < 2 ^ 32) (p : Progress) (from : p ≡ atStart n)
-        (begins : Executes (8 * s .blocks) (s .blocks) (s .lens) (s .slots) (s .count) (s .buffer) (s .commit) torn p i i' (s .lens) (s .slots) lens' slots' e) where
-      x : Executes (8 * s .blocks) (s .blocks) (s .lens) (s .slots) (s .count) (s .buffer) (s .commit) torn (atStart n) i i' (s .lens) (s .slots) lens' slots' e
+        (begins : Executes (8 * s .blocks) (s .blocks) (s .lens) (s .slots) (s .count) (s .buffer) (s .commit) torn p i i' (s .lens) (s .slots) lens' slots' (s .erases) erases' e) where
+      x : Executes (8 * s .blocks) (s .blocks) (s .lens) (s .slots) (s .count) (s .buffer) (s .commit) torn (atStart n) i i' (s .lens) (s .slots) lens' slots' (s .erases) erases' e
       x =
-          subst (λ (q : Progress). Executes (8 * s .blocks) (s .blocks) (s .lens) (s .slots) (s .count) (s .buffer) (s .commit) torn q i i' (s .lens) (s .slots) lens' slots' e) from begins
+          subst (λ (q : Progress). Executes (8 * s .blocks) (s .blocks) (s .lens) (s .slots) (s .count) (s .buffer) (s .commit) torn q i i' (s .lens) (s .slots) lens' slots' (s .erases) erases' e) from begins
 
       later-none : later ≡ 0
       later-none = later-low (s .pending) (s .commit) pending number
@@ -240,7 +251,7 @@ module _ (n : ℕ) (torn : List ℕ) (s : State) (i : List ℕ) where
                 quiet = λ m e t. (refl, record { state = refl; image = x .still st });
                 last = λ p m e. absurd (omega (arith, later-none));
                 idle = λ p q. absurd (omega arith);
-                none = λ q. count-none s i q;
+                none = λ q. ap length (ops-none s i q);
                 bound = omega arith;
                 stuck = λ c b. refl;
                 able = λ c r. no-room (c .good) r;
@@ -249,10 +260,14 @@ module _ (n : ℕ) (torn : List ℕ) (s : State) (i : List ℕ) where
                 choice = λ c b. no-plan (c .good) b;
                 room = λ c b. no-plan (c .good) b;
                 done = λ c b. no-plan (c .good) b;
+                once = λ c b. no-plan (c .good) b;
+                adds = λ c b. no-plan (c .good) b;
                 cut = λ c b. no-plan (c .good) b;
               };
               spent = λ e. other 6 10 (λ u. omega arith) e;
               twice = λ e. not-refused 6 (sym e);
+              figures = λ c a. not-refused 6 (sym a);
+              erased = λ e h. not-refused 6 (sym e);
               kinds = λ c. none-told n ∙ ap (toldOf n) (sym (no-ops (c .good)));
               bytes = λ c. run-none (c .good);
               legal = λ c. subst (λ (q : Plan). Legal small (pagesOf small i) (opsOf small (s .commit) q)) (sym (is-stuck (c .good))) tt;
@@ -266,11 +281,11 @@ module _ (n : ℕ) (torn : List ℕ) (s : State) (i : List ℕ) where
 
       -- ---- the plan has pages
       module _ (st : e .stuck ≡ false) where
-        by-plan : Good small s i → Executed (limitOf s) (s .commit) (nodesOf small s i) (thePlan s i) torn (atStart n) i i' lens' slots' (e .reached)
+        by-plan : Good small s i → Executed (limitOf s) (s .commit) (nodesOf small s i) (thePlan s i) torn (atStart n) i i' lens' slots' (s .erases) erases' (e .reached)
         by-plan g = x .is (nodesOf small s i) (unitsOf s) (good-plannable s i g bytes slots pending number) refl refl st
 
         run-is : Good small s i → pagesOf small i' ≡ run small torn (record { power = Left n; pages = pagesOf small i }) (theOps s i) .pages
-        run-is g = after-pages n torn s i i' lens' slots' (e .reached) g (by-plan g)
+        run-is g = after-pages n torn s i i' lens' slots' erases' (e .reached) g (by-plan g)
 
         -- on any state, what was done
         abbrev ops : List Op
@@ -284,11 +299,21 @@ module _ (n : ℕ) (torn : List ℕ) (s : State) (i : List ℕ) where
             let l : n < length ops = ltb-true n (length ops) (sym ops-gone ∙ t) in
             omega (arith, ran-total small torn n ops (e .reached) i i' low (x .some st .2))
 
+        by-kind : isGone (e .reached .left) ≡ false
+            → e .reached .done ≡ record { programs = length (x .some st .1); marks = 2 * length (x .some st .1); erases = length (x .some st .0) }
+        by-kind t =
+            ran-told small torn n ops (e .reached) i i' low (x .some st .2) ∙ all-told n ops (ltb-false n (length ops) (sym ops-gone ∙ t))
+            ∙ commit-ops-kinds (x .some st .0) (x .some st .1)
+
         twice : isGone (e .reached .left) ≡ false → e .reached .done .marks ≡ 2 * e .reached .done .programs
-        twice t =
-            let q = ran-told small torn n ops (e .reached) i i' low (x .some st .2) ∙ all-told n ops (ltb-false n (length ops) (sym ops-gone ∙ t))
-            ∙ commit-ops-kinds (x .some st .0) (x .some st .1) in
-            ap (λ (d : Counts). d .marks) q ∙ sym (ap (λ (d : Counts). 2 * d .programs) q)
+        twice t = ap (λ (d : Counts). d .marks) (by-kind t) ∙ sym (ap (λ (d : Counts). 2 * d .programs) (by-kind t))
+
+        erased : isGone (e .reached .left) ≡ false → (bs : List ℕ) × (length bs ≡ e .reached .done .erases) × (erases' ≡ figuresAfter (map erase bs) (s .erases))
+        erased t = (
+          x .some st .0,
+          sym (ap (λ (d : Counts). d .erases) (by-kind t)),
+          x .some st .3 ∙ sym (commit-figures (x .some st .0) (x .some st .1) (s .erases)),
+        )
 
         not-stuck : {Q : Type 0} (g : Good small s i) → thePlan s i ≡ stuck → Q
         not-stuck g q =
@@ -301,31 +326,44 @@ module _ (n : ℕ) (torn : List ℕ) (s : State) (i : List ℕ) where
         secure : (g : Good small s i) → Secure (thePlan s i)
         secure g = ⊎-elim (λ q. not-stuck g q) (λ sf. sf) (stuck-or-safe g)
 
-        need : commitCount small s i ≡ length (theOps s i)
-        need = count-some s i pending
+        need : length (State.commitOps small s i) ≡ length (theOps s i)
+        need = ap length (ops-some s i pending)
 
-        most : Good small s i → commitCount small s i ≤ 389
+        most : Good small s i → length (State.commitOps small s i) ≤ 389
         most g = rw need (few-small (s .blocks) (length (theOps s i)) (good-chip s i g .most) (secure g .few))
 
         gone : Good small s i → isGone (e .reached .left) ≡ ltb n (length (theOps s i))
-        gone g = after-gone n torn s i i' lens' slots' (e .reached) g (by-plan g)
+        gone g = after-gone n torn s i i' lens' slots' erases' (e .reached) g (by-plan g)
 
         kinds-are : (g : Good small s i) → e .reached .done ≡ toldOf n (theOps s i)
-        kinds-are g = after-told n torn s i i' lens' slots' (e .reached) g (by-plan g) low
+        kinds-are g = after-told n torn s i i' lens' slots' erases' (e .reached) g (by-plan g) low
 
         told : (g : Good small s i) → total (e .reached .done) ≡ min n (length (theOps s i))
         told g = ap total (kinds-are g) ∙ told-sum n (kindsOf (theOps s i)) ∙ ap (min n) (length-map (theOps s i) kindOf)
 
         chosen : (g : Good small s i)
             → imageMeaning small i' ≡ cond (takesEffect (getD torn 0 0) n (length (theOps s i))) (P.means (presentOf small s i) (suc (s .commit))) (imageMeaning small i)
-        chosen g = after-meaning n torn s i i' lens' slots' (e .reached) g (by-plan g) (secure g)
+        chosen g = after-meaning n torn s i i' lens' slots' erases' (e .reached) g (by-plan g) (secure g)
 
         chosen-count : (g : Good small s i)
-            → imageMeaning small i' ≡ cond (takesEffect (getD torn 0 0) n (commitCount small s i)) (P.means (presentOf small s i) (suc (s .commit))) (imageMeaning small i)
+            → imageMeaning small i' ≡ cond (takesEffect (getD torn 0 0) n (length (State.commitOps small s i))) (P.means (presentOf small s i) (suc (s .commit))) (imageMeaning small i)
         chosen-count g = rw need (chosen g)
 
         room-after : (g : Good small s i) → Room small i → Room small i'
-        room-after g r = after-room n torn s i i' lens' slots' (e .reached) g (by-plan g) (secure g) r
+        room-after g r = after-room n torn s i i' lens' slots' erases' (e .reached) g (by-plan g) (secure g) r
+
+        -- ---- the erases: of each block at most one
+        erases-are : (b : ℕ) → erasesIn b (State.commitOps small s i) ≡ count (eqb b) (thePlan s i .erased)
+        erases-are b = ap (erasesIn b) (ops-some s i pending) ∙ commit-erases b (thePlan s i .erased) (newsOf small (s .commit) (thePlan s i))
+
+        once-each : Good small s i → (b : ℕ) → erasesIn b (State.commitOps small s i) ≤ 1
+        once-each g b = omega (arith, erases-are b, erased-most b (thePlan s i .erased) (secure g .erased-once))
+
+        adds : (g : Good small s i) (b : ℕ) → getD (s .erases) b 0 ≤ s .commit → getD erases' b 0 ≡ getD (s .erases) b 0 + erasesIn b (State.commitOps small s i)
+        adds g b h =
+            let o = ap (erasesIn b) (ops-some s i pending) in
+            ap (λ (fs : List ℕ). getD fs b 0) (by-plan g .figures)
+            ∙ figure-grows (theOps s i) (s .erases) b (λ l. after-past n torn s i i' lens' slots' erases' (e .reached) g (by-plan g) (secure g) b (omega (arith, good-chip s i g .most, figured))) (omega (arith, o, once-each g b)) ∙ omega (arith, o)
 
         -- one of two, by a test
         either : {M : Type 0} (b : Bool) (m u v : M) → m ≡ cond b u v → (m ≡ v) ⊎ (m ≡ u)
@@ -344,7 +382,7 @@ module _ (n : ℕ) (torn : List ℕ) (s : State) (i : List ℕ) where
                 quiet = λ m e t. other 10 m (λ u. t (sym u)) e;
                 last = λ p m q. absurd (omega (arith, later-none));
                 idle = λ p q. absurd (omega arith);
-                none = λ q. count-none s i q;
+                none = λ q. ap length (ops-none s i q);
                 bound = omega arith;
                 stuck = λ c b. clash (has-plan (c .good)) b;
                 able = λ c r. has-plan (c .good);
@@ -354,11 +392,15 @@ module _ (n : ℕ) (torn : List ℕ) (s : State) (i : List ℕ) where
                 choice = λ c b. chosen-count (c .good);
                 room = λ c b r. room-after (c .good) r;
                 done = λ c b k. absurd (omega (arith, short (c .good), need));
+                once = λ c b. once-each (c .good);
+                adds = λ c b k. absurd (omega (arith, short (c .good), need));
                 cut = λ c b m. refl;
               };
               kinds = λ c. kinds-are (c .good);
               spent = λ e. spent out;
               twice = λ e. not-refused 10 (sym e);
+              figures = λ c a. not-refused 10 (sym a);
+              erased = λ e h. not-refused 10 (sym e);
               bytes = λ c. run-is (c .good);
               legal = λ c. secure (c .good) .legal;
               once = λ c. secure (c .good) .once;
@@ -375,16 +417,16 @@ module _ (n : ℕ) (torn : List ℕ) (s : State) (i : List ℕ) where
         -- finished
         module _ (left : isGone (e .reached .left) ≡ false) (bytes' : (j : ℕ) → getD i' j 0 < 256) where
           abbrev after : State
-          after = committedState s lens' slots'
+          after = committedState s lens' slots' erases'
 
           enough : Good small s i → length (theOps s i) ≤ n
           enough g = ltb-false n (length (theOps s i)) (sym (gone g) ∙ left)
 
           abbrev nodes : Good small s i → List Node
-          nodes g = nextNodes n torn s i i' lens' slots' (e .reached) g (by-plan g)
+          nodes g = nextNodes n torn s i i' lens' slots' erases' (e .reached) g (by-plan g)
 
           settled : (g : Good small s i) → Settled after i' (nodes g)
-          settled g = after-settled n torn s i i' lens' slots' (e .reached) g (by-plan g) (secure g) (enough g) bytes'
+          settled g = after-settled n torn s i i' lens' slots' erases' (e .reached) g (by-plan g) (secure g) (enough g) bytes'
 
           means-new : (g : Good small s i) → imageMeaning small i' ≡ P.means (presentOf small s i) (suc (s .commit))
           means-new g =
@@ -396,9 +438,9 @@ module _ (n : ℕ) (torn : List ℕ) (s : State) (i : List ℕ) where
           unfolding P.stateOf Plain.committed
           state-new g =
               settled-state after i' (nodes g) (settled g)
-              ∙ rw (next-views n torn s i i' lens' slots' (e .reached) g (by-plan g) (secure g), let z : s .commit + 1 ≡ suc (s .commit) = omega arith in z)
+              ∙ rw (next-views n torn s i i' lens' slots' erases' (e .reached) g (by-plan g) (secure g), let z : s .commit + 1 ≡ suc (s .commit) = omega arith in z)
 
-          commit-done : (new : State) → new ≡ committedState s lens' slots'
+          commit-done : (new : State) → new ≡ committedState s lens' slots' erases'
               → Commits n torn s i (record { answer = Accepted; ops = e .reached .done; state = new }) i'
           commit-done new f =
               subst (λ (y : State). Commits n torn s i (record { answer = Accepted; ops = e .reached .done; state = y }) i') (sym f)
@@ -409,7 +451,7 @@ module _ (n : ℕ) (torn : List ℕ) (s : State) (i : List ℕ) where
                   quiet = λ m e t. not-refused m e;
                   last = λ p m q. absurd (omega (arith, later-none));
                   idle = λ p q. absurd (omega arith);
-                  none = λ q. count-none s i q;
+                  none = λ q. ap length (ops-none s i q);
                   bound = omega arith;
                   stuck = λ c b. clash (has-plan (c .good)) b;
                   able = λ c r. has-plan (c .good);
@@ -419,24 +461,28 @@ module _ (n : ℕ) (torn : List ℕ) (s : State) (i : List ℕ) where
                   choice = λ c b. chosen-count (c .good);
                   room = λ c b r. room-after (c .good) r;
                   done = λ c b k. (state-new (c .good), settled-good after i' (nodes (c .good)) (settled (c .good)));
+                  once = λ c b. once-each (c .good);
+                  adds = λ c b k. adds (c .good);
                   cut = λ c b m. absurd (omega (arith, enough (c .good), need));
                 };
                 kinds = λ c. kinds-are (c .good);
                 spent = λ e. not-refused 10 e;
                 twice = λ e. twice left;
+                figures = λ c a. by-plan (c .good) .figures;
+                erased = λ e h. erased left;
                 bytes = λ c. run-is (c .good);
                 legal = λ c. secure (c .good) .legal;
                 once = λ c. secure (c .good) .once;
                 cost = λ c. length-plan small (s .commit) (thePlan s i);
-                pageFree = λ c a. after-free n torn s i i' lens' slots' (e .reached) (c .good) (by-plan (c .good)) (secure (c .good)) (enough (c .good));
-                rests = λ c a. after-rests n torn s i i' lens' slots' (e .reached) (c .good) (by-plan (c .good)) (secure (c .good)) (enough (c .good));
+                pageFree = λ c a. after-free n torn s i i' lens' slots' erases' (e .reached) (c .good) (by-plan (c .good)) (secure (c .good)) (enough (c .good));
+                rests = λ c a. after-rests n torn s i i' lens' slots' erases' (e .reached) (c .good) (by-plan (c .good)) (secure (c .good)) (enough (c .good));
                 off = λ e. not-refused 10 e;
                 bounds = record { blocks = refl; units = omega arith };
               })
 
         -- either
-        pub commit-ended : ((j : ℕ) → getD i' j 0 < 256) → (r : Wrote) → r ≡ endedWith (e .reached) s (committedState s lens' slots') → Commits n torn s i r i'
+        pub commit-ended : ((j : ℕ) → getD i' j 0 < 256) → (r : Wrote) → r ≡ endedWith (e .reached) s (committedState s lens' slots' erases') → Commits n torn s i r i'
         commit-ended bytes' =
-            either-end (e .reached) s (committedState s lens' slots') (λ (r : Wrote). Commits n torn s i r i')
+            either-end (e .reached) s (committedState s lens' slots' erases') (λ (r : Wrote). Commits n torn s i r i')
             (λ t. commit-cut t (turnedOff s) refl)
-            (λ t. commit-done t bytes' (committedState s lens' slots') refl)
+            (λ t. commit-done t bytes' (committedState s lens' slots' erases') refl)

@@ -8,6 +8,7 @@ use lib.Dec.{ltb}
 use lib.ListN.{length, getD, replicate}
 use borrow.Author.Tests.{ltb-true, ltb-false}
 use Rattle.lists.specs.Lists.{tab}
+use Rattle.lists.proofs.Places.{getD-same}
 use Rattle.lists.proofs.Flats.{getD-tab}
 use Rattle.chip.specs.declared.progress.Progress.{Progress}
 use Rattle.chip.specs.Geometry.{small, blocksOf}
@@ -42,6 +43,7 @@ use Rattle.store.specs.EndingCode.{endedWith}
 use Rattle.store.specs.FreshCode.{freshState, NextOf}
 use Rattle.store.specs.State.{turnedOff, RoomIn, Room}
 use Rattle.store.specs.Contracts.{index, toldOf, Formats}
+use Rattle.promise.proofs.Promise.{accepted-not}
 use Rattle.store.proofs.EndingLaws.{either-end}
 use Rattle.store.proofs.SizeLaws.{first-some, first-none}
 use Rattle.store.proofs.Begun.{Begun, begun-meaning, begun-good, begun-state}
@@ -61,14 +63,9 @@ format-views B h =
     ap (λ (n : ℕ). viewsOf (formatTable n)) (let e : 8 * B ≡ suc (8 * B - 1) = omega arith in e) ∙ leaf-views (8 * B - 1)
 
 -- the arrays that hold it
-zeros : (k n : ℕ) → _≡_ {A = ℕ} (getD (replicate k 0) n 0) 0
-zeros zero n = refl
-zeros (suc k) zero = refl
-zeros (suc k) (suc n) = zeros k n
-
 leaf-stores : (k m n : ℕ) → Stores (1 ∷ replicate k 0) (replicate (suc m) 0) n (formatNode n .pages)
 leaf-stores k m zero = record { size = refl; pages = λ l. refl }
-leaf-stores k m (suc n) = record { size = zeros k n; pages = λ l. rw (zeros k n) }
+leaf-stores k m (suc n) = record { size = getD-same k n 0; pages = λ l. rw (getD-same {A = ℕ} k n 0) }
 
 pub format-stores : (limit n : ℕ) → n < limit → Stores (1 ∷ replicate 255 0) (replicate 1024 0) n (nodeAt (formatTable limit) n .pages)
 format-stores limit n l =
@@ -85,7 +82,7 @@ fresh-next limit k h = record { most = h; last = λ m e. last m e; rest = λ n a
 
     rest : (n : ℕ) → 1 ≤ n → _≡_ {A = ℕ} (getD (1 ∷ replicate k 0) n 0) 0
     rest zero a = absurd (omega arith)
-    rest (suc n) a = zeros k n
+    rest (suc n) a = getD-same k n 0
 
 -- ---- the one live page of a finished format
 pub small-order : (n : ℕ) → 0 < n → inOrder small (formatted small n) ≡ record { place = 0; bytes = formatData small } ∷ []
@@ -113,11 +110,13 @@ format-size n torn s i b z h =
         few = λ p. one-not _ f p;
         power = λ p. one-not _ f p;
         done = λ p. one-not _ f p;
+        zeros = λ e. absurd (accepted-not 1 (sym e));
         cut = λ p. one-not _ f p;
       };
       kinds = λ p. one-not _ f p;
       bytes = λ p. one-not _ f p;
       legal = λ p. one-not _ f p;
+      zeros = λ e. absurd (accepted-not 1 (sym e));
       off = λ e. let u : _≡_ {A = ℕ} 1 10 = cc in absurd (omega arith);
     }
 
@@ -182,11 +181,13 @@ module _ (n : ℕ) (torn : List ℕ) (s : State) (i i' : List ℕ) (b : ℕ) (z 
           few = λ p. few-ops;
           power = λ p. record { enough = λ m. absurd (omega (arith, need-is)); short = λ m. (refl, omega (arith, told-is)) };
           done = λ p m. absurd (omega (arith, need-is));
+          zeros = λ e. absurd (accepted-not 10 (sym e));
           cut = λ p m. refl;
         };
         kinds = λ p. kinds-are;
         bytes = λ p. format-bytes;
         legal = λ p. format-allowed;
+        zeros = λ e. absurd (accepted-not 10 (sym e));
         off = λ e. refl;
       })
 
@@ -210,6 +211,7 @@ module _ (n : ℕ) (torn : List ℕ) (s : State) (i i' : List ℕ) (b : ℕ) (z 
           next = fresh-next (8 * b) 255 (omega arith);
           pending = refl;
           count = refl;
+          past = λ k l. getD-same 32 k 0;
         }
 
     -- one page is live, so all blocks but the first are unused
@@ -252,11 +254,13 @@ module _ (n : ℕ) (torn : List ℕ) (s : State) (i i' : List ℕ) (b : ℕ) (z 
             few = λ p. few-ops;
             power = λ p. record { enough = λ m. (refl, omega (arith, told-is, enough, need-is)); short = λ m. absurd (omega (arith, need-is, enough)) };
             done = λ p m. (state-is, meaning-is, begun-good (freshState b buffer) i' (formatTable (8 * b)) begun, format-room);
+            zeros = λ e b. getD-same 32 b 0;
             cut = λ p m. absurd (omega (arith, need-is, enough));
           };
           kinds = λ p. kinds-are;
           bytes = λ p. format-bytes;
           legal = λ p. format-allowed;
+          zeros = λ e. refl;
           off = λ e. let u : _≡_ {A = ℕ} 0 1 = cc in absurd (omega arith);
         })
 

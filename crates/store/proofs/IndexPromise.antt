@@ -16,10 +16,12 @@ use Rattle.promise.specs.Image.{imageMeaning}
 use Rattle.promise.specs.Steps.{Step, boots, one, Takes, Mounted, Started, Formatted}
 use Rattle.promise.specs.History.{TreeOf, LawfulAct}
 use Rattle.promise.specs.Promise as P
+use Rattle.promise.specs.Erases as E
 use Rattle.promise.proofs.Promise.{format-starts, mount-mounts}
 use Rattle.promise.proofs.Trees.{insert-lawful, delete-lawful}
 use Rattle.promise.proofs.Claims as L
 use Rattle.promise.proofs.Durable as D
+use Rattle.promise.proofs.Figures as F
 use Rattle.store.specs.declared.state.State.{State}
 use Rattle.store.specs.declared.step.Call.{Call}
 use Rattle.store.specs.declared.step.Call.the-variants.{Format, Insert, Delete, LookUp, Commit, Mount}
@@ -113,3 +115,16 @@ index-choice = D.choice-holds small (index small)
 
 pub index-mount-drops : P.MountDrops small (index small)
 index-mount-drops = D.mount-drops small (index small)
+
+-- ---- erases on record
+pub index-unworn : E.StartsUnworn small (index small)
+index-unworn = F.starts-unworn small (index small)
+
+pub index-figures : E.FiguresTell small (index small)
+index-figures = F.figures-tell small (index small)
+
+pub index-figures-any : E.FiguresAny small (index small)
+index-figures-any = F.figures-any small (index small)
+
+pub index-figures-fit : E.FiguresFit small (index small)
+index-figures-fit = F.figures-fit small (index small)

@@ -25,9 +25,9 @@ use Rattle.promise.proofs.Promise.{accepted-not, when-is}
 use Rattle.store.specs.declared.state.State.{State}
 use Rattle.store.specs.declared.state.Wrote.{Wrote}
 use Rattle.store.specs.Answers.{answerOf}
-use Rattle.store.specs.State.{commitCount}
+use Rattle.store.specs.State.{commitOps}
 use Rattle.store.specs.Contracts.{index, thePlan, theOps, Formats, Mounts, Commits}
-use Rattle.store.proofs.CommitGood.{count-some}
+use Rattle.store.proofs.CommitGood.{ops-some}
 use Rattle.store.proofs.CommitDone.{all-told}
 
 module _ (n : ℕ) (torn : List ℕ) (s : State) (i : List ℕ) (r : Wrote) (i' : List ℕ) where
@@ -98,5 +98,5 @@ module _ (n : ℕ) (torn : List ℕ) (s : State) (i : List ℕ) (r : Wrote) (i' 
 
       enough : length (theOps s i) ≤ n
       enough =
-          let p : commitCount small s i ≤ n = powered (commitCount small s i) (f .says .power c able) a in
-          omega (arith, p, count-some s i (c .pending))
+          let p : length (commitOps small s i) ≤ n = powered (length (commitOps small s i)) (f .says .power c able) a in
+          omega (arith, p, ap length (ops-some s i (c .pending)))

@@ -25,3 +25,4 @@ pub mod PartLaws
 pub mod LentLists
 pub mod RunsToLaws
 pub mod KindsTold
+pub mod DidLaws

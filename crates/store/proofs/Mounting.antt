@@ -10,7 +10,7 @@ use borrow.Author.Tests.{ltb-true, ltb-false}
 use Rattle.lists.specs.Lists.{All, none, more, At, filter}
 use Rattle.lists.proofs.Tests.{cases}
 use Rattle.lists.proofs.Alls.{All-filter}
-use Rattle.lists.proofs.Places.{at-seam}
+use Rattle.lists.proofs.Places.{at-seam, getD-same}
 use Rattle.chip.specs.declared.progress.Progress.{Progress}
 use Rattle.chip.specs.declared.power.Power.the-variants.{Left}
 use Rattle.chip.specs.Geometry.{Geometry, small, blocksOf}
@@ -48,6 +48,7 @@ use Rattle.store.specs.FreshCode.{NextOf, mountedState}
 use Rattle.store.specs.CheckCode.{marksOf, Read}
 use Rattle.store.specs.EndingCode.{refusedWith, acceptedWith, endedWith}
 use Rattle.store.specs.Contracts.{index, toldOf, Mounts}
+use Rattle.promise.proofs.Promise.{accepted-not}
 use Rattle.store.proofs.EndingLaws.{either-end}
 use Rattle.store.proofs.SizeLaws.{admitted, not-admitted}
 use Rattle.store.proofs.MarkCount.{marks-few}
@@ -102,10 +103,12 @@ module _ (allowance : ℕ) (torn : List ℕ) (s : State) (i : List ℕ) (bytes :
           stays = λ e K G m. absurd (never e);
           done = λ e K G m l. absurd (never e);
           cut = λ e K G m l. absurd (never e);
+          zeros = λ e. absurd (accepted-not 1 (sym e));
         };
         kinds = λ e K G m. absurd (never e);
         bytes = λ e K G m. absurd (never e);
         legal = mount-legal small (pagesOf small i);
+        zeros = λ e. absurd (accepted-not 1 (sym e));
         off = λ e n q. absurd (never e);
       }
 
@@ -135,10 +138,12 @@ module _ (allowance : ℕ) (torn : List ℕ) (s : State) (i : List ℕ) (bytes :
             stays = λ e K G q. absurd (no K G q);
             done = λ e K G q l. absurd (no K G q);
             cut = λ e K G q l. absurd (no K G q);
+            zeros = λ e. absurd (accepted-not n (sym e ∙ is));
           };
           kinds = λ e K G q. absurd (no K G q);
           bytes = λ e K G q. absurd (no K G q);
           legal = mount-legal small (pagesOf small i);
+          zeros = λ e. absurd (accepted-not n (sym e ∙ is));
           off = λ e k q. refl;
         }
 
@@ -238,10 +243,12 @@ module _ (allowance : ℕ) (torn : List ℕ) (s : State) (i : List ℕ) (bytes :
               stays = λ q K H m. stays K H m;
               done = λ q K H m l. absurd (omega arith);
               cut = λ q K H m l. refl;
+              zeros = λ e. absurd (accepted-not 10 (sym e));
             };
             kinds = λ q K H m. kinds-are;
             bytes = λ q K H m. pages-are;
             legal = mount-legal small (pagesOf small i);
+            zeros = λ e. absurd (accepted-not 10 (sym e));
             off = λ q k r. refl;
           }
 
@@ -267,6 +274,7 @@ module _ (allowance : ℕ) (torn : List ℕ) (s : State) (i : List ℕ) (bytes :
               next = nx;
               pending = refl;
               count = refl;
+              past = λ k l. getD-same 32 k 0;
             }
 
         plain-same : (K K' : Table) (H H' a a' : ℕ) → K ≡ K' → H ≡ H' → a ≡ a'
@@ -303,10 +311,12 @@ module _ (allowance : ℕ) (torn : List ℕ) (s : State) (i : List ℕ) (bytes :
                 stays = λ q K H m. stays K H m;
                 done = λ q K H m l. (is-done K H m, begun-good st i' (rd .nodes) begun);
                 cut = λ q K H m l. absurd (omega arith);
+                zeros = λ e b. getD-same 32 b 0;
               };
               kinds = λ q K H m. kinds-are;
               bytes = λ q K H m. pages-are;
               legal = mount-legal small (pagesOf small i);
+              zeros = λ e. refl;
               off = λ q k r. let u : _≡_ {A = ℕ} 0 1 = cc in absurd (omega arith);
             }
 

@@ -4,7 +4,7 @@ use mathlib.Core.List.{List, _++_}
 use Prim.Native.Nat.{ℕ, zero, suc, _+_, _*_, _-_, _/_, _<_, _≤_}
 use lib.Dec.{leb}
 use native.Mathlib.Omega.{arith}
-use lib.ListN.{length, take, drop, length-drop, take-append-drop}
+use lib.ListN.{length, getD, take, drop, length-drop, take-append-drop}
 use lib.Seq.{take-at, drop-at, length-take-le}
 use borrow.Author.Tests.{le-leb, lt-leb}
 use Rattle.lists.specs.Lists.{part, cut, count, first}
@@ -57,6 +57,7 @@ module _ (b : ℕ) (s : State) (i : List ℕ) where
         refusal = first-or (reportRefusal r) (when 4 (leb (s .blocks) b)) h ∙ ap (λ (m : ℕ). orElse m (when 4 (leb (s .blocks) b))) e;
         free = λ z. absurd (omega arith);
         first = λ z. absurd (omega arith);
+        erases = λ z. absurd (omega arith);
       }
 
   module _ (e : 0 ≡ admission small (s .on) (s .blocks) (length i)) where
@@ -70,16 +71,18 @@ module _ (b : ℕ) (s : State) (i : List ℕ) where
           refusal = number-is 4 (rw (le-leb (s .blocks) b h));
           free = λ z. absurd (omega arith);
           first = λ z. absurd (omega arith);
+          erases = λ z. absurd (omega arith);
         }
 
     -- the free pages of the block's part of the image
-    pub report-free : b < s .blocks → length i ≡ s .blocks * 16896 → (n f size : ℕ) → size ≡ 16896
+    pub report-free : b < s .blocks → length i ≡ s .blocks * 16896 → (n f e size : ℕ) → size ≡ 16896
         → n ≡ count isFree (pagesOf small (part (b * 16896) size i)) → f ≡ first isFree (pagesOf small (part (b * 16896) size i))
-        → Reports b s i (Free n f)
-    report-free h l n f size z c d =
+        → e ≡ getD (s .erases) b 0 → Reports b s i (Free n f e)
+    report-free h l n f e size z c d k =
         let w : pagesOf small (part (b * 16896) size i) ≡ blockPages small b i = ap (λ (m : ℕ). pagesOf small (part (b * 16896) m i)) z ∙ block-pages b (s .blocks) i l h in
         record {
           refusal = number-is 0 (rw (lt-leb (s .blocks) b h));
           free = λ _. c ∙ ap (count isFree) w;
           first = λ _. d ∙ ap (first isFree) w;
+          erases = λ _. k;
         }

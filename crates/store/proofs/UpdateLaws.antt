@@ -172,6 +172,7 @@ module _ (s : State) (i : List ℕ) (G : Good small s i) (low : s .pending < 16)
           small = subst Smalls (sym (p .table)) (p .small);
           whole = subst (λ (u : Table). all isWhole u ≡ true) (sym (p .table)) (p .whole);
           levels = subst (λ (u : Table). rootLevel u ≤ 3) (sym (p .table)) (p .levels);
+          past = G .past;
           next = p .next ∙ ap T.next (sym (p .table));
           numbers = p .numbers;
         }
@@ -268,11 +269,11 @@ module _ (s : State) (i : List ℕ) (low : s .pending < 16) where
 
     pub insert-many : (k v : ℕ) → InsertsIn k v s i (answered Nodes s)
     unfolding insertion
-    insert-many k v = record { range = refl; still = λ _ _. refl; bounds = stay; refused = λ G. absurd (never-many G); done = λ G. absurd (never-many G) }
+    insert-many k v = record { range = refl; still = λ _ _. refl; bounds = stay; figures = refl; refused = λ G. absurd (never-many G); done = λ G. absurd (never-many G) }
 
     pub delete-many : (k : ℕ) → DeletesIn k s i (answered Absent s)
     unfolding deletion
-    delete-many k = record { range = refl; still = λ _ _. refl; bounds = stay; refused = λ G. absurd (never-many G); done = λ G. absurd (never-many G) }
+    delete-many k = record { range = refl; still = λ _ _. refl; bounds = stay; figures = refl; refused = λ G. absurd (never-many G); done = λ G. absurd (never-many G) }
 
   module _ (k v : ℕ) (hk : k < top) (hv : v < top) (hl : limitOf s ≤ 256) (new : List ℕ) (r : Inserted)
       (a : I.Inserts i (s .lens) (s .slots) (8 * s .blocks) (s .next) k v (s .count) (s .buffer) new r) where
@@ -291,6 +292,7 @@ module _ (s : State) (i : List ℕ) (low : s .pending < 16) where
           range = refl;
           still = λ _ _. refl;
           bounds = stay;
+          figures = refl;
           refused = λ G m h. test-number 5 m (isRefused (stepOf k v s i)) (refuses 5) (λ _. refl) h;
           done = λ G h. clash (ap isRefused (step-refused e G)) (test-none 4 (isRefused (stepOf k v s i)) h);
         }
@@ -300,6 +302,7 @@ module _ (s : State) (i : List ℕ) (low : s .pending < 16) where
     insert-accepted e =
         record {
           bounds = record { blocks = refl; units = omega (arith, a .keeps .room) };
+          figures = refl;
           range = refl;
           still = λ n d. not-refused n d;
           refused = λ G m h. test-number 5 m (isRefused (stepOf k v s i)) accepted (λ t. clash t (ap isRefused (step-done e G .is))) h;
@@ -323,6 +326,7 @@ module _ (s : State) (i : List ℕ) (low : s .pending < 16) where
           range = refl;
           still = λ _ _. refl;
           bounds = stay;
+          figures = refl;
           refused = λ G m h. test-number 4 m (isAbsent (find k (presentOf small s i))) (refuses 4) (λ _. refl) h;
           done = λ G h. clash (ap isAbsent (sym hit-is ∙ ap hitOf e)) (test-none 3 (isAbsent (find k (presentOf small s i))) h);
         }
@@ -341,6 +345,7 @@ module _ (s : State) (i : List ℕ) (low : s .pending < 16) where
             still = λ n d. not-refused n d;
             refused = λ G m h. test-number 4 m (isAbsent (find k (presentOf small s i))) accepted (λ t. clash t (ap isAbsent (sym hit-is ∙ ap hitOf e))) h;
             bounds = record { blocks = refl; units = omega (arith, d .keeps .room) };
+            figures = refl;
             done = λ G h. (
               refl,
               stays s i G low new used (s .next) (deleteUnits k (presentOf small s i)) (delete k (presentOf small s i)) (deleted-pushed k s i new used G low hk (leaf-gone G)),

@@ -5,7 +5,7 @@ use mathlib.Core.List.{List, [], _∷_}
 use Prim.Native.Nat.{ℕ, zero, suc, _<_, _≤_}
 use native.Mathlib.Omega.{arith}
 use lib.Dec.{leb, eqb}
-use lib.ListN.{length}
+use lib.ListN.{length, getD}
 use borrow.Author.Tests.{le-leb, lt-leb, leb-true, leb-false}
 use Rattle.lists.proofs.Tests.{clash, or-right}
 use Rattle.chip.specs.Geometry.{small}
@@ -67,12 +67,14 @@ module _ (u : UpdateCall) (s : State) (i : List ℕ) (r : Updated) where
               range = range-low n (answerOf (r .answer)) (3 ∷ u .numbers) q kind;
               image = refl;
               still = λ _ _. refl;
+              figures = λ _. refl;
               full = λ h. let z : suc n ≡ 0 = e ∙ h in absurd (omega arith);
               notFull = λ h. let z : suc n ≡ 0 = e ∙ h in absurd (omega arith);
               then = λ _ h. let z : suc n ≡ 0 = e ∙ h in absurd (omega arith);
               done = λ _ h. let z : suc n ≡ 0 = e ∙ h in absurd (omega arith);
             });
         bounds = same-bounds s (r .state) w;
+        figures = ap (λ (t : State). t .erases) w;
       }
 
   module _ (e : 0 ≡ admission small (s .on) (s .blocks) (length i)) where
@@ -88,12 +90,14 @@ module _ (u : UpdateCall) (s : State) (i : List ℕ) (r : Updated) where
                 range = rw q;
                 image = refl;
                 still = λ _ _. w;
+                figures = λ b. ap (λ (t : State). getD (t .erases) b 0) w;
                 full = λ _ _. q;
                 notFull = λ _ h. absurd (omega arith);
                 then = λ _ _ m h. q ∙ ap refuses (sym l ∙ h);
                 done = λ _ _ h. let z : _≡_ {A = ℕ} 3 0 = sym l ∙ h in absurd (omega arith);
               };
           bounds = same-bounds s (r .state) w;
+          figures = ap (λ (t : State). t .erases) w;
         }
 
     -- past them
@@ -109,12 +113,14 @@ module _ (u : UpdateCall) (s : State) (i : List ℕ) (r : Updated) where
                 range = range-more (answerOf (r .answer)) 2 (1 ∷ 3 ∷ u .numbers) (range-more (answerOf (r .answer)) 1 (3 ∷ u .numbers) (range-more (answerOf (r .answer)) 3 (u .numbers) (a .range)));
                 image = refl;
                 still = a .still;
+                figures = λ b. ap (λ (fs : List ℕ). getD fs b 0) (a .figures);
                 full = λ _ h. absurd (omega arith);
                 notFull = λ _ _. own 3 refl;
                 then = λ g _ m h. a .refused g m (sym l ∙ h);
                 done = λ g _ h. updated-is (a .done g (sym l ∙ h));
               };
           bounds = a .bounds;
+          figures = a .figures;
         }
 
   turned-away : (x : ℕ) (b : Bool) → x ≡ admission small (s .on) (s .blocks) (length i) → x ≤ 2 → b ≡ leb 16 (s .pending) → (n : ℕ) → n ≡ orElse x (when 3 b) → 0 < n

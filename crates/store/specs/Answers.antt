@@ -49,20 +49,27 @@ pagesTold Look.Size = 0
 
 -- the refusal of a block report, 0 for none
 abbrev pub reportRefusal : R.Report → ℕ
-reportRefusal (Report.Free c f) = 0
+reportRefusal (Report.Free c f e) = 0
 reportRefusal Report.Off = 2
 reportRefusal Report.Size = 1
 reportRefusal Report.Absent = 4
 
 -- the free pages and the first free page that it tells
 abbrev pub freeTold : R.Report → ℕ
-freeTold (Report.Free c f) = c
+freeTold (Report.Free c f e) = c
 freeTold Report.Off = 0
 freeTold Report.Size = 0
 freeTold Report.Absent = 0
 
 abbrev pub firstTold : R.Report → ℕ
-firstTold (Report.Free c f) = f
+firstTold (Report.Free c f e) = f
 firstTold Report.Off = 0
 firstTold Report.Size = 0
 firstTold Report.Absent = 0
+
+-- and the erases of the block
+abbrev pub erasesTold : R.Report → ℕ
+erasesTold (Report.Free c f e) = e
+erasesTold Report.Off = 0
+erasesTold Report.Size = 0
+erasesTold Report.Absent = 0

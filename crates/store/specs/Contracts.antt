@@ -1,17 +1,18 @@
 -- What each call ensures: the records of the promise, read on the code's state and image, and what those leave out.
 use mathlib.Core.Path.{_≡_}
 use mathlib.Core.Bool.{true, false, not}
-use mathlib.Core.List.{List, [], _∷_}
-use Prim.Native.Nat.{ℕ, _+_, _*_, _≤_, max}
+use mathlib.Core.List.{List, [], _∷_, map}
+use Prim.Native.Nat.{ℕ, _+_, _*_, _<_, _≤_, max}
 use lib.Dec.{eqb, leb}
-use lib.ListN.{length, take}
+use lib.ListN.{length, take, getD, replicate}
 use Rattle.lists.specs.Lists.{All, any, part, count, first}
 use Rattle.chip.specs.Geometry.{Geometry, small, blocksOf}
 use Rattle.chip.specs.Page.{isFree}
 use Rattle.chip.specs.declared.power.Power.the-variants.{Left}
 use Rattle.chip.specs.declared.progress.Counts.{Counts}
 use Rattle.chip.specs.Counts.{countsOf, total}
-use Rattle.chip.specs.Chip.{Op, Legal, kindsOf, pagesOf, run}
+use Rattle.chip.specs.Chip.{Op, Legal, erase, kindsOf, pagesOf, run}
+use Rattle.chip.specs.Erases.{figuresAfter}
 use Rattle.views.specs.Groups.{Distinct}
 use Rattle.views.specs.Table as Views
 use Rattle.views.specs.Table.{Node}
@@ -31,8 +32,8 @@ use Rattle.store.specs.declared.answer.Report.{Report}
 use Rattle.store.specs.declared.state.State.{State}
 use Rattle.store.specs.declared.state.Wrote.{Wrote}
 use Rattle.store.specs.declared.state.Updated.{Updated}
-use Rattle.store.specs.Answers.{answerOf, lookOf, pagesTold, reportRefusal, freeTold, firstTold}
-use Rattle.store.specs.State.{turnedOff, limitOf, nodesOf, unitsOf, presentOf, Good, Room, commitCount}
+use Rattle.store.specs.Answers.{answerOf, lookOf, pagesTold, reportRefusal, freeTold, firstTold, erasesTold}
+use Rattle.store.specs.State.{turnedOff, limitOf, nodesOf, unitsOf, presentOf, Good, Room, commitOps}
 
 -- the store that the promise is about: the code's state, an image as its bytes
 abbrev pub index : Geometry → Store
@@ -45,11 +46,12 @@ index g =
       blocks = λ s. s .blocks;
       pending = λ s. s .pending;
       number = λ s. s .commit;
+      erases = λ s b. getD (s .erases) b 0;
       present = presentOf g;
       meaning = imageMeaning g;
-      mountCount = λ i. length (mountOps g (pagesOf g i));
-      commitCount = commitCount g;
-      formatCount = λ B. length (formatOps g B);
+      mountOps = λ i. mountOps g (pagesOf g i);
+      commitOps = commitOps g;
+      formatOps = formatOps g;
       most = 389;
       Good = Good g;
       Room = Room g;
@@ -61,7 +63,7 @@ abbrev pub toldOf : ℕ → List Op → Counts
 toldOf n os = countsOf (take n (kindsOf os))
 
 -- format: the operations told by kind; the image's pages are those of a run of its operations, whatever the image was, and each operation
--- is one that the chip allows; with 10 the state is the one given, off
+-- is one that the chip allows; finished, no block has an erase; with 10 the state is the one given, off
 pub record Formats (allowance : ℕ) (torn : List ℕ) (s : State) (i : List ℕ) (r : Wrote) (i' : List ℕ) : Type 0 where
   pub says : P.Format small (index small) allowance torn s i (answerOf (r .answer)) (total (r .ops)) (r .state) i'
   pub kinds : firstRefusal small (s .on) (s .blocks) (formats allowance (length i) (length torn)) ≡ 0
@@ -69,10 +71,11 @@ pub record Formats (allowance : ℕ) (torn : List ℕ) (s : State) (i : List ℕ
   pub bytes : firstRefusal small (s .on) (s .blocks) (formats allowance (length i) (length torn)) ≡ 0
       → pagesOf small i' ≡ formattedBy small torn (blocksOf small (length i)) allowance (pagesOf small i) .pages
   pub legal : firstRefusal small (s .on) (s .blocks) (formats allowance (length i) (length torn)) ≡ 0 → Legal small (pagesOf small i) (formatOps small (blocksOf small (length i)))
+  pub zeros : answerOf (r .answer) ≡ accepted → r .state .erases ≡ replicate 32 0
   pub off : answerOf (r .answer) ≡ refuses 10 → r .state ≡ turnedOff s
 
 -- mount: the operations told by kind; the image's pages are those of a run of its marks where the image has a meaning, and else as they
--- were; where it is refused with 7, 8, 9 or 10 the state is the one given, off
+-- were; finished, no block has an erase; where it is refused with 7, 8, 9 or 10 the state is the one given, off
 pub record Mounts (allowance : ℕ) (torn : List ℕ) (s : State) (i : List ℕ) (r : Wrote) (i' : List ℕ) : Type 0 where
   pub says : P.Mount small (index small) allowance torn s i (answerOf (r .answer)) (total (r .ops)) (r .state) i'
   pub kinds : firstRefusal small (s .on) (s .blocks) (mounts allowance (length i) (length torn)) ≡ 0 → (K : Table) (G : ℕ)
@@ -80,6 +83,7 @@ pub record Mounts (allowance : ℕ) (torn : List ℕ) (s : State) (i : List ℕ)
   pub bytes : firstRefusal small (s .on) (s .blocks) (mounts allowance (length i) (length torn)) ≡ 0 → (K : Table) (G : ℕ)
       → imageMeaning small i ≡ means K G → pagesOf small i' ≡ mountedBy small torn allowance (pagesOf small i) .pages
   pub legal : Legal small (pagesOf small i) (mountOps small (pagesOf small i))
+  pub zeros : answerOf (r .answer) ≡ accepted → r .state .erases ≡ replicate 32 0
   pub off : firstRefusal small (s .on) (s .blocks) (mounts allowance (length i) (length torn)) ≡ 0 → (n : ℕ) → answerOf (r .answer) ≡ refuses n
       → r .state ≡ turnedOff s
 
@@ -103,10 +107,11 @@ pub record KeepsBounds (s s' : State) : Type 0 where
   pub blocks : s' .blocks ≡ s .blocks
   pub units : s' .count ≤ max 960 (s .count)
 
--- insert and delete: what the promise says of an update of their kind
+-- insert and delete: what the promise says of an update of their kind; on any state no figure is changed
 pub record UpdatesBy (u : UpdateCall) (s : State) (i : List ℕ) (r : Updated) : Type 0 where
   pub says : P.Updates small (index small) u s i (answerOf (r .answer)) (r .state) i
   pub bounds : KeepsBounds s (r .state)
+  pub figures : r .state .erases ≡ s .erases
 
 abbrev pub Inserts : (k v : ℕ) → State → List ℕ → Updated → Type 0
 Inserts k v = UpdatesBy (insertion k v)
@@ -127,6 +132,7 @@ pub record Reports (b : ℕ) (s : State) (i : List ℕ) (r : Report) : Type 0 wh
   pub refusal : reportRefusal r ≡ reportNumber small s (length i) b
   pub free : reportRefusal r ≡ 0 → freeTold r ≡ count isFree (blockPages small b i)
   pub first : reportRefusal r ≡ 0 → firstTold r ≡ first isFree (blockPages small b i)
+  pub erases : reportRefusal r ≡ 0 → erasesTold r ≡ getD (s .erases) b 0
 
 -- ---- commit
 -- the plan of a commit, and its operations
@@ -144,6 +150,10 @@ pub record Commits (allowance : ℕ) (torn : List ℕ) (s : State) (i : List ℕ
   -- on any state and any image: with 10 the counts add up to the allowance, and finished there are two marks for each data program
   pub spent : answerOf (r .answer) ≡ refuses 10 → total (r .ops) ≡ allowance
   pub twice : answerOf (r .answer) ≡ accepted → r .ops .marks ≡ 2 * r .ops .programs
+  -- finished, each figure has grown by the erases of its block among the plan's operations
+  pub figures : P.Committing small (index small) allowance torn s i → answerOf (r .answer) ≡ accepted → r .state .erases ≡ figuresAfter (theOps s i) (s .erases)
+  -- on any state and any image, with updates pending: finished, by erases of some blocks, as many as are told
+  pub erased : answerOf (r .answer) ≡ accepted → 0 < s .pending → (bs : List ℕ) × (length bs ≡ r .ops .erases) × (r .state .erases ≡ figuresAfter (map erase bs) (s .erases))
   -- the image's pages are those of a run of the plan's operations
   pub bytes : P.Committing small (index small) allowance torn s i → pagesOf small i' ≡ run small torn (record { power = Left allowance; pages = pagesOf small i }) (theOps s i) .pages
   -- a program only where the data is all 255

@@ -6,18 +6,18 @@ use Prim.Native.Nat.{ℕ, suc, _+_, _≤_, _<_}
 use lib.ListN.{getD, replicate}
 use Rattle.store.specs.declared.state.State.{State}
 
--- with nothing pending, the node table read from the image
+-- with nothing pending, the node table read from the image, and no erase of any block
 abbrev pub mountedState : ℕ → ℕ → ℕ → List ℕ → List ℕ → List ℕ → State
 mountedState b commit next buffer lens slots =
-    record { on = true; blocks = b; commit = commit; pending = 0; next = next; count = 0; buffer = buffer; lens = lens; slots = slots }
+    record { on = true; blocks = b; commit = commit; pending = 0; next = next; count = 0; buffer = buffer; lens = lens; slots = slots; erases = replicate 32 0 }
 
 -- node 0 has a list of one page, page 0; all other lists are empty
 abbrev pub freshState : ℕ → List ℕ → State
 freshState b buffer = mountedState b 1 1 buffer (1 ∷ replicate 255 0) (replicate 1024 0)
 
--- the next commit number, nothing pending, the node table with the pages of the commit
-abbrev pub committedState : State → List ℕ → List ℕ → State
-committedState s lens slots =
+-- the next commit number, nothing pending, the node table with the pages of the commit, the figures with its erases
+abbrev pub committedState : State → List ℕ → List ℕ → List ℕ → State
+committedState s lens slots erases =
     record {
       on = s .on;
       blocks = s .blocks;
@@ -28,6 +28,7 @@ committedState s lens slots =
       buffer = s .buffer;
       lens = lens;
       slots = slots;
+      erases = erases;
     }
 
 -- the number after the last of the first `limit` lists that is not empty

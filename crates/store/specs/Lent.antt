@@ -22,10 +22,11 @@ pub record Parts : Type 0 where
   pub buffer : List ℕ
   pub lens : List ℕ
   pub slots : List ℕ
+  pub erases : List ℕ
 
 -- the state that they make
 abbrev pub stateFrom : Parts → State
-stateFrom p = joined (p .numbers) (p .buffer) (p .lens) (p .slots)
+stateFrom p = joined (p .numbers) (p .buffer) (p .lens) (p .slots) (p .erases)
 
 -- one call: the parts given and the image lent to it, what it left of that, the answer, the operations told, the parts then; and the one image after the call
 pub record LentStep : Type 0 where

@@ -10,4 +10,5 @@ pub mod UpdateCode
 pub mod Starred
 pub mod Step
 pub mod Lent
+pub mod Did
 pub mod RunsTo

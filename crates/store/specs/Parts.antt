@@ -9,9 +9,9 @@ use Rattle.store.specs.declared.state.UpdatedParts.{UpdatedParts}
 use Rattle.store.specs.declared.state.Wrote.{Wrote}
 use Rattle.store.specs.declared.state.WroteParts.{WroteParts}
 
--- the state of these numbers, the buffer, and the lengths and slots of the node table
-abbrev pub joined : Numbers → List ℕ → List ℕ → List ℕ → State
-joined n buffer lens slots =
+-- the state of these numbers, the buffer, the lengths and slots of the node table, and the erases of each block
+abbrev pub joined : Numbers → List ℕ → List ℕ → List ℕ → List ℕ → State
+joined n buffer lens slots erases =
     record {
       on = n .on;
       blocks = n .blocks;
@@ -22,6 +22,7 @@ joined n buffer lens slots =
       buffer = buffer;
       lens = lens;
       slots = slots;
+      erases = erases;
     }
 
 -- the numbers of a state
@@ -33,9 +34,9 @@ abbrev pub numbersOff : Numbers → Numbers
 numbersOff n = record { on = false; blocks = n .blocks; commit = n .commit; pending = n .pending; next = n .next; count = n .count }
 
 -- what an insert or a delete gives back, with the arrays that it leaves
-abbrev pub updatedWith : UpdatedParts → List ℕ → List ℕ → List ℕ → Updated
-updatedWith r buffer lens slots = record { answer = r .answer; state = joined (r .numbers) buffer lens slots }
+abbrev pub updatedWith : UpdatedParts → List ℕ → List ℕ → List ℕ → List ℕ → Updated
+updatedWith r buffer lens slots erases = record { answer = r .answer; state = joined (r .numbers) buffer lens slots erases }
 
 -- what a format, a mount or a commit gives back, with the arrays that it leaves
-abbrev pub wroteWith : WroteParts → List ℕ → List ℕ → List ℕ → Wrote
-wroteWith r buffer lens slots = record { answer = r .answer; ops = r .ops; state = joined (r .numbers) buffer lens slots }
+abbrev pub wroteWith : WroteParts → List ℕ → List ℕ → List ℕ → List ℕ → Wrote
+wroteWith r buffer lens slots erases = record { answer = r .answer; ops = r .ops; state = joined (r .numbers) buffer lens slots erases }

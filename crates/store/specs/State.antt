@@ -7,7 +7,7 @@ use lib.Dec.{eqb}
 use lib.ListN.{length, getD, replicate}
 use Rattle.lists.specs.Lists.{All, all, tab}
 use Rattle.chip.specs.Geometry.{Geometry, blocksOf}
-use Rattle.chip.specs.Chip.{pagesOf}
+use Rattle.chip.specs.Chip.{Op, pagesOf}
 use Rattle.pages.specs.declared.unit.Unit as U
 use Rattle.pages.specs.declared.unit.Decoded.{Decoded}
 use Rattle.pages.specs.declared.unit.Decoded.the-variants as D
@@ -39,6 +39,7 @@ initial =
       buffer = replicate 11520 0;
       lens = replicate 256 0;
       slots = replicate 1024 0;
+      erases = replicate 32 0;
     }
 
 -- the same state, off
@@ -54,6 +55,7 @@ turnedOff s =
       buffer = s .buffer;
       lens = s .lens;
       slots = s .slots;
+      erases = s .erases;
     }
 
 -- node numbers are below 8 × B
@@ -108,6 +110,8 @@ pub record Good (g : Geometry) (s : State) (image : List ℕ) : Type 0 where
   -- the next number: the greatest number of a node, plus 1
   pub next : s .next ≡ T.next (presentOf g s image)
   pub numbers : s .next ≤ limitOf s
+  -- a block past the chip has no erase on record
+  pub past : (b : ℕ) → s .blocks ≤ b → getD (s .erases) b 0 ≡ 0
 
 -- an image has room for a commit: enough of its blocks are unused
 abbrev pub RoomIn : Geometry → List ℕ → Views.NodesRead → Type 0
@@ -119,7 +123,7 @@ unfoldable pub Room : Geometry → List ℕ → Type 0
 Room g image = RoomIn g image (Views.meaning g (8 * blocksOf g (length image)) (pagesOf g image))
 
 -- the operations of a commit: none with nothing pending, else those of its plan
-unfoldable pub commitCount : Geometry → State → List ℕ → ℕ
-commitCount g s image =
-    cond (eqb (s .pending) 0) 0
-    (length (opsOf g (s .commit) (planOf g (limitOf s) (s .blocks) (pagesOf g image) (nodesOf g s image) (s .commit) (unitsOf s))))
+unfoldable pub commitOps : Geometry → State → List ℕ → List Op
+commitOps g s image =
+    cond (eqb (s .pending) 0) []
+    (opsOf g (s .commit) (planOf g (limitOf s) (s .blocks) (pagesOf g image) (nodesOf g s image) (s .commit) (unitsOf s)))

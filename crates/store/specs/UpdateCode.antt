@@ -25,6 +25,7 @@ withUnits s buffer used x =
       buffer = buffer;
       lens = s .lens;
       slots = s .slots;
+      erases = s .erases;
     }
 
 -- the state means p, and is good
@@ -32,11 +33,12 @@ pub record Stays (s' : State) (i : List ℕ) (p : Plain) : Type 0 where
   pub is : stateOf (index small) s' i ≡ p
   pub good : Good small s' i
 
--- refused with a number of its own, and else P by the step of the update; a refusal changes nothing
+-- refused with a number of its own, and else P by the step of the update; a refusal changes nothing, and no figure is changed
 pub record UpdatesIn (u : UpdateCall) (s : State) (i : List ℕ) (r : Updated) : Type 0 where
   pub range : acceptsOr (u .numbers) (answerOf (r .answer)) ≡ true
   pub still : (n : ℕ) → answerOf (r .answer) ≡ refuses n → r .state ≡ s
   pub bounds : KeepsBounds s (r .state)
+  pub figures : r .state .erases ≡ s .erases
   pub refused : Good small s i → (n : ℕ) → u .refusal (s .blocks) (presentOf small s i) ≡ suc n → answerOf (r .answer) ≡ refuses (suc n)
   pub done : Good small s i → u .refusal (s .blocks) (presentOf small s i) ≡ 0
       → (answerOf (r .answer) ≡ accepted) × Stays (r .state) i (updated (u .step (s .blocks) (presentOf small s i)) (stateOf (index small) s i))

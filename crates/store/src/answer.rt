@@ -26,9 +26,10 @@ pub enum Look {
     Size,
 }
 
-// What a block report answers: how many pages of the block are free and the first free one, or the refusals 2, 1 and 4.
+// What a block report answers: how many pages of the block are free, the first free one and the erases of the block, or the refusals 2, 1
+// and 4.
 pub enum Report {
-    Free(u32, u32),
+    Free(u32, u32, u64),
     Off,
     Size,
     Absent,

@@ -23,12 +23,13 @@ use plan::make::Basis;
 // The most units that the buffer holds.
 const UNITS: usize = 960;
 
-// A commit on a state that the tests pass: its plan executed, with power for `allowance` operations. The node table is changed where
-// the commit is finished. `all` shows the proof that the slots are 1024.
+// A commit on a state that the tests pass: its plan executed, with power for `allowance` operations. The node table and the erases
+// are changed where the commit is finished. `all` and `each` show the proof that the slots are 1024 and the figures 32.
 fn commit_pending(
     numbers: Numbers,
     lens: &mut [u32; 256],
     slots: &mut [u32; 1024],
+    erases: &mut [u64; 32],
     buffer: &[u8; 11520],
     image: &mut [u8],
     torn: &[u8],
@@ -37,8 +38,8 @@ fn commit_pending(
     requires { ⌜ (firstRefusal small (numbers .on) (numbers .blocks) (commits allowance (length (now image)) (length (now torn))) ≡ 0)
         × ChipOf (numbers .blocks) (length (now image)) × (length (now torn) ≡ 528) × (0 < numbers .pending) × (numbers .commit < 4294967295)
         × (numbers .count ≤ 960) ⌝ }
-    ensures { λ r. ⌜ Commits allowance (now (torn .entry)) (joined numbers (now (buffer .entry)) (now (lens .entry)) (now (slots .entry)))
-        (now (image .entry)) (wroteWith r (now (buffer .entry)) (now (lens .exit)) (now (slots .exit))) (now (image .exit)) ⌝ }
+    ensures { λ r. ⌜ Commits allowance (now (torn .entry)) (joined numbers (now (buffer .entry)) (now (lens .entry)) (now (slots .entry)) (now (erases .entry)))
+        (now (image .entry)) (wroteWith r (now (buffer .entry)) (now (lens .exit)) (now (slots .exit)) (now (erases .exit))) (now (image .exit)) ⌝ }
 {
     let basis = Basis {
         count: numbers.count,
@@ -48,7 +49,9 @@ fn commit_pending(
     let start = progress::begin(allowance);
     let mut l = *lens;
     let mut s = *slots;
+    let mut f = *erases;
     let all = &slots[..];
+    let each = &erases[..];
     let e = execute::execute(
         image,
         lens,
@@ -59,6 +62,7 @@ fn commit_pending(
         start,
         &mut l,
         &mut s,
+        &mut f,
     );
     if e.stuck {
         return ending::quiet(numbers, Answer::Last);
@@ -68,7 +72,7 @@ fn commit_pending(
     n.commit = numbers.commit + 1;
     n.pending = 0;
     n.count = 0;
-    ending::ended(numbers, lens, slots, n, &l, &s, reached)
+    ending::ended(numbers, lens, slots, erases, n, &l, &s, &f, reached)
 }
 
 // Commit on lent arrays: the pending updates committed, with power for `allowance` operations.
@@ -76,13 +80,14 @@ pub fn commit_lent(
     numbers: Numbers,
     lens: &mut [u32; 256],
     slots: &mut [u32; 1024],
+    erases: &mut [u64; 32],
     buffer: &[u8; 11520],
     image: &mut [u8],
     torn: &[u8],
     allowance: u32,
 ) -> WroteParts
-    ensures { λ r. ⌜ Commits allowance (now (torn .entry)) (joined numbers (now (buffer .entry)) (now (lens .entry)) (now (slots .entry)))
-        (now (image .entry)) (wroteWith r (now (buffer .entry)) (now (lens .exit)) (now (slots .exit))) (now (image .exit)) ⌝ }
+    ensures { λ r. ⌜ Commits allowance (now (torn .entry)) (joined numbers (now (buffer .entry)) (now (lens .entry)) (now (slots .entry)) (now (erases .entry)))
+        (now (image .entry)) (wroteWith r (now (buffer .entry)) (now (lens .exit)) (now (slots .exit)) (now (erases .exit))) (now (image .exit)) ⌝ }
 {
     let answer = admit::commit_tests(numbers, image.len(), torn.len());
     if answer::number(answer) > 0 {
@@ -94,7 +99,7 @@ pub fn commit_lent(
     if numbers.count > UNITS {
         return ending::quiet(numbers, Answer::Last);
     }
-    commit_pending(numbers, lens, slots, buffer, image, torn, allowance)
+    commit_pending(numbers, lens, slots, erases, buffer, image, torn, allowance)
 }
 
 // Commit on a state by value.
@@ -104,14 +109,16 @@ pub fn commit(state: State, image: &mut [u8], torn: &[u8], allowance: u32) -> Wr
     let numbers = state::numbers_of(state);
     let mut lens = state.lens;
     let mut slots = state.slots;
+    let mut erases = state.erases;
     let parts = commit_lent(
         numbers,
         &mut lens,
         &mut slots,
+        &mut erases,
         &state.buffer,
         image,
         torn,
         allowance,
     );
-    state::with_table(state, lens, slots, parts)
+    state::with_table(state, lens, slots, erases, parts)
 }

@@ -47,20 +47,22 @@ fn cut(numbers: Numbers, ops: Counts) -> WroteParts
     }
 }
 
-// After operations that came as far as `reached`: all done, the state has the numbers `after` and the node table `new_lens`
-// and `new_slots`; cut, it is the one given, off.
+// After operations that came as far as `reached`: all done, the state has the numbers `after`, the node table `new_lens`
+// and `new_slots` and the erases `new_erases`; cut, it is the one given, off.
 pub fn ended(
     numbers: Numbers,
     lens: &mut [u32; 256],
     slots: &mut [u32; 1024],
+    erases: &mut [u64; 32],
     after: Numbers,
     new_lens: &[u32; 256],
     new_slots: &[u32; 1024],
+    new_erases: &[u64; 32],
     reached: Progress,
 ) -> WroteParts
-    ensures { λ r. ⌜ ((buffer : List ℕ) → wroteWith r buffer (now (lens .exit)) (now (slots .exit))
-        ≡ endedWith reached (joined numbers buffer (now (lens .entry)) (now (slots .entry)))
-        (joined after buffer (now («new_lens» .entry)) (now («new_slots» .entry)))) ⌝ }
+    ensures { λ r. ⌜ ((buffer : List ℕ) → wroteWith r buffer (now (lens .exit)) (now (slots .exit)) (now (erases .exit))
+        ≡ endedWith reached (joined numbers buffer (now (lens .entry)) (now (slots .entry)) (now (erases .entry)))
+        (joined after buffer (now («new_lens» .entry)) (now («new_slots» .entry)) (now («new_erases» .entry)))) ⌝ }
 {
     let left = reached.left;
     let ops = reached.done;
@@ -69,6 +71,7 @@ pub fn ended(
     }
     *lens = *new_lens;
     *slots = *new_slots;
+    *erases = *new_erases;
     WroteParts {
         answer: Answer::Accepted,
         ops,

@@ -1,4 +1,6 @@
 // Look up: the value of a key in P, and the pages read for it.
+ghost use mathlib.Core.List.{List};
+ghost use Prim.Native.Nat.{ℕ};
 ghost use Rattle.store.specs.Contracts.{Looks};
 ghost use Rattle.store.specs.Parts.{joined};
 use crate::admit;
@@ -19,7 +21,7 @@ pub fn look_up_lent<'a>(
     image: &[u8],
     key: u32,
 ) -> Look
-    ensures { λ r. ⌜ Looks key (joined numbers (now (buffer .entry)) (now (lens .entry)) (now (slots .entry))) (now (image .entry)) r ⌝ }
+    ensures { λ r. ⌜ ((erases : List ℕ) → Looks key (joined numbers (now (buffer .entry)) (now (lens .entry)) (now (slots .entry)) erases) (now (image .entry)) r) ⌝ }
 {
     let blocks = numbers.blocks;
     match admit::admit(numbers.on, blocks, image.len()) {

@@ -14,18 +14,19 @@ use crate::state::WroteParts;
 use chip::progress;
 use log;
 
-// Format on a lent node table, with power for `allowance` operations: after it the node table has one empty leaf, node 0, on page 0. The
-// buffer's bytes stay, whatever they are.
+// Format on a lent node table and lent erases, with power for `allowance` operations: after it the node table has one empty leaf, node 0, on
+// page 0, and no block has an erase. The buffer's bytes stay, whatever they are.
 pub fn format_lent(
     numbers: Numbers,
     lens: &mut [u32; 256],
     slots: &mut [u32; 1024],
+    erases: &mut [u64; 32],
     image: &mut [u8],
     torn: &[u8],
     allowance: u32,
 ) -> WroteParts
-    ensures { λ r. ⌜ ((buffer : List ℕ) → Formats allowance (now (torn .entry)) (joined numbers buffer (now (lens .entry)) (now (slots .entry)))
-        (now (image .entry)) (wroteWith r buffer (now (lens .exit)) (now (slots .exit))) (now (image .exit))) ⌝ }
+    ensures { λ r. ⌜ ((buffer : List ℕ) → Formats allowance (now (torn .entry)) (joined numbers buffer (now (lens .entry)) (now (slots .entry)) (now (erases .entry)))
+        (now (image .entry)) (wroteWith r buffer (now (lens .exit)) (now (slots .exit)) (now (erases .exit))) (now (image .exit))) ⌝ }
 {
     let blocks = admit::sized(image.len(), torn.len());
     if blocks == 0 {
@@ -44,7 +45,8 @@ pub fn format_lent(
     let mut l = [0; 256];
     l[0] = 1;
     let s = [0; 1024];
-    ending::ended(numbers, lens, slots, fresh, &l, &s, reached)
+    let e = [0; 32];
+    ending::ended(numbers, lens, slots, erases, fresh, &l, &s, &e, reached)
 }
 
 // Format on a state by value.
@@ -54,6 +56,15 @@ pub fn format(state: State, image: &mut [u8], torn: &[u8], allowance: u32) -> Wr
     let numbers = state::numbers_of(state);
     let mut lens = state.lens;
     let mut slots = state.slots;
-    let parts = format_lent(numbers, &mut lens, &mut slots, image, torn, allowance);
-    state::with_table(state, lens, slots, parts)
+    let mut erases = state.erases;
+    let parts = format_lent(
+        numbers,
+        &mut lens,
+        &mut slots,
+        &mut erases,
+        image,
+        torn,
+        allowance,
+    );
+    state::with_table(state, lens, slots, erases, parts)
 }

@@ -58,17 +58,18 @@ fn retire(image: &mut [u8], void: u32, torn: &[u8], progress: Progress) -> Progr
     log::mount::retire(image, void, torn, progress)
 }
 
-// Mount on a lent node table, with power for `allowance` operations. The buffer's bytes stay, whatever they are.
+// Mount on a lent node table and lent erases, with power for `allowance` operations. The buffer's bytes stay, whatever they are.
 pub fn mount_lent(
     numbers: Numbers,
     lens: &mut [u32; 256],
     slots: &mut [u32; 1024],
+    erases: &mut [u64; 32],
     image: &mut [u8],
     torn: &[u8],
     allowance: u32,
 ) -> WroteParts
-    ensures { λ r. ⌜ ((buffer : List ℕ) → Mounts allowance (now (torn .entry)) (joined numbers buffer (now (lens .entry)) (now (slots .entry)))
-        (now (image .entry)) (wroteWith r buffer (now (lens .exit)) (now (slots .exit))) (now (image .exit))) ⌝ }
+    ensures { λ r. ⌜ ((buffer : List ℕ) → Mounts allowance (now (torn .entry)) (joined numbers buffer (now (lens .entry)) (now (slots .entry)) (now (erases .entry)))
+        (now (image .entry)) (wroteWith r buffer (now (lens .exit)) (now (slots .exit)) (now (erases .exit))) (now (image .exit))) ⌝ }
 {
     let blocks = admit::sized(image.len(), torn.len());
     if blocks == 0 {
@@ -76,6 +77,7 @@ pub fn mount_lent(
     }
     let mut l = [0; 256];
     let mut s = [0; 1024];
+    let e = [0; 32];
     match check::check(image, blocks, &mut l, &mut s) {
         Checked::Blank => ending::refused(numbers, Answer::Blank),
         Checked::Layout => ending::refused(numbers, Answer::Layout),
@@ -93,7 +95,7 @@ pub fn mount_lent(
             };
             let start = progress::begin(allowance);
             let reached = retire(image, void, torn, start);
-            ending::ended(numbers, lens, slots, mounted, &l, &s, reached)
+            ending::ended(numbers, lens, slots, erases, mounted, &l, &s, &e, reached)
         }
     }
 }
@@ -105,6 +107,15 @@ pub fn mount(state: State, image: &mut [u8], torn: &[u8], allowance: u32) -> Wro
     let numbers = state::numbers_of(state);
     let mut lens = state.lens;
     let mut slots = state.slots;
-    let parts = mount_lent(numbers, &mut lens, &mut slots, image, torn, allowance);
-    state::with_table(state, lens, slots, parts)
+    let mut erases = state.erases;
+    let parts = mount_lent(
+        numbers,
+        &mut lens,
+        &mut slots,
+        &mut erases,
+        image,
+        torn,
+        allowance,
+    );
+    state::with_table(state, lens, slots, erases, parts)
 }

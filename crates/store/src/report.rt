@@ -1,4 +1,4 @@
-// Block report: how many pages of a block are free, and the first free one.
+// Block report: how many pages of a block are free, the first free one, and the erases of the block.
 ghost use mathlib.Core.List.{List};
 ghost use Prim.Native.Nat.{ℕ};
 ghost use Rattle.store.specs.Contracts.{Reports};
@@ -12,9 +12,9 @@ use crate::state::State;
 use chip::block;
 use chip::geometry::BLOCK;
 
-// The free pages of block `at`, whatever the arrays of the state; 4 where it is not on the chip.
-pub fn block_report_lent(numbers: Numbers, image: &[u8], at: u32) -> Report
-    ensures { λ r. ⌜ ((buffer lens slots : List ℕ) → Reports at (joined numbers buffer lens slots) (now (image .entry)) r) ⌝ }
+// The free pages and the erases of block `at`, whatever the buffer and the node table; 4 where it is not on the chip.
+pub fn block_report_lent(numbers: Numbers, erases: &[u64; 32], image: &[u8], at: u32) -> Report
+    ensures { λ r. ⌜ ((buffer lens slots : List ℕ) → Reports at (joined numbers buffer lens slots (now (erases .entry))) (now (image .entry)) r) ⌝ }
 {
     let blocks = numbers.blocks;
     match admit::admit(numbers.on, blocks, image.len()) {
@@ -30,7 +30,8 @@ pub fn block_report_lent(numbers: Numbers, image: &[u8], at: u32) -> Report
             let free = block::free_pages(&image[a..e]);
             let count = free.count;
             let first = free.first;
-            Report::Free(count, first)
+            let figure = erases[b];
+            Report::Free(count, first, figure)
         }
     }
 }
@@ -40,5 +41,5 @@ pub fn block_report(state: State, image: &[u8], at: u32) -> Report
     ensures { λ r. ⌜ Reports at state (now (image .entry)) r ⌝ }
 {
     let numbers = state::numbers_of(state);
-    block_report_lent(numbers, image, at)
+    block_report_lent(numbers, &state.erases, image, at)
 }

@@ -6,7 +6,8 @@ use crate::answer::Answer;
 use chip::progress::Counts;
 
 // On or off, the number of blocks (B), the greatest commit number (G), the pending updates, the next node number, the units of the
-// reservation buffer with their count, and the node table: for each node the length of its list and its pages.
+// reservation buffer with their count, the node table: for each node the length of its list and its pages, and for each block its erases
+// since the last finished mount or format.
 pub struct State {
     pub on: bool,
     pub blocks: usize,
@@ -17,6 +18,7 @@ pub struct State {
     pub buffer: [u8; 11520],
     pub lens: [u32; 256],
     pub slots: [u32; 1024],
+    pub erases: [u64; 32],
 }
 
 // A state but for its arrays, for a caller that lends those.
@@ -69,6 +71,7 @@ pub fn initial() -> State
         buffer: [0; 11520],
         lens: [0; 256],
         slots: [0; 1024],
+        erases: [0; 32],
     }
 }
 
@@ -97,7 +100,7 @@ pub fn numbers_of(state: State) -> Numbers
 
 // The state of these numbers with the arrays of the state.
 pub fn with_numbers(state: State, numbers: Numbers) -> State
-    ensures { λ r. ⌜ r ≡ joined numbers (state .buffer) (state .lens) (state .slots) ⌝ }
+    ensures { λ r. ⌜ r ≡ joined numbers (state .buffer) (state .lens) (state .slots) (state .erases) ⌝ }
 {
     let mut s = state;
     s.on = numbers.on;
@@ -111,7 +114,7 @@ pub fn with_numbers(state: State, numbers: Numbers) -> State
 
 // What an update gives back for the state, with the buffer that it leaves.
 pub fn with_buffer(state: State, buffer: [u8; 11520], parts: UpdatedParts) -> Updated
-    ensures { λ r. ⌜ r ≡ updatedWith parts buffer (state .lens) (state .slots) ⌝ }
+    ensures { λ r. ⌜ r ≡ updatedWith parts buffer (state .lens) (state .slots) (state .erases) ⌝ }
 {
     let answer = parts.answer;
     let numbers = parts.numbers;
@@ -120,9 +123,15 @@ pub fn with_buffer(state: State, buffer: [u8; 11520], parts: UpdatedParts) -> Up
     Updated { answer, state: s }
 }
 
-// What format, mount or commit gives back for the state, with the node table that it leaves.
-pub fn with_table(state: State, lens: [u32; 256], slots: [u32; 1024], parts: WroteParts) -> Wrote
-    ensures { λ r. ⌜ r ≡ wroteWith parts (state .buffer) lens slots ⌝ }
+// What format, mount or commit gives back for the state, with the node table and the erases that it leaves.
+pub fn with_table(
+    state: State,
+    lens: [u32; 256],
+    slots: [u32; 1024],
+    erases: [u64; 32],
+    parts: WroteParts,
+) -> Wrote
+    ensures { λ r. ⌜ r ≡ wroteWith parts (state .buffer) lens slots erases ⌝ }
 {
     let answer = parts.answer;
     let ops = parts.ops;
@@ -130,6 +139,7 @@ pub fn with_table(state: State, lens: [u32; 256], slots: [u32; 1024], parts: Wro
     let mut s = with_numbers(state, numbers);
     s.lens = lens;
     s.slots = slots;
+    s.erases = erases;
     Wrote {
         answer,
         ops,

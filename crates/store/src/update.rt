@@ -1,5 +1,6 @@
 // Insert and delete: the tree step, as units in the reservation buffer.
-ghost use Prim.Native.Nat.{_<_};
+ghost use mathlib.Core.List.{List};
+ghost use Prim.Native.Nat.{ℕ, _<_};
 ghost use lib.ListN.{length};
 ghost use Rattle.store.specs.AdmitCode.{ChipOf};
 ghost use Rattle.store.specs.Contracts.{Inserts, Deletes};
@@ -32,8 +33,8 @@ fn insert_admitted<'a>(
     value: u32,
 ) -> UpdatedParts
     requires { ⌜ ChipOf (numbers .blocks) (length (now image)) × (numbers .pending < 16) ⌝ }
-    ensures { λ r. ⌜ InsertsIn key value (joined numbers (now (buffer .entry)) (now (lens .entry)) (now (slots .entry)))
-        (now (image .entry)) (updatedWith r (now (buffer .exit)) (now (lens .entry)) (now (slots .entry))) ⌝ }
+    ensures { λ r. ⌜ ((erases : List ℕ) → InsertsIn key value (joined numbers (now (buffer .entry)) (now (lens .entry)) (now (slots .entry)) erases)
+        (now (image .entry)) (updatedWith r (now (buffer .exit)) (now (lens .entry)) (now (slots .entry)) erases)) ⌝ }
 {
     let count = numbers.count;
     if count > UNITS {
@@ -71,8 +72,8 @@ fn delete_admitted<'a>(
     key: u32,
 ) -> UpdatedParts
     requires { ⌜ ChipOf (numbers .blocks) (length (now image)) × (numbers .pending < 16) ⌝ }
-    ensures { λ r. ⌜ DeletesIn key (joined numbers (now (buffer .entry)) (now (lens .entry)) (now (slots .entry)))
-        (now (image .entry)) (updatedWith r (now (buffer .exit)) (now (lens .entry)) (now (slots .entry))) ⌝ }
+    ensures { λ r. ⌜ ((erases : List ℕ) → DeletesIn key (joined numbers (now (buffer .entry)) (now (lens .entry)) (now (slots .entry)) erases)
+        (now (image .entry)) (updatedWith r (now (buffer .exit)) (now (lens .entry)) (now (slots .entry)) erases)) ⌝ }
 {
     let count = numbers.count;
     if count > UNITS {
@@ -112,8 +113,8 @@ pub fn insert_lent<'a>(
     key: u32,
     value: u32,
 ) -> UpdatedParts
-    ensures { λ r. ⌜ Inserts key value (joined numbers (now (buffer .entry)) (now (lens .entry)) (now (slots .entry)))
-        (now (image .entry)) (updatedWith r (now (buffer .exit)) (now (lens .entry)) (now (slots .entry))) ⌝ }
+    ensures { λ r. ⌜ ((erases : List ℕ) → Inserts key value (joined numbers (now (buffer .entry)) (now (lens .entry)) (now (slots .entry)) erases)
+        (now (image .entry)) (updatedWith r (now (buffer .exit)) (now (lens .entry)) (now (slots .entry)) erases)) ⌝ }
 {
     let answer = admit::update_tests(numbers, image.len());
     if answer::number(answer) > 0 {
@@ -131,8 +132,8 @@ pub fn delete_lent<'a>(
     image: &[u8],
     key: u32,
 ) -> UpdatedParts
-    ensures { λ r. ⌜ Deletes key (joined numbers (now (buffer .entry)) (now (lens .entry)) (now (slots .entry)))
-        (now (image .entry)) (updatedWith r (now (buffer .exit)) (now (lens .entry)) (now (slots .entry))) ⌝ }
+    ensures { λ r. ⌜ ((erases : List ℕ) → Deletes key (joined numbers (now (buffer .entry)) (now (lens .entry)) (now (slots .entry)) erases)
+        (now (image .entry)) (updatedWith r (now (buffer .exit)) (now (lens .entry)) (now (slots .entry)) erases)) ⌝ }
 {
     let answer = admit::update_tests(numbers, image.len());
     if answer::number(answer) > 0 {

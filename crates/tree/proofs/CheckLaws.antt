@@ -7,9 +7,10 @@ use Prim.Native.Nat.{ℕ, zero, suc, _+_, _<_, _≤_}
 use native.Mathlib.Numerals.{add-one}
 use native.Mathlib.Omega.{arith}
 use lib.Dec.{leb, eqb}
-use lib.ListN.{length, take, drop, getD, set, replicate, length-take, drop-of-length-le, getD-replicate, length-replicate, List·getD-eq-default}
+use lib.ListN.{length, take, drop, getD, set, replicate, length-take, drop-of-length-le, List·getD-eq-default}
 use lib.Seq.{slice-cons, getD-set-same, getD-set-other}
 use borrow.Author.Tests.{eq-eqb, ne-eqb, le-leb, lt-leb, lt-ltb, le-ltb}
+use Rattle.lists.proofs.Places.{getD-same}
 use Rattle.lists.proofs.Tests.{cases, clash, and-left, and-right, and-intro, below-or-not, same-or-not}
 use Rattle.lists.proofs.Flats.{length-tab}
 use Rattle.chip.specs.Geometry.{small}
@@ -292,13 +293,6 @@ counts-once : (n : ℕ) (t : Table) (s ns : List ℕ) → ((j : ℕ) → getD s 
 counts-once n [] s ns h = refl
 counts-once n (w ∷ t) s ns h = rw (h n, counts-once (suc n) t s ns h)
 
-none-counted : (j : ℕ) → getD (replicate {A = ℕ} 256 0) j 0 ≡ 0
-none-counted j =
-    ⊎-elim
-    (λ (h : j < 256). getD-replicate 256 j 0 0 h)
-    (λ (h : 256 ≤ j). List·getD-eq-default (replicate 256 0) 0 {n = j} (omega (arith, length-replicate {A = ℕ} 256 0)))
-    (below-or-not j 256)
-
 -- ---- the whole of step 6
 module _ (t : Table) (l : ℕ) (s u : List ℕ) (el : l ≡ rootLevel t) (es : s ≡ replicate 256 0) where
   -- a tree is reached: what is left are the counts
@@ -308,14 +302,14 @@ module _ (t : Table) (l : ℕ) (s u : List ℕ) (el : l ≡ rootLevel t) (es : s
       let a : isSubtree (rootLevel t) t 0 0 top ≡ true = rw el at (w .passes refl) in
       let o = sub-own (rootLevel t) t 0 0 top a in
       let b = and-left (isLevel (rootLevel t) (at t 0)) (obeysAt (rootLevel t) 0 top (entriesAt t 0)) o in
-      let z : (j : ℕ) → getD s j 0 ≡ 0 = λ j. ap (λ (x : List ℕ). getD x j 0) es ∙ none-counted j in
+      let z : (j : ℕ) → getD s j 0 ≡ 0 = λ j. ap (λ (x : List ℕ). getD x j 0) es ∙ getD-same 256 j 0 in
       let k = counts-once 0 t u (reached (rootLevel t) t 0) (λ j. w .counts refl j ∙ omega (arith, z j, ap (λ (m : ℕ). times j (reached m t 0)) el)) in
       e ∙ k ∙ sym (rw (b, a))
 
   once-twice : {A : Type 0} (ns : List ℕ) → onceFrom 0 t ns ≡ true → Twice t s ns → A
   once-twice ns o d =
       let j = d .number in
-      let z : getD s j 0 ≡ 0 = ap (λ (x : List ℕ). getD x j 0) es ∙ none-counted j in
+      let z : getD s j 0 ≡ 0 = ap (λ (x : List ℕ). getD x j 0) es ∙ getD-same 256 j 0 in
       ⊎-elim
       (λ (h : j < length t). absurd (omega (arith, once-at ns 0 t o j h, ap (λ (m : ℕ). times m ns) (let q : 0 + j ≡ j = omega arith in q), d .twice, d .real)))
       (λ (h : length t ≤ j). absurd (omega (arith, d .real, ap there (at-length t j h))))

@@ -21,7 +21,7 @@ pub const OBSOLETE: usize = 2;
 /// The number of blocks of an image length, when it is B blocks for a B from 3 to 32.
 pub fn blocks_of(length: usize) -> Option<usize> {
     let blocks = length / BLOCK;
-    (length % BLOCK == 0 && (3..=32).contains(&blocks)).then_some(blocks)
+    (length.is_multiple_of(BLOCK) && (3..=32).contains(&blocks)).then_some(blocks)
 }
 
 /// The 528 bytes of the page at a place, counted from 0 through the whole chip.

@@ -8,6 +8,7 @@ mod writes;
 
 use super::chip::{self, BLOCK, TORN};
 use super::counts::Counts;
+use super::erases::Erases;
 use super::frame::{self, Frame};
 use super::image::{self, Meaning};
 use super::plain::{Call, Lengths, Plain};
@@ -35,6 +36,8 @@ pub struct Judge {
     plain: Plain,
     /// The meaning of the image that the state goes with.
     ground: Shared,
+    /// The erases of each block since the last finished mount or format.
+    erases: Erases,
     /// Whether an open call gave the state, so that only on or off and B are known of it.
     wild: bool,
     /// Whether a finished format began the chip that the last call left, and only calls wrote it since.
@@ -68,6 +71,7 @@ impl Judge {
             torn_lent: TORN,
             plain: Plain::new(),
             ground: Rc::new(Err(image::NOTHING)),
+            erases: Erases::none(0),
             wild: false,
             begun: false,
             left: None,

@@ -2,6 +2,7 @@
 pub mod chip;
 pub mod counts;
 pub mod crc;
+pub mod erases;
 pub mod foreign;
 pub mod frame;
 pub mod image;

@@ -73,7 +73,7 @@ fn commit(random: &mut Random, writer: &mut Writer) {
     }
 }
 
-/// A mount that is cut or has enough power.
+/// A mount that is cut or has enough power, at times followed by a checksum or by reports of all blocks.
 fn mount(random: &mut Random, writer: &mut Writer) {
     let allowance = match random.below(3) {
         0 => writer.allowance(random, 5),
@@ -84,9 +84,12 @@ fn mount(random: &mut Random, writer: &mut Writer) {
     if random.once_in(4) {
         writer.check();
     }
+    if random.once_in(3) {
+        writer.reports();
+    }
 }
 
-/// A format that is cut or has enough power.
+/// A format that is cut or has enough power, followed by a checksum and reports of all blocks.
 fn format(random: &mut Random, writer: &mut Writer) {
     let allowance = match random.below(2) {
         0 => writer.allowance(random, 0),
@@ -94,6 +97,7 @@ fn format(random: &mut Random, writer: &mut Writer) {
     };
     writer.format(allowance);
     writer.check();
+    writer.reports();
     if allowance < 2000 {
         writer.mount(255);
         writer.format(2000);

@@ -4,6 +4,7 @@ pub mod bench;
 pub mod calls;
 pub mod changed;
 pub mod edges;
+pub mod erases;
 pub mod images;
 pub mod lines;
 pub mod sizes;
@@ -19,7 +20,7 @@ pub struct Kind {
 }
 
 /// All kinds of scripts for the probe.
-pub const KINDS: [Kind; 11] = [
+pub const KINDS: [Kind; 12] = [
     Kind { name: "calls", make: calls::make },
     Kind { name: "valid", make: images::valid },
     Kind { name: "steep", make: images::steep },
@@ -31,6 +32,7 @@ pub const KINDS: [Kind; 11] = [
     Kind { name: "full", make: edges::full },
     Kind { name: "pending", make: edges::pending },
     Kind { name: "changed", make: changed::make },
+    Kind { name: "erases", make: erases::make },
 ];
 
 /// The kind with this name.

@@ -2,7 +2,7 @@
 
 use crate::probe::Probe;
 use crate::random::Random;
-use crate::twin::chip::PAGE;
+use crate::twin::chip::{BLOCK, PAGE};
 
 /// The lines so far and the twin behind them.
 pub struct Writer {
@@ -82,9 +82,14 @@ impl Writer {
         self.single(3, key)
     }
 
-    /// Commit with an allowance.
+    /// Commit with an allowance; where it put erases on record, the reports of all blocks follow.
     pub fn commit(&mut self, allowance: u32) -> u32 {
-        self.single(4, allowance)
+        let before = self.probe.state().erases;
+        let refusal = self.single(4, allowance);
+        if self.probe.state().erases != before {
+            self.reports();
+        }
+        refusal
     }
 
     /// Mount with an allowance.
@@ -95,6 +100,13 @@ impl Writer {
     /// Block report.
     pub fn report(&mut self, block: u32) -> u32 {
         self.single(6, block)
+    }
+
+    /// The reports of all blocks lent and of one past the last.
+    pub fn reports(&mut self) {
+        for block in 0..=(self.probe.image().len() / BLOCK) as u32 {
+            self.report(block);
+        }
     }
 
     /// Show.

@@ -44,8 +44,9 @@ impl State {
         ground.has(image, ground.unused - wide, plan.pages + 1)
     }
 
-    /// A plan done: the blocks that its places and one more reach are erased, then its pages are written and noted in the node table.
-    /// Where it has no page, which only an image changed since leads to, the commit is refused with 6.
+    /// A plan done: the blocks that its places and one more reach are erased, then its pages are written and noted in the node table;
+    /// finished, its erases are put on record. Where it has no page, which only an image changed since leads to, the commit is refused
+    /// with 6.
     fn carry_out(&mut self, chip: &mut Chip, ground: &Ground, sorted: &Sorted, plan: &Plan) -> Told {
         let total = plan.pages;
         if total == 0 {
@@ -55,7 +56,7 @@ impl State {
         let places = &mut places[..=total];
         places.iter_mut().zip(ground.places(chip.image)).for_each(|(slot, place)| *slot = place);
         let mut counts = Counts::default();
-        clear_blocks(chip, ground.reached(places), &mut counts);
+        let erased = clear_blocks(chip, ground.reached(places), &mut counts);
         for (index, &place) in places[..total].iter().enumerate() {
             self.write_page(chip, sorted, plan, index, place, &mut counts);
             if chip.is_gone() {
@@ -63,10 +64,20 @@ impl State {
             }
         }
         self.on = !chip.is_gone();
+        if self.on {
+            self.record(erased);
+        }
         self.commit += 1;
         self.pending = 0;
         self.count = 0;
         chip.told(counts)
+    }
+
+    /// One more erase on record for each block of a set.
+    fn record(&mut self, erased: u32) {
+        for (block, erases) in self.erases.iter_mut().enumerate() {
+            *erases = erases.wrapping_add(u64::from(erased >> block & 1));
+        }
     }
 
     /// One page of a commit built from the nodes as they are then, written at its place, counted and noted.
@@ -80,11 +91,14 @@ impl State {
     }
 }
 
-/// These blocks erased and counted, but for those that are wholly free.
-fn clear_blocks(chip: &mut Chip, blocks: impl Iterator<Item = usize>, counts: &mut Counts) {
+/// These blocks erased and counted, but for those that are wholly free. Returns the set of those erased.
+fn clear_blocks(chip: &mut Chip, blocks: impl Iterator<Item = usize>, counts: &mut Counts) -> u32 {
+    let mut erased = 0;
     for block in blocks {
         if !is_blank(&chip.image[block * BLOCK..][..BLOCK]) {
             counts.take(chip.erase(block));
+            erased |= 1 << block;
         }
     }
+    erased
 }

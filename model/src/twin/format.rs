@@ -28,7 +28,7 @@ impl State {
         chip.told(counts)
     }
 
-    /// The state after a finished format: one empty leaf, node 0, on page 0.
+    /// The state after a finished format: one empty leaf, node 0, on page 0, and no erase on record, not even the format's own.
     fn begin_anew(&mut self, blocks: usize) {
         self.blocks = blocks;
         self.commit = 1;
@@ -38,5 +38,6 @@ impl State {
         self.lens = [0; 256];
         self.lens[0] = 1;
         self.slots[0] = 0;
+        self.erases = [0; 32];
     }
 }

@@ -27,6 +27,9 @@ impl State {
             counts.take(chip.mark(place as usize, Mark::Obsolete));
         }
         self.on = !chip.is_gone();
+        if self.on {
+            self.erases = [0; 32];
+        }
         self.blocks = blocks;
         self.commit = standing.commit();
         self.pending = 0;

@@ -1,17 +1,25 @@
-//! Block report: how many pages of a block are free, and the first free one.
+//! Block report: how many pages of a block are free, the first free one, and the block's erases on record.
 
 use super::chip::{free_set, BLOCK};
 use super::state::State;
 
+/// What a report tells: the free pages, the first free one, 32 if none, and the erases since the last finished mount or format.
+#[derive(Clone, Copy, PartialEq, Eq, Debug)]
+pub struct Report {
+    pub free: u32,
+    pub first: u32,
+    pub erases: u64,
+}
+
 impl State {
-    /// The free pages of a block and the first free one, 32 if none; else the refusal, 2, 1 or 4.
-    pub fn block_report(&self, image: &[u8], block: u32) -> Result<(u32, u32), u32> {
+    /// The report of a block; else the refusal, 2, 1 or 4.
+    pub fn block_report(&self, image: &[u8], block: u32) -> Result<Report, u32> {
         self.admit(image)?;
         let b = block as usize;
         if b >= self.blocks {
             return Err(4);
         }
         let free = free_set(&image[b * BLOCK..][..BLOCK]);
-        Ok((free.count_ones(), free.trailing_zeros()))
+        Ok(Report { free: free.count_ones(), first: free.trailing_zeros(), erases: self.erases[b] })
     }
 }

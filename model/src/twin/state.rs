@@ -7,8 +7,8 @@ use super::view::{key_of, value_of, View};
 /// Units that the reservation buffer holds at most, 60 for each of 16 pending updates.
 pub const BUFFER: usize = 960;
 
-/// On or off, B, G, the pending updates, the next node number, the reservation buffer with its count of units, and the node table: for
-/// each node the length of its list and its pages.
+/// On or off, B, G, the pending updates, the next node number, the reservation buffer with its count of units, the node table: for each
+/// node the length of its list and its pages; and for each block the erases done since the last finished mount or format.
 #[derive(Clone)]
 pub struct State {
     pub on: bool,
@@ -20,6 +20,7 @@ pub struct State {
     pub buffer: [u8; BUFFER * UNIT],
     pub lens: [u32; 256],
     pub slots: [u32; 1024],
+    pub erases: [u64; 32],
 }
 
 impl Default for State {
@@ -42,6 +43,7 @@ impl State {
             buffer: [0; BUFFER * UNIT],
             lens: [0; 256],
             slots: [0; 1024],
+            erases: [0; 32],
         }
     }
 

@@ -1,4 +1,6 @@
 //! A tiny store behind the probe's protocol, for tests of the judge: a commit writes all nodes into one erased block.
+mod erases;
+
 use model::model::chip::{self, Operation, Power, BLOCK, OBSOLETE, PAGES, TORN, VALID};
 use model::model::counts::Counts;
 use model::model::crc::crc32;
@@ -11,6 +13,8 @@ use model::model::unit::{encode, page_data, Deed, Unit, HEAD, ROOM, UNIT};
 #[derive(Clone, Copy, Debug, PartialEq, Eq)]
 pub enum Bug {
     None,
+    /// No fault: a block is erased twice.
+    EraseTwice,
     CommitToldHigh,
     CommitToldLow,
     CutTold,
@@ -55,11 +59,23 @@ pub enum Bug {
     ContinuesAfterCut,
     OldPageValid,
     PageOfOtherCommit,
+    EraseNotCounted,
+    EraseCountedTwice,
+    EraseOfNextBlock,
+    HiddenEraseNotCounted,
+    MarksCounted,
+    FormatErasesCounted,
+    FormatKeepsErases,
+    MountKeepsErases,
+    RefusedCommitCounted,
+    EmptyCommitCounted,
+    ErasesTurned,
+    ErasesShort,
 }
 
 impl Bug {
     /// All faults.
-    pub const FAULTS: [Bug; 44] = [
+    pub const FAULTS: [Bug; 56] = [
         Bug::CommitToldHigh,
         Bug::CommitToldLow,
         Bug::CutTold,
@@ -104,6 +120,18 @@ impl Bug {
         Bug::ContinuesAfterCut,
         Bug::OldPageValid,
         Bug::PageOfOtherCommit,
+        Bug::EraseNotCounted,
+        Bug::EraseCountedTwice,
+        Bug::EraseOfNextBlock,
+        Bug::HiddenEraseNotCounted,
+        Bug::MarksCounted,
+        Bug::FormatErasesCounted,
+        Bug::FormatKeepsErases,
+        Bug::MountKeepsErases,
+        Bug::RefusedCommitCounted,
+        Bug::EmptyCommitCounted,
+        Bug::ErasesTurned,
+        Bug::ErasesShort,
     ];
 }
 
@@ -132,13 +160,16 @@ pub struct Tiny {
     torn: Vec<u8>,
     torn_lent: usize,
     state: Option<State>,
+    /// The erases of each block.
+    erases: [u64; 32],
     bug: Bug,
 }
 
 impl Tiny {
     /// The probe's start, with a fault.
     pub fn new(bug: Bug) -> Tiny {
-        Tiny { buffer: vec![255; 40 * BLOCK], lent: 3 * BLOCK, torn: vec![0x5A; 600], torn_lent: TORN, state: None, bug }
+        let (buffer, torn) = (vec![255; 40 * BLOCK], vec![0x5A; 600]);
+        Tiny { buffer, lent: 3 * BLOCK, torn, torn_lent: TORN, state: None, erases: [0; 32], bug }
     }
 
     /// The image lent.
@@ -177,10 +208,11 @@ impl Tiny {
         let reset = encode(&Unit { node: 0, deed: Deed::Reset(0) });
         let finished = erased && chip::write_page(image, &mut power, 0, &page_data(1, 0, 1, &[reset]));
         self.state = finished.then(|| State { tree: Tree::leaf(blocks), pending: 0, number: 1, blocks });
+        let mut told = power.told();
+        self.formatted();
         if self.is(Bug::ImageByteOnFormat) {
             self.buffer[20000] = 7;
         }
-        let mut told = power.told();
         told.erases += self.is(Bug::FormatTold) as u32;
         if self.is(Bug::FormatKinds) {
             told = Counts { programs: told.erases, erases: told.programs, ..told };
@@ -277,7 +309,7 @@ impl Tiny {
             self.buffer[3000] ^= 4;
         }
         let (less, later) = (self.is(Bug::ReportOneLess) as usize, self.is(Bug::ReportFirst) as usize);
-        format!("00{:02X}{:02X}", count.saturating_sub(less), first + later)
+        format!("00{:02X}{:02X}{}", count.saturating_sub(less), first + later, self.figure(block as usize))
     }
 
     /// Show.
@@ -321,6 +353,7 @@ impl Tiny {
         }
         if !self.is(Bug::MountLeavesOff) {
             self.state = Some(State { tree: means.tree, pending: 0, number: means.greatest, blocks });
+            self.mounted();
         }
         reply(0, told)
     }
@@ -328,10 +361,12 @@ impl Tiny {
     /// Commit.
     fn commit(&mut self, allowance: u32) -> String {
         if let Some(refusal) = self.refused(true) {
+            self.erases[0] += self.is(Bug::RefusedCommitCounted) as u64;
             return reply(refusal, Counts::NONE);
         }
         let state = self.state.as_ref().unwrap();
         if state.pending == 0 && !(self.is(Bug::TenWithNothingPending) && allowance == 0) {
+            self.erases[0] += self.is(Bug::EmptyCommitCounted) as u64;
             return reply(0, Counts::NONE);
         }
         let last = if self.is(Bug::LastNumber) { 7 } else { u32::MAX };
@@ -346,6 +381,7 @@ impl Tiny {
         let mut power = Power::new(allowed, &torn);
         self.write(&mut power, block, number, &pages);
         self.stray(&power, block);
+        self.count(block, power.told());
         self.told(&power, allowance, number)
     }
 
@@ -442,10 +478,11 @@ impl Tiny {
         let torn_page = self.is(Bug::ProgramTornPage);
         let in_place = self.is(Bug::ProgramInPlace);
         let spare_byte = self.is(Bug::SpareByteOnCommit);
+        let times = 1 + (self.is(Bug::EraseTwice) || self.is(Bug::HiddenEraseNotCounted)) as u32;
         let image = &mut self.buffer[..self.lent];
         let blank = (0..PAGES).all(|at| chip::free(chip::page(image, block * PAGES + at)));
         let torn_mark = in_place || (torn_page && image[block * BLOCK] == 255);
-        if !blank && !torn_mark && !power.run(image, &Operation::Erase(block)) {
+        if !blank && !torn_mark && !(0..times).all(|_| power.run(image, &Operation::Erase(block))) {
             return;
         }
         for (index, units) in pages.iter().enumerate() {

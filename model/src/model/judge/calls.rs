@@ -1,6 +1,7 @@
 //! Insert, delete, look up, block report and show: calls that write no image byte.
 use super::{expect, two, Judge};
 use crate::model::chip::{self, PAGES};
+use crate::model::erases;
 use crate::model::frame;
 use crate::model::image;
 use crate::model::plain::{Answer, Call, ABSENT, NO_ROOM, PENDING, SIZE};
@@ -52,19 +53,22 @@ impl Judge {
         self.plain.present.path(key).iter().map(|number| meaning.lists[*number as usize].len()).sum()
     }
 
-    /// Block report: free pages and the first free one.
+    /// Block report: free pages, the first free one and the erases; a refusal stands alone.
     pub(super) fn report(&mut self, block: u32, reply: &str) -> Result<(), String> {
         if let Some(refusal) = self.plain.off_or_size(self.lengths(), false) {
             return expect(reply, &two(refusal));
         }
         if !self.fixed() {
-            return refusal_of(reply, &[(0, 4), (ABSENT, 0)]).map(|_| ());
+            return refusal_of(reply, &[(0, 4 + erases::DIGITS), (ABSENT, 0)]).map(|_| ());
         }
         if block as usize >= self.plain.blocks {
             return expect(reply, &two(ABSENT));
         }
         let (count, first) = chip::free_pages(self.image(), block as usize);
-        expect(reply, &format!("00{count:02X}{first:02X}"))
+        let free = format!("00{count:02X}{first:02X}");
+        let figure = reply.strip_prefix(&free).and_then(|digits| erases::read(digits.as_bytes()));
+        let figure = figure.ok_or_else(|| format!("{free} and 16 digits expected"))?;
+        self.erases.hold(block as usize, figure)
     }
 
     /// Show: the units of a live page that passes its own rules in step 2, else an empty part.

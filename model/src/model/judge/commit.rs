@@ -4,6 +4,7 @@ use super::legal::Change;
 use super::{expect, told, Judge, Shared};
 use crate::model::chip::TORN;
 use crate::model::counts::Counts;
+use crate::model::erases::Erases;
 use crate::model::image::{self, Meaning};
 use crate::model::plain::{Call, LAST_NUMBER, NEVER_CUT, POWER};
 use std::rc::Rc;
@@ -69,7 +70,10 @@ impl Judge {
             blocks: self.plain.blocks,
             cut,
         };
-        change.hold(told.counts)?;
+        let erases = change.hold(told.counts)?;
+        if !cut {
+            self.erases = self.erases.and(&erases);
+        }
         self.plain.call(Call::Commit(told.allowance), self.lengths(), cut, chosen);
         self.take(image, Some(Rc::new(Ok(means))), !cut);
         Ok(())
@@ -91,7 +95,8 @@ impl Judge {
         Ok(chosen)
     }
 
-    /// A commit with something pending on a chip that no format began: 0, 6 or 10; finished, the image means P with G + 1.
+    /// A commit with something pending on a chip that no format began: 0, 6 or 10; finished, the image means P with G + 1, and
+    /// the figures are open.
     fn foreign_commit(&mut self, told: &Told, image: &[u8]) -> Result<(), String> {
         if told.refusal == LAST_NUMBER {
             return self.same(image, usize::MAX);
@@ -105,6 +110,7 @@ impl Judge {
         if Some(means.greatest) != self.plain.number.checked_add(1) || means.tree != self.plain.present {
             return Err("after it the image does not mean P with G + 1".to_string());
         }
+        self.erases = Erases::open(self.plain.blocks);
         self.plain.call(Call::Commit(told.allowance), self.lengths(), false, false);
         self.take(image, Some(Rc::new(Ok(means))), true);
         Ok(())

@@ -2,6 +2,7 @@
 use super::ways::{Way, Ways};
 use crate::model::chip::{self, DATA, OBSOLETE, PAGE, PAGES, USED, VALID};
 use crate::model::counts::{Counts, Kind};
+use crate::model::erases::Erases;
 use crate::model::image::{self, Head};
 use crate::model::unit::{self, HEAD, UNIT};
 
@@ -20,26 +21,30 @@ pub struct Change<'a> {
 
 impl Change<'_> {
     /// Holds the change to document 01: legal operations explain it and are those told, kind by kind; the commit's live
-    /// pages are all among the changed ones; a node's units stand in one of them.
-    pub fn hold(&self, told: Counts) -> Result<(), String> {
-        self.hold_counts(told)?;
+    /// pages are all among the changed ones; a node's units stand in one of them. Answers the erases of each block.
+    pub fn hold(&self, told: Counts) -> Result<Erases, String> {
+        let erases = self.hold_counts(told)?;
         let pages = self.live_pages();
         let old = |head: &&Head| chip::page(self.before, head.place) == chip::page(self.after, head.place);
         if let Some(head) = pages.iter().find(old) {
             return Err(format!("page {} of the commit was there before it", head.place));
         }
-        self.one_page_a_node(&pages)
+        self.one_page_a_node(&pages)?;
+        Ok(erases)
     }
 
     /// Holds the counts told to the operations that explain the blocks. Data programs and marks are all among those that
-    /// show; so are erases, unless a block could be erased once more without showing it.
-    fn hold_counts(&self, told: Counts) -> Result<(), String> {
+    /// show; so are erases, unless a block could be erased once more without showing it. Of a finished commit, a block that
+    /// was not free shows whether it was erased: its old pages are there or not.
+    fn hold_counts(&self, told: Counts) -> Result<Erases, String> {
         let mut all = Ways::nothing();
+        let mut erases = Vec::new();
         for block in 0..self.blocks {
             let ways = self.block(block);
             if ways.is_empty() {
                 return Err(format!("no legal operations explain block {block}"));
             }
+            erases.push(ways.erases(told.erases as u64));
             all = all.and(&ways);
         }
         if all.is_empty() {
@@ -48,7 +53,7 @@ impl Change<'_> {
         if !all.tell(told) {
             return Err(format!("no operations with these counts explain the image; the fewest that do have {}", all.fewest()));
         }
-        Ok(())
+        Ok(Erases::of(erases, told.erases as u64))
     }
 
     /// The ways to explain a block: without an erase, after an erase, by a torn erase.

@@ -1,5 +1,6 @@
 //! The ways in which flash operations of a commit explain a change of the image, with the operations of each by kind.
 use crate::model::counts::{Counts, Kind};
+use crate::model::erases::Range;
 use std::collections::BTreeSet;
 
 /// One way: its whole operations, its torn one, and whether it leaves room for erases that do not show.
@@ -73,6 +74,14 @@ impl Ways {
     pub fn and(&self, other: &Ways) -> Ways {
         let pairs = self.0.iter().flat_map(|one| other.0.iter().map(|two| one.and(*two)));
         Ways(pairs.filter(|way| way.torn <= 1).collect())
+    }
+
+    /// The erases of the block that these ways explain, at most a number of them.
+    pub fn erases(&self, most: u64) -> Range {
+        let erases = || self.0.iter().map(|way| way.whole.erases as u64);
+        let shown = erases().max().unwrap_or(0);
+        let more = self.0.iter().any(|way| way.more_erases);
+        Range { least: erases().min().unwrap_or(0), most: if more { most } else { shown } }
     }
 
     /// Whether a commit done in one of the ways tells these counts.

@@ -2,6 +2,7 @@
 use super::{told, Judge, Shared};
 use crate::model::chip::{self, Operation, Power, OBSOLETE, TORN};
 use crate::model::counts::Counts;
+use crate::model::erases::Erases;
 use crate::model::image::Meaning;
 use crate::model::plain::{Call, Plain, POWER};
 use crate::model::unit::{self, Deed, Unit};
@@ -45,6 +46,7 @@ impl Judge {
             return told(POWER, counts);
         }
         self.wild = false;
+        self.erases = Erases::none(blocks);
         self.ground = self.read();
         told(0, counts)
     }
@@ -83,6 +85,7 @@ impl Judge {
             return Ok(told(POWER, counts));
         }
         self.wild = false;
+        self.erases = Erases::none(self.plain.blocks);
         self.ground = shared.clone();
         if !means.void.is_empty() {
             self.ground = Rc::new(Ok(Meaning { void: Vec::new(), ..means.clone() }));

@@ -23,10 +23,10 @@ same-length c = search needs
 returns : tie.Need-returns
 returns c =
     let w = c .before .before .before .before .before in
-    let l = w .before .before .before .before in
+    let l = w .before .before .before .before .before in
     let a = l .before .before .before .before .args in
-    formatted (a .numbers .now) (l .load .result) (l .load .ensures) (a .allowance) (a .torn .now) (a .lens .now) (a .slots .now) (a .image .now)
-    (w .format-lent .result) _ _ _ _ _ _ (c .give .ensures) (w .format-lent .ensures)
+    formatted (a .numbers .now) (l .load .result) (l .load .ensures) (a .allowance) (a .torn .now) (a .lens .now) (a .slots .now) (a .erases .now) (a .image .now)
+    (w .format-lent .result) _ _ _ _ _ _ _ (c .give .ensures) (w .format-lent .ensures)
 
 pub vehinoke-format-spec : {M : Type 1} → statement M
 vehinoke-format-spec =

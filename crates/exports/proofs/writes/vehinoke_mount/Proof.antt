@@ -23,10 +23,10 @@ same-length c = search needs
 returns : tie.Need-returns
 returns c =
     let w = c .before .before .before .before .before in
-    let l = w .before .before .before .before in
+    let l = w .before .before .before .before .before in
     let a = l .before .before .before .before .args in
-    mounted (a .numbers .now) (l .load .result) (l .load .ensures) (a .allowance) (a .torn .now) (a .lens .now) (a .slots .now) (a .image .now)
-    (w .mount-lent .result) _ _ _ _ _ _ (c .give .ensures) (w .mount-lent .ensures)
+    mounted (a .numbers .now) (l .load .result) (l .load .ensures) (a .allowance) (a .torn .now) (a .lens .now) (a .slots .now) (a .erases .now) (a .image .now)
+    (w .mount-lent .result) _ _ _ _ _ _ _ (c .give .ensures) (w .mount-lent .ensures)
 
 pub vehinoke-mount-spec : {M : Type 1} → statement M
 vehinoke-mount-spec =

@@ -26,9 +26,9 @@ same-length c = search needs
 returns : tie.Need-returns
 returns c =
     let l = c .before .before .before in
-    let n = l .before .before .before .before .before .before .before .before in
+    let n = l .before .before .before .before .before .before .before .before .before .before in
     let a = n .before .before .before .args in
-    of-parts (a .t1) (n .numbers-of .result) (n .numbers-of .ensures) (λ (s : State) (r : Wrote). Commits (a .allowance) (a .torn .now) s (a .image .now) r (l .commit-lent .last .1 .1 .1 .1 .0)) _ _
+    of-parts (a .t1) (n .numbers-of .result) (n .numbers-of .ensures) (λ (s : State) (r : Wrote). Commits (a .allowance) (a .torn .now) s (a .image .now) r (l .commit-lent .last .1 .1 .1 .1 .1 .0)) _ _
     (c .with-table .ensures) (l .commit-lent .ensures)
 
 pub commit-spec : {M : Type 1} → statement M

@@ -52,7 +52,7 @@ returns : tie.Need-returns
 returns c =
     let n = c .before .before in
     let a = n .before .before .before .before .args in
-    let s = joined (a .numbers) (a .buffer .now) (a .lens .now) (a .slots .now) in
+    let s = joined (a .numbers) (a .buffer .now) (a .lens .now) (a .slots .now) (a .erases .now) in
     rw (c .quiet .ensures)
     (commit-refused (a .allowance) (a .torn .now) s (a .image .now) _ (n .before .commit-tests .ensures) (omega (arith, c .before .if1 .taken, told n)))
 
@@ -65,7 +65,7 @@ returns-2 : tie.Need-returns-2
 returns-2 c =
     let e = c .before .before .before in
     let a = e .before .before .before .before .before .args in
-    let s = joined (a .numbers) (a .buffer .now) (a .lens .now) (a .slots .now) in
+    let s = joined (a .numbers) (a .buffer .now) (a .lens .now) (a .slots .now) (a .erases .now) in
     rw (c .quiet2 .ensures) (commit-idle (a .allowance) (a .torn .now) s (a .image .now) (past e .first) (omega (arith, c .before .if2 .taken)))
 
 -- src/commit.rt:95:9
@@ -78,18 +78,18 @@ returns-3 c =
     let j = c .before .before .before in
     let e = j .before .before in
     let a = e .before .before .before .before .before .args in
-    let s = joined (a .numbers) (a .buffer .now) (a .lens .now) (a .slots .now) in
+    let s = joined (a .numbers) (a .buffer .now) (a .lens .now) (a .slots .now) (a .erases .now) in
     let h : 0 < a .numbers .pending = omega (arith, j .if2 .left) in
     rw (c .quiet3 .ensures) (commit-full (a .allowance) (a .torn .now) s (a .image .now) (past e .first) h (past e .number h) (c .before .if3 .taken))
 
 -- src/commit.rt:97:5
 commit-pending-requires : tie.Need-commit-pending-requires
 commit-pending-requires c κs =
-    let j = c .before .before .before .before .before in
+    let j = c .before .before .before .before .before .before in
     let e = j .before .before in
     let a = e .before .before .before .before .before .args in
     let h : 0 < a .numbers .pending = omega (arith, j .if2 .left) in
-    let w = past e in (w .first, w .chip, w .slice, h, w .number h, omega (arith, c .before .before .before .if3 .left))
+    let w = past e in (w .first, w .chip, w .slice, h, w .number h, omega (arith, c .before .before .before .before .if3 .left))
 
 -- src/commit.rt:75:1
 same-length : tie.Need-same-length

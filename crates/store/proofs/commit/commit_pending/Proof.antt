@@ -23,15 +23,19 @@ low : (w : tie.After-slice-known) → w .before .args .allowance < 4294967296
 low w = search needs
 
 -- the length of the slots
-slots : (w : tie.After-all2) → length (w .before .before .before .before .before .before .before .args .slots .now) ≡ 1024
+slots : (w : tie.After-all2) → length (w .before .before .before .before .before .before .before .before .args .slots .now) ≡ 1024
 slots w = search needs
+
+-- and of the figures
+figured : (w : tie.After-each2) → length (w .before .before .before .before .before .before .before .before .before .before .args .erases .now) ≡ 32
+figured w = search needs
 
 begin-requires : tie.Need-begin-requires
 begin-requires c κs = search needs
 
 execute-requires : tie.Need-execute-requires
 execute-requires c κs =
-    let p = c .before .before .before .before .before .before .before .before .before .before .before .before .pre in
+    let p = c .before .before .before .before .before .before .before .before .before .before .before .before .before .before .before .before .pre in
     (p .1 .size, p .1 .least, p .1 .most, p .5, p .2, p .4)
 
 quiet-requires : tie.Need-quiet-requires
@@ -44,18 +48,23 @@ returns : tie.Need-returns
 returns c =
     let k = c .before .before in
     let x = k .before .before in
-    let q = x .before .before .before .before .before .before in
-    let b = q .before .before .before .before in
+    let f = x .before .before .before .before .before .before .before in
+    let q = f .before .before in
+    let b = q .before .before .before .before .before in
     let w = b .before .before in
     let t = w .before in
     let a = t .args in
-    let s = joined (a .numbers) (a .buffer .now) (a .lens .now) (a .slots .now) in
+    let s = joined (a .numbers) (a .buffer .now) (a .lens .now) (a .slots .now) (a .erases .now) in
     rw (c .quiet .ensures)
-    (commit-stuck (a .allowance) (a .torn .now) s (a .image .now) (t .pre .0) (t .pre .3) (t .pre .4) (t .pre .2) (slots q) (bytes w) _ _ _
+    (commit-stuck (a .allowance) (a .torn .now) s (a .image .now) (t .pre .0) (t .pre .3) (t .pre .4) (t .pre .2) (slots q) (figured f) (bytes w) _ _ _ _
     (x .execute .result) (low w) (b .begin .result) (b .begin .ensures) (x .execute .ensures) (c .before .if1 .taken))
 
 add-n : tie.Need-add-n
-add-n c = search needs
+add-n c =
+    let x = c .before .before .before .before .before in
+    let q = x .before .before .before .before .before .before .before .before .before in
+    let t = q .before .before .before .before .before .before .before .before in
+    record { fits = omega (arith, t .pre .4) }
 
 ended-requires : tie.Need-ended-requires
 ended-requires c κs = search needs
@@ -65,16 +74,17 @@ same-length-2 c = search needs
 
 returns-2 : tie.Need-returns-2
 returns-2 c =
-    let l = c .before .before .before .before .before .before .before in
+    let l = c .before .before .before .before .before .before .before .before .before in
     let k = l .before in
     let x = k .before .before in
-    let q = x .before .before .before .before .before .before in
-    let b = q .before .before .before .before in
+    let f = x .before .before .before .before .before .before .before in
+    let q = f .before .before in
+    let b = q .before .before .before .before .before in
     let w = b .before .before in
     let t = w .before in
     let a = t .args in
-    let s = joined (a .numbers) (a .buffer .now) (a .lens .now) (a .slots .now) in
-    commit-ended (a .allowance) (a .torn .now) s (a .image .now) (t .pre .0) (t .pre .3) (t .pre .4) (t .pre .2) (slots q) (bytes w) _ _ _
+    let s = joined (a .numbers) (a .buffer .now) (a .lens .now) (a .slots .now) (a .erases .now) in
+    commit-ended (a .allowance) (a .torn .now) s (a .image .now) (t .pre .0) (t .pre .3) (t .pre .4) (t .pre .2) (slots q) (figured f) (bytes w) _ _ _ _
     (x .execute .result) (low w) (b .begin .result) (b .begin .ensures) (x .execute .ensures) (l .if1 .left) (λ j. omega (arith, k .slice-known2 .given j)) _ (c .ended .ensures (a .buffer .now))
 
 pub commit-pending-spec : {M : Type 1} → statement M

@@ -20,18 +20,18 @@ returns : tie.Need-returns
 returns c buffer =
     let g = c .before .before in
     let a = g .before .before .args in
-    let s = joined (a .numbers) buffer (a .lens .now) (a .slots .now) in
-    let m = joined (a .after) buffer (a .new-lens .now) (a .new-slots .now) in
-    ap (λ (q : WroteParts). wroteWith q buffer (a .lens .now) (a .slots .now)) (c .cut .ensures)
+    let s = joined (a .numbers) buffer (a .lens .now) (a .slots .now) (a .erases .now) in
+    let m = joined (a .after) buffer (a .new-lens .now) (a .new-slots .now) (a .new-erases .now) in
+    ap (λ (q : WroteParts). wroteWith q buffer (a .lens .now) (a .slots .now) (a .erases .now)) (c .cut .ensures)
     ∙ ended-cut (a .reached) s m (g .gone .result) (g .gone .ensures) (c .before .if1 .taken)
 
 returns-2 : tie.Need-returns-2
 returns-2 c buffer =
-    let e = c .before .before in
+    let e = c .before .before .before in
     let g = e .before in
     let a = g .before .before .args in
-    let s = joined (a .numbers) buffer (a .lens .now) (a .slots .now) in
-    let m = joined (a .after) buffer (a .new-lens .now) (a .new-slots .now) in
+    let s = joined (a .numbers) buffer (a .lens .now) (a .slots .now) (a .erases .now) in
+    let m = joined (a .after) buffer (a .new-lens .now) (a .new-slots .now) (a .new-erases .now) in
     ended-done (a .reached) s m (g .gone .result) (g .gone .ensures) (e .if1 .left)
 
 pub ended-spec : {M : Type 1} → statement M

@@ -49,36 +49,36 @@ enum-told-4 : tie.Need-enum-told-4
 enum-told-4 c = search needs
 
 returns : tie.Need-returns
-returns c =
+returns c erases =
     let m = c .before .before in
     let a = m .before .before .args in
-    let s = joined (a .numbers) (a .buffer .now) (a .lens .now) (a .slots .now) in
+    let s = joined (a .numbers) (a .buffer .now) (a .lens .now) (a .slots .now) erases in
     look-refused (a .key) s (a .image .now) L.Off 1 refl refl refl (sym (ap admitNumber (c .enum-told .given .1)) ∙ m .admit .ensures .number)
 
 returns-2 : tie.Need-returns-2
-returns-2 c =
+returns-2 c erases =
     let m = c .before .before in
     let a = m .before .before .args in
-    let s = joined (a .numbers) (a .buffer .now) (a .lens .now) (a .slots .now) in
+    let s = joined (a .numbers) (a .buffer .now) (a .lens .now) (a .slots .now) erases in
     look-refused (a .key) s (a .image .now) L.Size 0 refl refl refl (sym (ap admitNumber (c .enum-told2 .given .1)) ∙ m .admit .ensures .number)
 
 returns-3 : tie.Need-returns-3
-returns-3 c =
+returns-3 c erases =
     let f = c .before .before .before in
     let k = f .before in
     let m = k .before .before in
     let a = m .before .before .args in
-    let s = joined (a .numbers) (a .buffer .now) (a .lens .now) (a .slots .now) in
+    let s = joined (a .numbers) (a .buffer .now) (a .lens .now) (a .slots .now) erases in
     let h : a .key < top = search needs in
     looked (a .key) s (a .image .now) (sym (ap admitNumber (k .enum-told3 .given .1)) ∙ m .admit .ensures .number) (f .find .result) (f .find .ensures) h (found _) (ap hitOf (c .before .hit .given .1))
 
 returns-4 : tie.Need-returns-4
-returns-4 c =
+returns-4 c erases =
     let f = c .before .before in
     let k = f .before in
     let m = k .before .before in
     let a = m .before .before .args in
-    let s = joined (a .numbers) (a .buffer .now) (a .lens .now) (a .slots .now) in
+    let s = joined (a .numbers) (a .buffer .now) (a .lens .now) (a .slots .now) erases in
     let h : a .key < top = search needs in
     looked (a .key) s (a .image .now) (sym (ap admitNumber (k .enum-told3 .given .1)) ∙ m .admit .ensures .number) (f .find .result) (f .find .ensures) h absent (ap hitOf (c .enum-told4 .given .1))
 

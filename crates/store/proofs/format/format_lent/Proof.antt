@@ -28,7 +28,7 @@ returns c buffer =
     let h = c .before in
     let z = h .before in
     let a = z .before .before .before .args in
-    let s = joined (a .numbers) buffer (a .lens .now) (a .slots .now) in
+    let s = joined (a .numbers) buffer (a .lens .now) (a .slots .now) (a .erases .now) in
     rw (c .quiet .ensures) (format-size (a .allowance) (a .torn .now) s (a .image .now) (z .sized .result) (z .sized .ensures) (omega (arith, h .if1 .taken)))
 
 begin-requires : tie.Need-begin-requires
@@ -52,13 +52,13 @@ ended-requires c κs = search needs
 
 returns-2 : tie.Need-returns-2
 returns-2 c buffer =
-    let k = c .before .before .before .before .before in
+    let k = c .before .before .before .before .before .before .before in
     let f = k .before .before in
     let g = f .before .before in
     let l = g .before in
     let z = l .before .sized in
     let a = l .before .before .before .before .args in
-    let s = joined (a .numbers) buffer (a .lens .now) (a .slots .now) in
+    let s = joined (a .numbers) buffer (a .lens .now) (a .slots .now) (a .erases .now) in
     format-ended (a .allowance) (a .torn .now) s (a .image .now) _ (z .result) (z .ensures) (omega (arith, l .if1 .left)) (low (l .before .before)) (g .begin .result) (f .format .result)
     (g .begin .ensures) (f .format .ensures)
     (λ j. omega (arith, k .slice-known2 .given j)) buffer _ (c .ended .ensures buffer)

@@ -55,7 +55,7 @@ returns c buffer =
     let z = h .before in
     let w = z .before .before in
     let a = w .before .args in
-    let s = joined (a .numbers) buffer (a .lens .now) (a .slots .now) in
+    let s = joined (a .numbers) buffer (a .lens .now) (a .slots .now) (a .erases .now) in
     let k = z .sized .ensures in
     rw (c .quiet .ensures) (size-mounts (a .allowance) (a .torn .now) s (a .image .now) (bytes w) (rw (h .if1 .taken) at k))
 
@@ -113,7 +113,7 @@ returns-2 c buffer =
     let e = k .before .before .before .before in
     let w = e .before .before .before in
     let a = w .before .args in
-    let s = joined (a .numbers) buffer (a .lens .now) (a .slots .now) in
+    let s = joined (a .numbers) buffer (a .lens .now) (a .slots .now) (a .erases .now) in
     let m = k .check .ensures in
     rw (c .refused .ensures)
     (invalid-mounts (a .allowance) (a .torn .now) s (a .image .now) (bytes w) (e .before .sized .result) (sizes e .0) (sizes e .1) Blank 7 refl (omega arith) refl
@@ -128,7 +128,7 @@ returns-3 c buffer =
     let e = k .before .before .before .before in
     let w = e .before .before .before in
     let a = w .before .args in
-    let s = joined (a .numbers) buffer (a .lens .now) (a .slots .now) in
+    let s = joined (a .numbers) buffer (a .lens .now) (a .slots .now) (a .erases .now) in
     let m = k .check .ensures in
     rw (c .refused2 .ensures)
     (invalid-mounts (a .allowance) (a .torn .now) s (a .image .now) (bytes w) (e .before .sized .result) (sizes e .0) (sizes e .1) Layout 8 refl (omega arith) refl
@@ -143,7 +143,7 @@ returns-4 c buffer =
     let e = k .before .before .before .before in
     let w = e .before .before .before in
     let a = w .before .args in
-    let s = joined (a .numbers) buffer (a .lens .now) (a .slots .now) in
+    let s = joined (a .numbers) buffer (a .lens .now) (a .slots .now) (a .erases .now) in
     let m = k .check .ensures in
     rw (c .refused3 .ensures)
     (invalid-mounts (a .allowance) (a .torn .now) s (a .image .now) (bytes w) (e .before .sized .result) (sizes e .0) (sizes e .1) Shape 9 refl (omega arith) refl
@@ -154,7 +154,7 @@ same-length-4 c = search needs
 
 returns-5 : tie.Need-returns-5
 returns-5 c buffer =
-    let v = c .before .before .before .before .before in
+    let v = c .before .before .before .before .before .before .before in
     let n = v .before .before in
     let g = n .before .before in
     let o = g .before in
@@ -163,7 +163,7 @@ returns-5 c buffer =
     let e = k .before .before .before .before in
     let w = e .before .before .before in
     let a = w .before .args in
-    let s = joined (a .numbers) buffer (a .lens .now) (a .slots .now) in
+    let s = joined (a .numbers) buffer (a .lens .now) (a .slots .now) (a .erases .now) in
     marked-mounts (a .allowance) (a .torn .now) s (a .image .now) (bytes w) (e .before .sized .result) (sizes e .0) (sizes e .1)
     (k .check .last .1 .1 .0) (k .check .last .1 .1 .1 .0) (t .commit .given .0 .0) (t .commit .given .0 .1 .0) (meaning t)
     (n .retire .last .0) (low w) (g .begin .result) (n .retire .result)

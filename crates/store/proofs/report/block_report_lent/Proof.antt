@@ -1,4 +1,4 @@
-use mathlib.Core.Path.{sym, ap, _∙_}
+use mathlib.Core.Path.{refl, sym, ap, _∙_}
 use Prim.Native.Nat.{_+_, _*_, _-_}
 use native.Mathlib.Nat.{add-sub-cancel-left}
 use native.Mathlib.Omega.{arith}
@@ -27,7 +27,7 @@ returns c buffer lens slots =
     let k = c .before in
     let m = k .before .before in
     let a = m .before .before .args in
-    let s = joined (a .numbers) buffer lens slots in
+    let s = joined (a .numbers) buffer lens slots (a .erases .now) in
     report-absent (a .at) s (a .image .now) (sym (ap admitNumber (k .enum-told3 .given .1)) ∙ m .admit .ensures .number) (omega (arith, c .if1 .taken))
 
 mul-a : tie.Need-mul-a
@@ -52,31 +52,42 @@ part-free-pages-end c =
 free-pages-requires : tie.Need-free-pages-requires
 free-pages-requires c κs = search needs
 
+mul-figure : tie.Need-mul-figure
+mul-figure c = search needs
+
+element-copy-out-figure : tie.Need-element-copy-out-figure
+element-copy-out-figure c =
+    let e = c .before .before in
+    let k = e .before in
+    let h = k .before .before .admit .ensures .chip (k .enum-told3 .given .1) in
+    omega (arith, h .most, e .if1 .left)
+
 returns-2 : tie.Need-returns-2
 returns-2 c buffer lens slots =
     let m = c .before .before in
     let a = m .before .before .args in
-    let s = joined (a .numbers) buffer lens slots in
+    let s = joined (a .numbers) buffer lens slots (a .erases .now) in
     report-first (a .at) s (a .image .now) R.Off (omega arith) (sym (ap admitNumber (c .enum-told .given .1)) ∙ m .admit .ensures .number)
 
 returns-3 : tie.Need-returns-3
 returns-3 c buffer lens slots =
     let m = c .before .before in
     let a = m .before .before .args in
-    let s = joined (a .numbers) buffer lens slots in
+    let s = joined (a .numbers) buffer lens slots (a .erases .now) in
     report-first (a .at) s (a .image .now) R.Size (omega arith) (sym (ap admitNumber (c .enum-told2 .given .1)) ∙ m .admit .ensures .number)
 
 returns-4 : tie.Need-returns-4
 returns-4 c buffer lens slots =
-    let e = c .before .before in
+    let f = c .before in
+    let e = f .before .before in
     let k = e .before in
     let m = k .before .before in
     let a = m .before .before .args in
-    let s = joined (a .numbers) buffer lens slots in
+    let s = joined (a .numbers) buffer lens slots (a .erases .now) in
     let h = m .admit .ensures .chip (k .enum-told3 .given .1) in
     report-free (a .at) s (a .image .now) (sym (ap admitNumber (k .enum-told3 .given .1)) ∙ m .admit .ensures .number)
-    (omega (arith, e .if1 .left)) (h .size) _ _ (a .at * 16896 + 16896 - a .at * 16896) (add-sub-cancel-left (a .at * 16896) 16896)
-    (c .free-pages .ensures .0) (c .free-pages .ensures .1)
+    (omega (arith, e .if1 .left)) (h .size) _ _ _ (a .at * 16896 + 16896 - a .at * 16896) (add-sub-cancel-left (a .at * 16896) 16896)
+    (f .free-pages .ensures .0) (f .free-pages .ensures .1) refl
 
 pub block-report-lent-spec : {M : Type 1} → statement M
 block-report-lent-spec =
@@ -93,6 +104,8 @@ block-report-lent-spec =
     part-free-pages-start
     part-free-pages-end
     free-pages-requires
+    mul-figure
+    element-copy-out-figure
     returns-2
     returns-3
     returns-4)

@@ -7,10 +7,10 @@ use Rattle.store.proofs.update.delete_admitted.Statement.{statement}
 use Rattle.store.proofs.update.delete_admitted.Tie as tie
 
 returns : tie.Need-returns
-returns c =
+returns c erases =
     let t = c .before .before in
     let a = t .args in
-    let s = joined (a .numbers) (a .buffer .now) (a .lens .now) (a .slots .now) in
+    let s = joined (a .numbers) (a .buffer .now) (a .lens .now) (a .slots .now) erases in
     delete-many s (a .image .now) (t .pre .1) (c .if1 .taken) (a .key)
 
 mul-limit : tie.Need-mul-limit
@@ -35,21 +35,21 @@ add-n : tie.Need-add-n
 add-n c = search needs
 
 returns-2 : tie.Need-returns-2
-returns-2 c =
+returns-2 c erases =
     let f = c .before .before in
     let t = f .before .before .before .before .before in
     let a = t .args in
-    let s = joined (a .numbers) (a .buffer .now) (a .lens .now) (a .slots .now) in
+    let s = joined (a .numbers) (a .buffer .now) (a .lens .now) (a .slots .now) erases in
     delete-absent s (a .image .now) (t .pre .1) (a .key) (f .find .result) (f .find .ensures) (c .enum-told .given .1)
 
 returns-3 : tie.Need-returns-3
-returns-3 c =
+returns-3 c erases =
     let d = c .before in
     let h = d .before .before in
     let f = h .before .before in
     let t = f .before .before .before .before .before in
     let a = t .args in
-    let s = joined (a .numbers) (a .buffer .now) (a .lens .now) (a .slots .now) in
+    let s = joined (a .numbers) (a .buffer .now) (a .lens .now) (a .slots .now) erases in
     let hk : a .key < top = search needs in
     delete-accepted s (a .image .now) (t .pre .1) (a .key) (f .find .result) (f .find .ensures) hk _ (d .delete .result) (d .delete .ensures) _ (h .enum-told2 .given .1)
 

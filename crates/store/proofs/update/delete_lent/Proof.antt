@@ -41,11 +41,11 @@ number-requires c κs = search needs
 
 -- src/update.rt:140:9
 returns : tie.Need-returns
-returns c =
+returns c erases =
     let n = c .before in
     let t = n .before in
     let a = t .before .before .args in
-    let s = joined (a .numbers) (a .buffer .now) (a .lens .now) (a .slots .now) in
+    let s = joined (a .numbers) (a .buffer .now) (a .lens .now) (a .slots .now) erases in
     updates-refused (deletion (a .key)) s (a .image .now) _ (t .update-tests .ensures) refl (omega (arith, c .if1 .taken, told n))
 
 -- src/update.rt:142:5
@@ -55,12 +55,12 @@ delete-admitted-requires c κs =
 
 -- src/update.rt:127:1
 returns-2 : tie.Need-returns-2
-returns-2 c =
+returns-2 c erases =
     let e = c .before .before in
     let a = e .before .before .before .before .args in
-    let s = joined (a .numbers) (a .buffer .now) (a .lens .now) (a .slots .now) in
+    let s = joined (a .numbers) (a .buffer .now) (a .lens .now) (a .slots .now) erases in
     let w = passed e in
-    updates-done (deletion (a .key)) s (a .image .now) _ (w .0) (delete-proper (a .key)) (w .2) (c .delete-admitted .ensures)
+    updates-done (deletion (a .key)) s (a .image .now) _ (w .0) (delete-proper (a .key)) (w .2) (c .delete-admitted .ensures erases)
 
 pub delete-lent-spec : {M : Type 1} → statement M
 delete-lent-spec =

@@ -12,10 +12,10 @@ use Rattle.store.proofs.update.insert_admitted.Statement.{statement}
 use Rattle.store.proofs.update.insert_admitted.Tie as tie
 
 returns : tie.Need-returns
-returns c =
+returns c erases =
     let t = c .before .before in
     let a = t .args in
-    let s = joined (a .numbers) (a .buffer .now) (a .lens .now) (a .slots .now) in
+    let s = joined (a .numbers) (a .buffer .now) (a .lens .now) (a .slots .now) erases in
     insert-many s (a .image .now) (t .pre .1) (c .if1 .taken) (a .key) (a .value)
 
 mul-limit : tie.Need-mul-limit
@@ -28,15 +28,15 @@ insert-requires : tie.Need-insert-requires
 insert-requires c κs = search needs
 
 returns-2 : tie.Need-returns-2
-returns-2 c =
+returns-2 c erases =
     let f = c .before in
     let t = f .before .before .before .before .before in
     let a = t .args in
-    let s = joined (a .numbers) (a .buffer .now) (a .lens .now) (a .slots .now) in
+    let s = joined (a .numbers) (a .buffer .now) (a .lens .now) (a .slots .now) erases in
     let hk : a .key < top = search needs in
     let hv : a .value < top = search needs in
     let hl : 8 * a .numbers .blocks ≤ 256 = omega (arith, t .pre .0 .most) in
-    subst (λ (new : List ℕ). InsertsIn (a .key) (a .value) s (a .image .now) (updatedWith (record { answer = Nodes; numbers = a .numbers }) new (a .lens .now) (a .slots .now)))
+    subst (λ (new : List ℕ). InsertsIn (a .key) (a .value) s (a .image .now) (updatedWith (record { answer = Nodes; numbers = a .numbers }) new (a .lens .now) (a .slots .now) erases))
     (sym (f .insert .ensures .whole (c .if2 .taken)))
     (insert-five s (a .image .now) (t .pre .1) (a .key) (a .value) hk hv hl _ (f .insert .result) (f .insert .ensures) (c .if2 .taken))
 
@@ -44,11 +44,11 @@ add-n : tie.Need-add-n
 add-n c = search needs
 
 returns-3 : tie.Need-returns-3
-returns-3 c =
+returns-3 c erases =
     let f = c .before .before in
     let t = f .before .before .before .before .before in
     let a = t .args in
-    let s = joined (a .numbers) (a .buffer .now) (a .lens .now) (a .slots .now) in
+    let s = joined (a .numbers) (a .buffer .now) (a .lens .now) (a .slots .now) erases in
     let hk : a .key < top = search needs in
     let hv : a .value < top = search needs in
     let hl : 8 * a .numbers .blocks ≤ 256 = omega (arith, t .pre .0 .most) in

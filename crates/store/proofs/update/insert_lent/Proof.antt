@@ -41,11 +41,11 @@ number-requires c κs = search needs
 
 -- src/update.rt:121:9
 returns : tie.Need-returns
-returns c =
+returns c erases =
     let n = c .before in
     let t = n .before in
     let a = t .before .before .args in
-    let s = joined (a .numbers) (a .buffer .now) (a .lens .now) (a .slots .now) in
+    let s = joined (a .numbers) (a .buffer .now) (a .lens .now) (a .slots .now) erases in
     updates-refused (insertion (a .key) (a .value)) s (a .image .now) _ (t .update-tests .ensures) refl (omega (arith, c .if1 .taken, told n))
 
 -- src/update.rt:123:5
@@ -55,12 +55,12 @@ insert-admitted-requires c κs =
 
 -- src/update.rt:107:1
 returns-2 : tie.Need-returns-2
-returns-2 c =
+returns-2 c erases =
     let e = c .before .before in
     let a = e .before .before .before .before .args in
-    let s = joined (a .numbers) (a .buffer .now) (a .lens .now) (a .slots .now) in
+    let s = joined (a .numbers) (a .buffer .now) (a .lens .now) (a .slots .now) erases in
     let w = passed e in
-    updates-done (insertion (a .key) (a .value)) s (a .image .now) _ (w .0) (insert-proper (a .key) (a .value)) (w .2) (c .insert-admitted .ensures)
+    updates-done (insertion (a .key) (a .value)) s (a .image .now) _ (w .0) (insert-proper (a .key) (a .value)) (w .2) (c .insert-admitted .ensures erases)
 
 pub insert-lent-spec : {M : Type 1} → statement M
 insert-lent-spec =
