@@ -118,15 +118,18 @@ impl Both {
         }
     }
 
-    /// The report of each block, and of one past the last, compared.
-    pub fn block_reports(&self) {
-        for block in 0..=(self.image.len() / BLOCK) as u32 {
-            assert_eq!(
-                self.library.block_report(&self.image, block),
-                twin::block_report(&self.twin, &self.twin_image, block),
-                "block report"
-            );
-        }
+    /// The report of a block: its free pages, the first free one and its erases on record, compared; else the refusal.
+    fn block_report(&self, block: u32) -> Result<(u32, u32, u64), u32> {
+        let report = self.library.block_report(&self.image, block);
+        assert_eq!(twin::block_report(&self.twin, &self.twin_image, block), report, "block report");
+        report
+    }
+
+    /// The report of each block; that of one past the last is refused.
+    pub fn block_reports(&self) -> Vec<(u32, u32, u64)> {
+        let blocks = (self.image.len() / BLOCK) as u32;
+        assert!(self.block_report(blocks).is_err());
+        (0..blocks).map(|block| self.block_report(block).unwrap()).collect()
     }
 
     pub fn live_pages(&self) -> usize {

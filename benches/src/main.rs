@@ -1,4 +1,5 @@
-//! The benchmarks: times of the free-page test, times of the proved library against the twin, and wear against SQLite and LMDB.
+//! The benchmarks: times of the free-page test, times of the proved library against the twin, wear against SQLite and LMDB, and the
+//! erases of each block in long runs.
 
 mod both;
 mod clock;
@@ -6,6 +7,7 @@ mod free;
 mod growth;
 mod library;
 mod lmdb;
+mod long;
 mod others;
 mod profile;
 mod random;
@@ -18,9 +20,10 @@ mod twin;
 mod wear;
 mod work;
 
-/// Rounds of a call, and events of a workload.
+/// Rounds of a call, events of a workload, and commits of a long run.
 const ROUNDS: usize = 200;
 const EVENTS: usize = 16_000;
+const COMMITS: usize = 5_000;
 
 /// A page that starts with 0 is to be tested in less than this share of a free page's time.
 const SHARE: f64 = 0.25;
@@ -84,6 +87,12 @@ fn wear(events: usize, keep: bool) {
     }
 }
 
+/// The table of the long runs. The run fails where a block is erased by two commits with none between them, or a commit that erases
+/// leaves no page free.
+fn long(commits: usize, keep: bool) {
+    show(&[("long", long::table(&long::runs(commits)))], keep);
+}
+
 fn main() {
     let words: Vec<String> = std::env::args().collect();
     let words: Vec<&str> = words.iter().map(String::as_str).collect();
@@ -92,22 +101,30 @@ fn main() {
             free(true);
             times(ROUNDS, true);
             wear(EVENTS, true);
+            long(COMMITS, true);
         }
         ["--times"] => {
             free(true);
             times(ROUNDS, true);
         }
         ["--free"] => free(true),
-        ["--wear"] => wear(EVENTS, true),
+        ["--wear"] => {
+            wear(EVENTS, true);
+            long(COMMITS, true);
+        }
+        ["--long"] => long(COMMITS, true),
         ["--quick"] => {
             free(false);
             times(3, false);
             wear(160, false);
+            long(100, false);
         }
         ["profile", call, blocks, rounds, who] => profile::run(call, blocks.parse().unwrap(), rounds.parse().unwrap(), who),
         ["put", name, file] => report::put(name, &std::fs::read_to_string(file).unwrap()),
         ["border"] => free::child(),
         ["child", store, file, folder] => others::child(store, file, folder),
-        _ => eprintln!("words: none, --times, --free, --wear, --quick, profile CALL BLOCKS ROUNDS library or twin, or put NAME FILE"),
+        _ => {
+            eprintln!("words: none, --times, --free, --wear, --long, --quick, profile CALL BLOCKS ROUNDS library or twin, or put NAME FILE")
+        }
     }
 }

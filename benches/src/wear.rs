@@ -86,23 +86,21 @@ pub fn flash_table(lines: &[Line]) -> String {
     out
 }
 
-/// The table of the commits: pages of one, erases for 1,000, the erases of the blocks, and the pages of the references.
+/// The table of the commits: pages of one, erases for 1,000, and the pages of the references.
 pub fn commit_table(lines: &[Line]) -> String {
     let mut out = String::from(
-        "| Work | B | Pages a commit | Erases for 1,000 commits | Erases of a block, least and most | BFTL, pages a commit | A page for each changed node |\n\
-         |---|---|---|---|---|---|---|\n",
+        "| Work | B | Pages a commit | Erases for 1,000 commits | BFTL, pages a commit | A page for each changed node |\n\
+         |---|---|---|---|---|---|\n",
     );
     for l in lines {
         let w = &l.wear;
         let commits = w.commits as f64;
         out += &format!(
-            "| {} | {} | {:.2} | {:.0} | {} to {} | {:.2} | {:.2} |\n",
+            "| {} | {} | {:.2} | {:.0} | {:.2} | {:.2} |\n",
             w.work,
             w.blocks,
             w.pages as f64 / commits,
             w.erases as f64 * 1000.0 / commits,
-            w.worn.iter().min().unwrap(),
-            w.worn.iter().max().unwrap(),
             w.reference.bftl as f64 / commits,
             w.reference.nodes as f64 / commits
         );

@@ -14,8 +14,8 @@ pub enum Event {
     Measured,
 }
 
-/// What a workload did: its events; of those that count the pages programmed, the blocks erased, how often each block was, and the pages
-/// that the two references would write.
+/// What a workload did: its events; of those that count the pages programmed, the blocks erased, and the pages that the two references
+/// would write.
 pub struct Wear {
     pub work: &'static str,
     pub blocks: usize,
@@ -25,7 +25,6 @@ pub struct Wear {
     pub commits: usize,
     pub pages: u64,
     pub erases: u64,
-    pub worn: Vec<u64>,
     pub reference: Reference,
 }
 
@@ -64,11 +63,10 @@ impl Run {
         self.wear.reference.commit(self.both.twin.buffered());
         let before = self.both.image.clone();
         let counts = self.both.commit().counts;
-        let erased: Vec<usize> = (0..self.wear.blocks).filter(|&b| was_erased(&before, &self.both.image, b)).collect();
+        let erased = (0..self.wear.blocks).filter(|&b| was_erased(&before, &self.both.image, b)).count();
         assert_eq!(self.both.last_pages(), counts.programs, "the pages programmed");
-        assert_eq!(erased.len(), counts.erases as usize, "the blocks erased");
-        erased.iter().for_each(|&b| self.wear.worn[b] += 1);
-        if !erased.is_empty() {
+        assert_eq!(erased, counts.erases as usize, "the blocks erased");
+        if erased > 0 {
             self.both.block_reports();
         }
         self.wear.commits += 1;
@@ -159,8 +157,7 @@ impl Run {
         self.wear.events.push(Event::Measured);
         let events = std::mem::take(&mut self.wear.events);
         let reference = self.wear.reference.counted_anew();
-        let worn = vec![0; self.wear.blocks];
-        self.wear = Wear { counted: 0, commits: 0, pages: 0, erases: 0, worn, reference, events, ..self.wear };
+        self.wear = Wear { counted: 0, commits: 0, pages: 0, erases: 0, reference, events, ..self.wear };
     }
 }
 
@@ -172,8 +169,7 @@ pub fn run(work: &'static str, blocks: usize, events: usize) -> Wear {
     let (both, keys) = if rising { (Both::formatted(blocks), Vec::new()) } else { Both::filled(blocks, usize::MAX, &mut random) };
     let list: Vec<Event> = keys.iter().map(|&k| Event::Insert(k, 0)).collect();
     let count = if rising { KEPT as usize } else { keys.len() };
-    let (worn, reference) = (vec![0; blocks], Reference::new());
-    let wear = Wear { work, blocks, keys: count, events: list, counted: 0, commits: 0, pages: 0, erases: 0, worn, reference };
+    let wear = Wear { work, blocks, keys: count, events: list, counted: 0, commits: 0, pages: 0, erases: 0, reference: Reference::new() };
     let mut run = Run { both, keys, random, wear };
     let mut next = 0;
     while !rising && run.wear.erases == 0 {

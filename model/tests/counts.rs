@@ -1,6 +1,7 @@
-//! The three counts of format, mount and commit, data programs, marks set, erases, and the erases of blocks; made by hand.
+//! The three counts of format, mount and commit, data programs, marks set, erases, and the erases of blocks, which have to pay: by hand.
 mod erases;
 mod hand;
+mod pays;
 
 use hand::{data, obsolete, reply, write, Hand};
 use model::model::chip::{Operation, DATA, PAGE, TORN, USED};

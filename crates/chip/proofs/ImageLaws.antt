@@ -96,6 +96,12 @@ module _ (g : Geometry) (xs : List ℕ) where
     unfolding pagesOf
     same-cut ys h = rw (h, en)
 
+    -- two images of this length with the same pages are the same
+    pub same-image : (ys : List ℕ) → length ys ≡ length xs → pagesOf g ys ≡ pagesOf g xs → ys ≡ xs
+    same-image ys h e =
+        let each : List Page → List ℕ = flat (λ (x : Page). x) in
+        sym (ap each (same-cut ys h) ∙ flat-cut (pageSize g) n ys (h ∙ lx)) ∙ ap each e ∙ pages-bytes
+
     page-fits : (p : ℕ) → p < n → p * pageSize g + pageSize g ≤ length xs
     page-fits p h =
         let d : ℕ = n - (p + 1) in

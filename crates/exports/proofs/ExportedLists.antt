@@ -8,8 +8,9 @@ use lib.ListN.{getD}
 use Rattle.chip.specs.Geometry.{small}
 use Rattle.tree.specs.Tree.{Table}
 use Rattle.promise.specs.Plain.{Plain}
-use Rattle.promise.specs.Steps.{Step, Hands, Only, Started, Uncut, lastHands, starts, next, Agrees}
+use Rattle.promise.specs.Steps.{Step, Hands, NoFormat, Only, Started, Uncut, lastHands, starts, next, Agrees}
 use Rattle.promise.specs.Erases.{Unworn, sinceStart, wholeErases}
+use Rattle.promise.specs.Wear.{NoneCut, Unbroken}
 use Rattle.store.specs.declared.state.Numbers.{Numbers}
 use Rattle.store.specs.declared.state.State.{State}
 use Rattle.store.specs.declared.step.Call.{Call}
@@ -21,7 +22,7 @@ use Rattle.store.specs.Parts.{joined}
 use Rattle.store.specs.Step.{ofLook}
 use Rattle.store.specs.Lent.{stateFrom, Meets, lentStep, RunsLent}
 use Rattle.store.proofs.StepLaws.{look-answer}
-use Rattle.store.proofs.LentLists.{lent-figures, lent-promise}
+use Rattle.store.proofs.LentLists.{lent-figures, lent-promise, lent-unbroken}
 use Rattle.exports.specs.Told.{valueIn}
 use Rattle.exports.specs.Words.{numbersIn}
 use Rattle.exports.specs.Exported.{Memory, partsIn, Ensures, Exported, answerBy, opsBy, exportedStep, promiseStep, RunsExported, TellsAnswer, AgreesTold}
@@ -128,3 +129,11 @@ exported-figures m i xs g r z =
     (λ (ys : List (Step (index small))). (t : State) → lastHands (index small) (Only (index small) (stateFrom (partsIn m))) ys t → t .on ≡ true
     → (b : ℕ) → getD (t .erases) b 0 ≡ wholeErases small (index small) b (sinceStart (index small) ys))
     (sym (steps-same xs)) (lent-figures (partsIn m) i (map exportedStep xs) g (exported-runs (Only (index small) (stateFrom (partsIn m))) i xs r) z)
+
+-- an erase pays: from a state that calls gave, with no call cut and no format finished, the list is one of which that is said
+pub exported-unbroken : (m : Memory) (i : List ℕ) (xs : List Exported) → Good small (stateFrom (partsIn m)) i → RunsExported (Only (index small) (stateFrom (partsIn m))) i xs
+    → NoneCut (index small) (map promiseStep xs) → NoFormat (index small) (map promiseStep xs) → Unbroken small (index small) (stateFrom (partsIn m)) i (map promiseStep xs)
+exported-unbroken m i xs g r c f =
+    let e = steps-same xs in
+    subst (Unbroken small (index small) (stateFrom (partsIn m)) i) (sym e)
+    (lent-unbroken (partsIn m) i (map exportedStep xs) g (exported-runs (Only (index small) (stateFrom (partsIn m))) i xs r) (subst (NoneCut (index small)) e c) (subst (NoFormat (index small)) e f))

@@ -2,11 +2,11 @@
 use mathlib.Core.Path.{_≡_, refl}
 use mathlib.Core.Bool.{Bool, true, false, not}
 use mathlib.Core.List.{List, [], _∷_, _++_}
-use Prim.Native.Nat.{_+_, _≤_}
+use Prim.Native.Nat.{ℕ, zero, suc, _+_, _<_, _≤_}
 use native.Mathlib.Omega.{arith}
-use lib.ListN.{length}
+use lib.ListN.{length, getD}
 use Rattle.lists.specs.Lists.{filter, all, All, none, more, bit, count}
-use Rattle.lists.proofs.Tests.{cases}
+use Rattle.lists.proofs.Tests.{cases, clash}
 
 module _ {A : Type 0} where
   pub filter-append : (p : A → Bool) (xs ys : List A) → filter p (xs ++ ys) ≡ filter p xs ++ filter p ys
@@ -37,6 +37,12 @@ module _ {A : Type 0} where
   pub count-most : (p : A → Bool) (xs : List A) → count p xs ≤ length xs
   count-most p [] = omega arith
   count-most p (x ∷ xs) = cases (p x) (λ t. rw t (omega (arith, count-most p xs))) (λ t. rw t (omega (arith, count-most p xs)))
+
+  -- an element that passes, and what stands past the end does not
+  pub count-some : (p : A → Bool) (xs : List A) (k : ℕ) (d : A) → p d ≡ false → p (getD xs k d) ≡ true → 0 < count p xs
+  count-some p [] k d n h = clash h n
+  count-some p (x ∷ xs) zero d n h = rw h (omega arith)
+  count-some p (x ∷ xs) (suc k) d n h = omega (arith, count-some p xs k d n h)
 
 -- a test counts at most 1
 pub bit-most : (b : Bool) → bit b ≤ 1

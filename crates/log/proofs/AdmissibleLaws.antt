@@ -10,14 +10,14 @@ use lib.Dec.{leb}
 use lib.ListN.{getD, length, take}
 use lib.Seq.{length-take-le}
 use borrow.Author.Tests.{not-true}
-use Rattle.lists.specs.Lists.{All, all, any, filter, tab, Diff}
+use Rattle.lists.specs.Lists.{All, all, any, count, filter, tab, Diff}
 use Rattle.lists.proofs.Alls.{All-filter, All-head, All-map, All-zip, any-false}
 use Rattle.lists.proofs.Filters.{filter-is}
 use Rattle.lists.proofs.Flats.{length-tab}
 use Rattle.lists.proofs.Tests.{and-left, and-right, cases, clash}
 use Rattle.lists.proofs.Sets.{All-tab, Mem, diff-filter, filter-same, tab-at, tab-diff, tab-range, mem-at}
 use Rattle.chip.specs.Geometry.{Geometry}
-use Rattle.chip.specs.Page.{Page}
+use Rattle.chip.specs.Page.{Page, isFree}
 use Rattle.chip.specs.Chip.{Legal, inBlock, run}
 use Rattle.chip.proofs.Runs.{Sized, run-length, with-power}
 use Rattle.chip.specs.Power.{takesEffect}
@@ -31,7 +31,7 @@ use Rattle.views.specs.Table.{Node, fresh, isWell, meaning, means, events, turn
 use Rattle.views.specs.Groups.{isReset, own, present, Distinct}
 use Rattle.views.proofs.Meanings.{Kept, kept-node, nodeIn}
 use Rattle.log.specs.Commit.{Pack, groupsOf, unitsOfPacks, ValidSheet}
-use Rattle.log.specs.Plan.{Plan, erases, freeAt, countFrom, headBlock, isUsed, newsOf, nodeAt, opsOf, pagesIn, planOn, rewrite, spareBlocks}
+use Rattle.log.specs.Plan.{Plan, erases, countFrom, headBlock, isUsed, newsOf, nodeAt, opsOf, planOn, rewrite, spareBlocks, isReclaimed, whollyFree}
 use Rattle.log.specs.Admissible.{Admissible, Target, Assigned, Assignment, Contents, contentsOf, unwritten, staysUnused, pagePacks, allPacks, candidatePlaces, planFrom, inPage, unusedBlocks, writtenOf}
 use Rattle.log.proofs.PlanBlocks.{Room, head-below, head-used, unused-all, unused-diff, unused-many}
 use Rattle.log.proofs.PlanBound.{erases-few, commit-sized}
@@ -80,20 +80,19 @@ pub record Safe (g : Geometry) (limit B h : ℕ) (torn : List ℕ) (ps : List Pa
   pub sizes : (n : ℕ) → All (Sized g) (imageAfter g torn ps G q n)
   pub long : (n : ℕ) → length (imageAfter g torn ps G q n) ≡ length ps
   -- a finished commit leaves a page free, and the next one, by whichever plan, erases no block that this one erased
-  pub page-free : (n : ℕ) → length (opsOf g G q) ≤ n → (p : ℕ) × (freeAt (imageAfter g torn ps G q n) p ≡ true)
+  pub page-free : (n : ℕ) → length (opsOf g G q) ≤ n → 0 < count isFree (imageAfter g torn ps G q n)
   pub rests : (n : ℕ) → length (opsOf g G q) ≤ n → (N : Contents) (A : Assignment)
       → All (λ b. Mem b (planFrom g limit B (imageAfter g torn ps G q n) (tab 0 limit (nodeAfter g limit ps G q)) (suc G) N A .erased) → ⊥) (q .erased)
 
 -- ---- no plan erases a block that is used or wholly free
 no-erase : (g : Geometry) (ps : List Page) (ws bs : List ℕ) (tb : List Node) (G b : ℕ) → All (λ c. isUsed g tb G (liveFrom g 0 ps) c ≡ false) bs
-    → (isUsed g tb G (liveFrom g 0 ps) b ≡ true) ⊎ (all (freeAt ps) (pagesIn g b) ≡ true) → Mem b (erases g ps ws bs) → ⊥
+    → (isUsed g tb G (liveFrom g 0 ps) b ≡ true) ⊎ (whollyFree g ps b ≡ true) → Mem b (erases g ps ws bs) → ⊥
 no-erase g ps ws bs tb G b a s m =
-    let q : ℕ → Bool = λ (c : ℕ). any (inBlock g c) ws && not (all (freeAt ps) (pagesIn g c)) in
-    ⊎-elim {C = ⊥} (λ u. clash u (mem-at m (All-filter q a)))
-    (λ w. clash (and-right (any (inBlock g b) ws) (not (all (freeAt ps) (pagesIn g b))) (mem-at m (filter-is q bs))) (ap not w)) s
+    ⊎-elim {C = ⊥} (λ u. clash u (mem-at m (All-filter (isReclaimed g ps ws) a)))
+    (λ w. clash (and-right (any (inBlock g b) ws) (not (whollyFree g ps b)) (mem-at m (filter-is (isReclaimed g ps ws) bs))) (ap not w)) s
 
 pub no-plan : (g : Geometry) (limit B : ℕ) (ps : List Page) (tb : List Node) (G : ℕ) (N : Contents) (A : Assignment) (b : ℕ) → headBlock g ps < B
-    → (isUsed g tb G (liveFrom g 0 ps) b ≡ true) ⊎ (all (freeAt ps) (pagesIn g b) ≡ true) → Mem b (planFrom g limit B ps tb G N A .erased) → ⊥
+    → (isUsed g tb G (liveFrom g 0 ps) b ≡ true) ⊎ (whollyFree g ps b ≡ true) → Mem b (planFrom g limit B ps tb G N A .erased) → ⊥
 no-plan g limit B ps tb G N A b l s m =
     no-erase g ps (take (suc (length (allPacks N A limit))) (candidatePlaces g B ps tb G)) (unusedBlocks g B ps tb G) tb G b
     (All-map (λ c h. h .2) (unused-all g B tb G (liveFrom g 0 ps) (headBlock g ps) l)) s m
@@ -259,8 +258,8 @@ module _ {g : Geometry} {limit B : ℕ} {torn : List ℕ} (ch : Chip g limit B t
         views = views ch rd choice;
         lists = plan ch rd choice .well;
         cost = cost-is ch rd choice;
-        erased-once = diff-filter (λ (b : ℕ). any (inBlock g b) W && not (all (freeAt ps) (pagesIn g b))) (unusedBlocks g B ps tb G) (choice .diff);
-        erased-unused = All-filter (λ (b : ℕ). any (inBlock g b) W && not (all (freeAt ps) (pagesIn g b))) (All-map (λ b a. a .2) (choice .are));
+        erased-once = diff-filter (isReclaimed g ps W) (unusedBlocks g B ps tb G) (choice .diff);
+        erased-unused = All-filter (isReclaimed g ps W) (All-map (λ b a. a .2) (choice .are));
         erases-few = few-erased;
         few = omega (arith, ops-few ch rd choice, few-erased);
         pages-few = written-few ch rd choice;
@@ -269,7 +268,7 @@ module _ {g : Geometry} {limit B : ℕ} {torn : List ℕ} (ch : Chip g limit B t
         legal = legal ch rd choice;
         sizes = λ n. commit-sized g torn (Q .erased) (newsOf g G Q) ps n (ch .torn-size) (plan ch rd choice .sizes) (rd .sizes);
         long = λ n. run-length g torn (with-power n ps) (opsOf g G Q);
-        page-free = λ n l. let r = page-left ch rd choice n l in (r .place, r .is);
+        page-free = page-left ch rd choice;
         rests = λ n l N D.
             All-map
             (λ b s m. no-plan g limit B (imageAfter g torn ps G Q n) (tab 0 limit (nodeAfter g limit ps G Q)) (suc G) N D b (next-head n l) s m)

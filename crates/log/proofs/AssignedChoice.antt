@@ -2,7 +2,7 @@
 -- all that the cut law asks, room and bounds. Assumes nothing.
 use mathlib.Core.Path.{_≡_, sym, ap, _∙_, subst}
 use mathlib.Core.Logic.{_⊎_, inl, inr}
-use mathlib.Core.Bool.{true, false, cond, _&&_, not}
+use mathlib.Core.Bool.{true, false, cond}
 use mathlib.Core.List.{List, [], _∷_, map, foldl}
 use Prim.Native.Nat.{ℕ, suc, _+_, _*_, _^_, _≤_, _<_}
 use native.Mathlib.Nat.{mul-le-mul-right}
@@ -32,7 +32,7 @@ use Rattle.views.proofs.Meanings.{Kept, Opened, inOrder, kept-well, nodeIn, ope
 use Rattle.views.proofs.Rooms.{Outside, Unlisted, still-unlisted}
 use Rattle.views.proofs.ViewLaws.{Apart}
 use Rattle.log.specs.Commit.{Pack, Sheet, cleared, commitOps, groupsOf, newPages, unitsOfPacks, ValidSheet, groupAt, pagesFrom}
-use Rattle.log.specs.Plan.{erases, freeAt, isUsed, pagesIn, places, sheets}
+use Rattle.log.specs.Plan.{erases, isUsed, places, sheets, isReclaimed}
 use Rattle.log.proofs.CommitBuilt.{NextCommit, events-new, length-new, planned, shows}
 use Rattle.log.proofs.CommitLaws.{cut-law, finished-kept}
 use Rattle.log.proofs.KindLaws.{length-ops}
@@ -230,12 +230,12 @@ module _ {g : Geometry} {limit B : ℕ} {torn : List ℕ} (ch : Chip g limit B t
   -- no list names a page of an erased block, and no page of commit G stands in one
   pub unlisted : All (Unlisted g limit T) es
   unlisted =
-      All-filter (λ (b : ℕ). any (inBlock g b) ws && not (all (freeAt ps) (pagesIn g b)))
+      All-filter (isReclaimed g ps ws)
       (All-map (λ b h. unused-unlisted g limit T G (liveFrom g 0 ps) b (rw (← op .tables) (h .2))) (C .are))
 
   pub outside : All (Outside g G (inOrder g ps)) es
   outside =
-      All-filter (λ (b : ℕ). any (inBlock g b) ws && not (all (freeAt ps) (pagesIn g b)))
+      All-filter (isReclaimed g ps ws)
       (All-map (λ b h. All-sort before (unused-outside g limit T G (liveFrom g 0 ps) b (rw (← op .tables) (h .2)))) (C .are))
 
   -- torn bytes for a whole data area
@@ -278,7 +278,7 @@ module _ {g : Geometry} {limit B : ℕ} {torn : List ℕ} (ch : Chip g limit B t
   pub legal : Legal g ps (commitOps es news)
   legal =
       commit-legal g es news ps
-      (All-filter (λ (b : ℕ). any (inBlock g b) ws && not (all (freeAt ps) (pagesIn g b))) (All-map (λ b h. on-chip b (h .0)) (C .are))) (plan .sizes) free apart
+      (All-filter (isReclaimed g ps ws) (All-map (λ b h. on-chip b (h .0)) (C .are))) (plan .sizes) free apart
     where
       on-chip : (b : ℕ) → b < B → b * g .pages + g .pages ≤ length ps
       on-chip b l = let m : suc b * g .pages ≤ B * g .pages = mul-le-mul-right (g .pages) l in omega (arith, rd .length-is)

@@ -1,7 +1,7 @@
 -- A finished commit leaves a page free, and what it erased is then used or wholly free. Assumes nothing.
 use mathlib.Core.Path.{_≡_, refl, sym, ap, _∙_}
 use mathlib.Core.Logic.{_⊎_, inl, inr}
-use mathlib.Core.Bool.{true, _&&_, not}
+use mathlib.Core.Bool.{true, false, _&&_}
 use mathlib.Core.List.{List, [], _∷_}
 use Prim.Native.Nat.{ℕ, zero, suc, _+_, _*_, _≤_, _<_}
 use native.Mathlib.Omega.{arith}
@@ -9,8 +9,9 @@ use lib.Dec.{eqb}
 use lib.ListN.{length, replicate, replicate-append-replicate}
 use lib.Seq.{length-take-le}
 use borrow.Author.Tests.{eq-eqb}
-use Rattle.lists.specs.Lists.{All, At, all, any, flat, none, Diff, more}
+use Rattle.lists.specs.Lists.{All, At, all, any, count, flat, none, Diff, more}
 use Rattle.lists.proofs.Alls.{All-all, All-filter, All-map, any-false, All-head, All-tail, All-zip}
+use Rattle.lists.proofs.Filters.{count-some}
 use Rattle.lists.proofs.Sets.{Mem, any-mem, any-witness, mem-all, mem-at, tab-range, here, there}
 use Rattle.lists.proofs.Tests.{and-intro, cases, clash}
 use Rattle.lists.proofs.Places.{At-same}
@@ -26,7 +27,7 @@ use Rattle.pages.proofs.Settle.{run-same}
 use Rattle.views.specs.Table.{Node}
 use Rattle.views.proofs.ViewLaws.{Apart}
 use Rattle.log.specs.Commit.{cleared, commitOps, Pack, pagesFrom, writesOf}
-use Rattle.log.specs.Plan.{freeAt, isUsed, pagesIn, places, sheets}
+use Rattle.log.specs.Plan.{freeAt, isUsed, places, sheets, isReclaimed, whollyFree}
 use Rattle.log.proofs.CommitCut.{used, put, wrote}
 use Rattle.log.proofs.AssignedChoice.{Chip, Choice, Committable, apart, es, free, in-image, news, plan, ts, ws, ws-diff}
 use Rattle.log.proofs.PlanPlaces.{cleared-makes, in-block, places-blank}
@@ -88,6 +89,11 @@ module _ (g : Geometry) where
   at-free (x ∷ ps) zero a = rw (← a) blank-free
   at-free (x ∷ ps) (suc p) a = at-free ps p a
 
+-- past the chip no page is free
+zero-used : isFree (0 ∷ []) ≡ false
+unfolding isFree
+zero-used = refl
+
 -- a place more than pages: one stays over
 pub record Over (P : ℕ → Type 0) (ws : List ℕ) : Type 0 where
   pub place : ℕ
@@ -121,18 +127,15 @@ module _ {g : Geometry} {limit B : ℕ} {torn : List ℕ} (ch : Chip g limit B t
   blank-after n p l a d = at-free g (I n) p (rw (run-done-is g torn E N n ps l) (others-stay g N p (blank g) (cleared g E ps) d a))
 
   -- a finished commit leaves a page free
-  pub page-left : (n : ℕ) → length (commitOps E N) ≤ n → Over (λ p. freeAt (I n) p ≡ true) W
+  pub page-left : (n : ℕ) → length (commitOps E N) ≤ n → 0 < count isFree (I n)
   page-left n l =
       let m = length (C .pages) in
       let r = left-over g (suc G) (length (ts ch rd C)) 0 W (C .pages)
       (ws-diff ch rd C) (omega (arith, length-take-le (suc m) (places g ps (C .head) (C .blocks)) (C .enough))) in
-      record {
-        place = r .place;
-        mem = r .mem;
-        is = blank-after n (r .place) l
-            (mem-at (r .mem) (places-blank g ps (C .head) (C .blocks) (suc m) (rd .sizes) (All-map (λ b h. in-image ch rd C b (h .0)) (C .are))))
-            (r .is);
-      }
+      count-some isFree (I n) (r .place) (0 ∷ []) zero-used
+      (blank-after n (r .place) l
+      (mem-at (r .mem) (places-blank g ps (C .head) (C .blocks) (suc m) (rd .sizes) (All-map (λ b h. in-image ch rd C b (h .0)) (C .are))))
+      (r .is))
 
   -- a block with a new page is used
   new-used : (n b : ℕ) (t : List Node) → length (commitOps E N) ≤ n → (x : Live) → Mem x N → inBlock g b (x .place) ≡ true
@@ -152,13 +155,13 @@ module _ {g : Geometry} {limit B : ℕ} {torn : List ℕ} (ch : Chip g limit B t
 
   -- what was erased is used or wholly free
   pub rested : (n : ℕ) (t : List Node) → length (commitOps E N) ≤ n
-      → All (λ b. (isUsed g t (suc G) (liveFrom g 0 (I n)) b ≡ true) ⊎ (all (freeAt (I n)) (pagesIn g b) ≡ true)) E
+      → All (λ b. (isUsed g t (suc G) (liveFrom g 0 (I n)) b ≡ true) ⊎ (whollyFree g (I n) b ≡ true)) E
   rested n t l = mem-all E (λ b m. go b m (mem-at m below))
     where
       below : All (λ b. b < B) E
-      below = All-filter (λ (b : ℕ). any (inBlock g b) W && not (all (freeAt ps) (pagesIn g b))) (All-map (λ b h. h .0) (C .are))
+      below = All-filter (isReclaimed g ps W) (All-map (λ b h. h .0) (C .are))
 
-      go : (b : ℕ) → Mem b E → b < B → (isUsed g t (suc G) (liveFrom g 0 (I n)) b ≡ true) ⊎ (all (freeAt (I n)) (pagesIn g b) ≡ true)
+      go : (b : ℕ) → Mem b E → b < B → (isUsed g t (suc G) (liveFrom g 0 (I n)) b ≡ true) ⊎ (whollyFree g (I n) b ≡ true)
       go b m u =
           cases (any (λ (x : Live). inBlock g b (x .place)) N)
           (λ q. let r = any-witness (λ (x : Live). inBlock g b (x .place)) N q in inl (new-used n b t l (r .0) (r .1) (r .2)))

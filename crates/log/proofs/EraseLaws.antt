@@ -1,8 +1,8 @@
 -- The erases among the operations of a commit: those of its blocks. Assumes nothing.
-use mathlib.Core.Path.{_≡_, refl, sym, ap, _∙_}
+use mathlib.Core.Path.{_≡_, refl, sym, ap, subst, _∙_}
 use mathlib.Core.Bool.{true}
 use mathlib.Core.List.{List, [], _∷_, _++_, map}
-use Prim.Native.Nat.{ℕ, _+_, _*_, _≤_}
+use Prim.Native.Nat.{ℕ, _+_, _*_, _<_, _≤_}
 use native.Mathlib.Omega.{arith}
 use lib.Dec.{eqb}
 use lib.ListN.{length}
@@ -10,6 +10,7 @@ use borrow.Author.Tests.{eqb-true, ne-eqb}
 use Rattle.lists.specs.Lists.{All, Diff, bit, count, flat, more, none}
 use Rattle.lists.proofs.Alls.{All-map}
 use Rattle.lists.proofs.Places.{length-mapFrom}
+use Rattle.lists.proofs.Sets.{Mem, here, there, mem-all, mem-at}
 use Rattle.lists.proofs.Tests.{cases}
 use Rattle.chip.specs.Geometry.{Geometry}
 use Rattle.chip.specs.Page.{Page, blank}
@@ -40,6 +41,19 @@ commit-figures bs news figures = figures-same (map erase bs) (commitOps bs news)
 pub erased-none : (b : ℕ) (bs : List ℕ) → All (λ (c : ℕ). b ≡ c → ⊥) bs → count (eqb b) bs ≡ 0
 erased-none b [] none = refl
 erased-none b (c ∷ bs) (more h hs) = let e = erased-none b bs hs in rw (ne-eqb b c h) (omega arith)
+
+-- a block that is erased is one of them
+erased-one : (b : ℕ) (bs : List ℕ) → 0 < count (eqb b) bs → Mem b bs
+erased-one b [] h = absurd (omega arith)
+erased-one b (c ∷ bs) h =
+    cases (eqb b c)
+    (λ t. subst (λ (x : ℕ). Mem b (x ∷ bs)) (eqb-true b c t) here)
+    (λ t. let z : 0 < 0 + count (eqb b) bs = (rw t at h) in there (erased-one b bs (omega arith)))
+
+-- of blocks that are none of these
+pub erased-others : (b : ℕ) (bs cs : List ℕ) → All (λ (c : ℕ). Mem c cs → ⊥) bs → 0 < count (eqb b) bs → count (eqb b) cs ≡ 0
+erased-others b bs cs a h =
+    erased-none b cs (mem-all cs (λ c m e. mem-at (erased-one b bs h) a (subst (λ (x : ℕ). Mem x cs) (sym e) m)))
 
 -- blocks that differ: none is erased twice
 pub erased-most : (b : ℕ) (bs : List ℕ) → Diff bs → count (eqb b) bs ≤ 1

@@ -14,10 +14,12 @@ use Rattle.lists.proofs.Sorts.{All-sort, sort-All, length-sort, sort-filter}
 use Rattle.lists.proofs.Parts.{cut-sizes}
 use Rattle.lists.proofs.Places.{length-modify, At-other, At-getD, at-seam}
 use Rattle.chip.specs.declared.page.Mark.the-variants.{Obsolete}
+use Rattle.chip.specs.declared.power.Power.the-variants.{Left}
 use Rattle.chip.specs.Geometry.{Geometry, pageSize, small}
 use Rattle.chip.specs.Power.{isGone}
 use Rattle.chip.specs.Page.{Page, isLive, marked}
-use Rattle.chip.specs.Chip.{Legal, Machine, run, pagesOf}
+use Rattle.chip.specs.Chip.{Legal, Machine, Op, run, pagesOf}
+use Rattle.chip.specs.Erases.{erasesIn}
 use Rattle.chip.proofs.Marks.{obsolete, marked-data}
 use Rattle.chip.proofs.Runs.{after, run-parts, run-gone, Sized}
 use Rattle.pages.specs.Steps.{Live, live, liveFrom, commit, count, before, ordered, ofCommit, Stood, refused, stand, steps}
@@ -27,7 +29,7 @@ use Rattle.pages.proofs.KeyLaws.{image-bounded}
 use Rattle.views.specs.Table.{Node, refusal, means, readStood, meaning}
 use Rattle.views.proofs.Meanings.{inOrder, void-read, Kept}
 use Rattle.views.proofs.ViewLaws.{Apart, apart-filter, apart-sort, apart-live}
-use Rattle.log.specs.Mount.{lowerPlace, voidPages, retire, mountOps, mountedBy}
+use Rattle.log.specs.Mount.{lowerPlace, voidOf, voidPages, retire, mountOps, mountedBy}
 use Rattle.log.proofs.PlaceOrder.{sort-sort, sort-live}
 use Rattle.log.proofs.Voids.{Voided, voided-lower, voided-steps, keep-standing, void-less, void-count, Found, found}
 
@@ -279,6 +281,23 @@ module _ (g : Geometry) (torn : List ℕ) (n : ℕ) (ps : List Page) where
 pub image-sized : (image : List ℕ) (b : ℕ) → length image ≡ b * 16896 → All (Sized small) (pagesOf small image)
 unfolding pagesOf
 image-sized image b l = cut-sizes 528 (length image / 528) image (omega arith)
+
+-- ---- an image without a void page: nothing to do, and it stays as it is
+pub clean-none : (g : Geometry) (ps : List Page) (ls : List Live) → steps g ps ≡ stand [] ls → mountOps g ps ≡ []
+unfolding voidPages
+clean-none g ps ls e = ap (λ (x : Stood). map retire (sort lowerPlace (voidOf x))) e
+
+pub clean-stays : (g : Geometry) (torn : List ℕ) (n : ℕ) (ps : List Page) (ls : List Live) → steps g ps ≡ stand [] ls → mountedBy g torn n ps .pages ≡ ps
+clean-stays g torn n ps ls e =
+    ap (λ (os : List Op). run g torn (record { power = Left n; pages = ps }) os .pages) (clean-none g ps ls e) ∙ ap (λ (m : Machine). m .pages) (run-parts g torn n ps [])
+
+-- ---- no mark is an erase
+retire-none : (b : ℕ) (w : List Live) → erasesIn b (map retire w) ≡ 0
+retire-none b [] = refl
+retire-none b (x ∷ w) = omega (arith, retire-none b w)
+
+pub mount-erases : (g : Geometry) (ps : List Page) (b : ℕ) → erasesIn b (mountOps g ps) ≡ 0
+mount-erases g ps b = retire-none b (voidPages g ps)
 
 -- ---- the marks are legal
 retire-legal : (g : Geometry) (w : List Live) (ps : List Page) → All (λ (x : Live). x .place < length ps) w → Legal g ps (map retire w)

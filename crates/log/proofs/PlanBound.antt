@@ -1,11 +1,11 @@
 -- At most h erases; the pages keep their size. Assumes nothing.
 use mathlib.Core.Path.{_≡_, refl}
-use mathlib.Core.Bool.{Bool, true, _&&_, not}
+use mathlib.Core.Bool.{Bool, true, not}
 use mathlib.Core.List.{List, [], _∷_, _++_}
 use Prim.Native.Nat.{ℕ, zero, suc, _-_, _*_, _≤_}
 use native.Mathlib.Omega.{arith}
 use lib.ListN.{length, take}
-use Rattle.lists.specs.Lists.{All, all, any, filter, flat, more, none, Diff}
+use Rattle.lists.specs.Lists.{All, any, filter, flat, more, none, Diff}
 use Rattle.lists.proofs.Alls.{All-filter, All-head, All-left, All-right, All-tail, All-zip}
 use Rattle.lists.proofs.Filters.{filter-is}
 use Rattle.lists.proofs.Flats.{length-tab}
@@ -17,7 +17,7 @@ use Rattle.chip.specs.Chip.{inBlock, run}
 use Rattle.chip.proofs.Runs.{DataSized, Sized, run-sized, with-power}
 use Rattle.pages.specs.Steps.{Live}
 use Rattle.log.specs.Commit.{commitOps}
-use Rattle.log.specs.Plan.{erases, freeAt, pagesIn, places}
+use Rattle.log.specs.Plan.{erases, freeAt, pagesIn, places, isReclaimed, whollyFree}
 use Rattle.log.proofs.PlanPlaces.{In, Origin, block-in, new, old, one-block, places-from}
 
 take-append : {A : Type 0} {P : A → Type 0} (n m : ℕ) (xs ys : List A) → length xs ≡ m → All P xs → All P (take (n - m) ys) → All P (take n (xs ++ ys))
@@ -50,14 +50,14 @@ erases-few g ps head h n bs d a l =
       arith,
       length-take-n h bs,
       at-most (filter q bs) (take h bs) (diff-filter q bs d)
-          (All-zip (λ b t e. reach b e (any-witness (inBlock g b) W (and-left (any (inBlock g b) W) (not (all (freeAt ps) (pagesIn g b))) t))) (filter-is q bs) (All-filter q a)),
+          (All-zip (λ b t e. reach b e (any-witness (inBlock g b) W (and-left (any (inBlock g b) W) (not (whollyFree g ps b)) t))) (filter-is q bs) (All-filter q a)),
     )
   where
     W : List ℕ
     W = take n (places g ps head bs)
 
     q : ℕ → Bool
-    q b = any (inBlock g b) W && not (all (freeAt ps) (pagesIn g b))
+    q = isReclaimed g ps W
 
     from-which : All (Origin g ps head (take h bs)) W
     from-which = own-take g h n (filter (freeAt ps) (pagesIn g head)) bs l (places-from g ps head (take h bs))

@@ -1,6 +1,6 @@
 -- Places of a commit: no place twice, each blank after the erases, each in the head or in one of the given blocks. Assumes nothing.
 use mathlib.Core.Path.{_≡_, refl, sym, ap, _∙_}
-use mathlib.Core.Bool.{true, false, _&&_, not}
+use mathlib.Core.Bool.{true, false, not}
 use mathlib.Core.List.{List, [], _∷_}
 use Prim.Native.Nat.{ℕ, zero, suc, _+_, _*_, _≤_, _<_}
 use native.Mathlib.Nat.{mul-le-mul-right}
@@ -21,7 +21,7 @@ use Rattle.chip.specs.Chip.{erase, filled, inBlock, whole}
 use Rattle.chip.proofs.PageLaws.{free-blank}
 use Rattle.chip.proofs.Runs.{Sized}
 use Rattle.log.specs.Commit.{cleared}
-use Rattle.log.specs.Plan.{erases, freeAt, pagesIn, places}
+use Rattle.log.specs.Plan.{erases, freeAt, pagesIn, places, isReclaimed, whollyFree}
 
 -- ---- a page is in one block
 abbrev pub In : Geometry → ℕ → ℕ → Type 0
@@ -138,10 +138,10 @@ places-blank g ps head bs n s r =
     go : (ws : List ℕ) (p : ℕ) → Mem p ws → Origin g ps head bs p → At p (blank g) (cleared g (erases g ps ws bs) ps)
     go ws p m (old i f) = cleared-keeps g (erases g ps ws bs) p ps (free-at g ps p s f)
     go ws p m (new b k i) =
-        cases (all (freeAt ps) (pagesIn g b))
+        cases (whollyFree g ps b)
         (λ t. cleared-keeps g (erases g ps ws bs) p ps
         (free-at g ps p s (mem-at (tab-mem (b * g .pages) (g .pages) p (i .0) (i .1)) (all-All (freeAt ps) (pagesIn g b) t))))
         (λ t. cleared-makes g b p ps
-        (mem-filter (λ (c : ℕ). any (inBlock g c) ws && not (all (freeAt ps) (pagesIn g c))) k
-        (and-intro (any (inBlock g b) ws) (not (all (freeAt ps) (pagesIn g b))) (any-mem (inBlock g b) m (in-block g b p i)) (ap not t)))
+        (mem-filter (isReclaimed g ps ws) k
+        (and-intro (any (inBlock g b) ws) (not (whollyFree g ps b)) (any-mem (inBlock g b) m (in-block g b p i)) (ap not t)))
         (in-block g b p i) (mem-at k r p i))

@@ -19,6 +19,7 @@ use Rattle.lists.proofs.Sets.{Mem, at-most, diff-drop, diff-filter, diff-split,
 use Rattle.chip.specs.Geometry.{Geometry}
 use Rattle.chip.specs.Page.{Page}
 use Rattle.chip.specs.Chip.{inBlock}
+use Rattle.chip.specs.Erases.{erasesIn}
 use Rattle.pages.specs.declared.unit.Unit as U
 use Rattle.pages.specs.declared.unit.Update.{Update}
 use Rattle.pages.specs.Steps.{liveFrom}
@@ -26,7 +27,7 @@ use Rattle.views.specs.Table.{Node, fresh}
 use Rattle.views.specs.Groups.{isReset, own, present, unitFor}
 use Rattle.views.proofs.Meanings.{kept-node, nodeIn, opened}
 use Rattle.log.specs.Commit.{Pack, unitsOfPacks}
-use Rattle.log.specs.Plan.{Plan, freeAt, countFrom, headBlock, isUsed, keep, nodeAt, opsOf, pagesIn, places, rewrite, spareBlocks, stuck}
+use Rattle.log.specs.Plan.{Plan, freeAt, countFrom, headBlock, isUsed, keep, newsOf, nodeAt, opsOf, pagesIn, places, rewrite, spareBlocks, stuck}
 use Rattle.log.specs.Admissible.{Admissible, Target, Assigned, Assignment, Contents, contentsOf, unwritten, staysUnused, pagePacks, candidatePlaces, inPage, goesTo, unusedBlocks, writtenOf}
 use Rattle.log.specs.Packing.{Packing, Sizes, deltaPacking, fillNode, filled, isUnwritten, packNode, packed, sizeOf, snapshotPacking, unpacked, widenNode, widened}
 use Rattle.log.specs.Policy.{Decision, assignmentOf, decide, planOf, follow, hasPlaces, inFirst, isForced, nothing, planBy, sizesOf, usedBlocks}
@@ -38,6 +39,7 @@ use Rattle.log.proofs.PackingLaws.{Below, Done, Fine, Good, Half, empty
 use Rattle.log.proofs.ContentsLaws.{below-all}
 use Rattle.log.proofs.AdmissibleLaws.{Safe, imageAfter, nodeAfter, safe}
 use Rattle.log.proofs.AssignedChoice.{Chip, Committable}
+use Rattle.log.proofs.EraseLaws.{commit-erases, erased-others}
 
 -- ---- folds
 fold-keeps : (P : Packing → Type 0) (limit : ℕ) (step : Packing → ℕ → Packing) → ((S : Packing) (n : ℕ) → n < limit → P S → P (step S n))
@@ -475,14 +477,20 @@ module _ (g : Geometry) (limit B : ℕ) (torn : List ℕ) (ch : Chip g limit B t
 -- after a finished commit of any safe plan, the policy's next plan erases no block that it erased
 pub rests-next : (g : Geometry) (limit B h : ℕ) (torn : List ℕ) (ps : List Page) (tb : List Node) (G : ℕ) (us : List U.Unit) (q : Plan)
     → Safe g limit B h torn ps tb G us q → (n : ℕ) → length (opsOf g G q) ≤ n → (vs : List U.Unit)
-    → All (λ b. Mem b (planOf g limit B (imageAfter g torn ps G q n) (tab 0 limit (nodeAfter g limit ps G q)) (suc G) vs .erased) → ⊥) (q .erased)
-rests-next g limit B h torn ps tb G us q s n l vs = go (decide g limit B qs qt (suc G) (contentsOf (nodeAt qt) vs))
+    → (b : ℕ) → 0 < erasesIn b (opsOf g G q)
+    → erasesIn b (opsOf g (suc G) (planOf g limit B (imageAfter g torn ps G q n) (tab 0 limit (nodeAfter g limit ps G q)) (suc G) vs)) ≡ 0
+rests-next g limit B h torn ps tb G us q s n l vs b e =
+    commit-erases b (next .erased) (newsOf g (suc G) next)
+    ∙ erased-others b (q .erased) (next .erased) (go (decide g limit B qs qt (suc G) (contentsOf (nodeAt qt) vs))) (omega (arith, commit-erases b (q .erased) (newsOf g G q)))
   where
     qs : List Page
     qs = imageAfter g torn ps G q n
 
     qt : List Node
     qt = tab 0 limit (nodeAfter g limit ps G q)
+
+    next : Plan
+    next = planOf g limit B qs qt (suc G) vs
 
     go : (d : Decision) → All (λ b. Mem b (planBy g limit B qs qt (suc G) (contentsOf (nodeAt qt) vs) d .erased) → ⊥) (q .erased)
     go nothing = mem-all (q .erased) (λ b m k. let z : Mem b [] = k in mem-at {P = λ x. ⊥} z none)

@@ -65,9 +65,17 @@ pagesIn g b = countFrom (b * g .pages) (g .pages)
 abbrev pub places : Geometry → List Page → ℕ → List ℕ → List ℕ
 places g ps head bs = filter (freeAt ps) (pagesIn g head) ++ flat (pagesIn g) bs
 
--- the blocks of bs that the places ws reach and that are not wholly free
+-- every page of block b is free
+abbrev pub whollyFree : Geometry → List Page → ℕ → Bool
+whollyFree g ps b = all (freeAt ps) (pagesIn g b)
+
+-- the places ws reach block b, and it is not wholly free: it is erased before they are written
+abbrev pub isReclaimed : Geometry → List Page → List ℕ → ℕ → Bool
+isReclaimed g ps ws b = any (inBlock g b) ws && not (whollyFree g ps b)
+
+-- those of the blocks bs
 abbrev pub erases : Geometry → List Page → List ℕ → List ℕ → List ℕ
-erases g ps ws bs = filter (λ (b : ℕ). any (inBlock g b) ws && not (all (freeAt ps) (pagesIn g b))) bs
+erases g ps ws bs = filter (isReclaimed g ps ws) bs
 
 -- each page with its place
 abbrev pub sheets : List ℕ → List (List Pack) → List Sheet

@@ -7,7 +7,7 @@ use native.Mathlib.Omega.{arith}
 use lib.Dec.{ltb}
 use lib.ListN.{length, length-append, take}
 use borrow.Author.Tests.{le-ltb, lt-ltb}
-use Rattle.lists.specs.Lists.{All, all, any, filter, flat, Diff}
+use Rattle.lists.specs.Lists.{All, any, filter, flat, Diff}
 use Rattle.lists.proofs.Alls.{All-filter, All-map, All-take, false-any}
 use Rattle.lists.proofs.Anys.{any-append}
 use Rattle.lists.proofs.Flats.{length-tab}
@@ -15,7 +15,7 @@ use Rattle.lists.proofs.Sets.{filter-same, tab-range, take-over}
 use Rattle.chip.specs.Geometry.{Geometry}
 use Rattle.chip.specs.Page.{Page}
 use Rattle.chip.specs.Chip.{inBlock}
-use Rattle.log.specs.Plan.{erases, freeAt, countFrom, pagesIn, places}
+use Rattle.log.specs.Plan.{erases, freeAt, countFrom, pagesIn, places, isReclaimed, whollyFree}
 use Rattle.log.proofs.PlanPlaces.{in-block, length-flat, out-block}
 use Rattle.plan.specs.PlacesCode.{erasesFrom}
 
@@ -28,9 +28,6 @@ any-behind : {A : Type 0} (p : A → Bool) (xs ys : List A) → any p xs ≡ fal
 any-behind p xs ys h = any-append p xs ys ∙ rw h
 
 module _ (g : Geometry) (ps : List Page) (pos : 0 < g .pages) where
-  abbrev test : List ℕ → ℕ → Bool
-  test ws b = any (inBlock g b) ws && not (all (freeAt ps) (pagesIn g b))
-
   -- places of another block reach no page of b
   miss : (b c n : ℕ) → (c ≡ b → ⊥) → any (inBlock g b) (take n (pagesIn g c)) ≡ false
   miss b c n d = false-any (inBlock g b) (All-take n (All-map (λ p i. out-block g c b p i d) (tab-range (c * g .pages) (g .pages))))
@@ -44,15 +41,15 @@ module _ (g : Geometry) (ps : List Page) (pos : 0 < g .pages) where
       go (suc n) (suc k) l m e = rw (in-block g b (b * g .pages) (omega arith, omega arith))
 
   -- blocks without the head's places
-  walk : (n : ℕ) (bs : List ℕ) → Diff bs → filter (test (take n (flat (pagesIn g) bs))) bs ≡ erasesFrom g ps n bs
+  walk : (n : ℕ) (bs : List ℕ) → Diff bs → filter (isReclaimed g ps (take n (flat (pagesIn g) bs))) bs ≡ erasesFrom g ps n bs
   walk n [] d = refl
   walk n (b ∷ bs) d =
       let ws : List ℕ = take n (pagesIn g b ++ flat (pagesIn g) bs) in
       let e : ws ≡ take n (pagesIn g b) ++ take (n - g .pages) (flat (pagesIn g) bs) =
       take-over n (pagesIn g b) (flat (pagesIn g) bs) ∙ ap (λ k. take n (pagesIn g b) ++ take (n - k) (flat (pagesIn g) bs)) (length-tab (λ (i : ℕ). i) (b * g .pages) (g .pages)) in
-      let tail : filter (test ws) bs ≡ erasesFrom g ps (n - g .pages) bs =
-      filter-same (test ws) (test (take (n - g .pages) (flat (pagesIn g) bs)))
-      (All-map (λ c k. ap (λ (t : Bool). t && (not (all (freeAt ps) (pagesIn g c))))
+      let tail : filter (isReclaimed g ps ws) bs ≡ erasesFrom g ps (n - g .pages) bs =
+      filter-same (isReclaimed g ps ws) (isReclaimed g ps (take (n - g .pages) (flat (pagesIn g) bs)))
+      (All-map (λ c k. ap (λ (t : Bool). t && (not (whollyFree g ps c)))
       (ap (any (inBlock g c)) e ∙ any-behind (inBlock g c) (take n (pagesIn g b)) (take (n - g .pages) (flat (pagesIn g) bs)) (miss c b n k))) (d .0))
       ∙ walk (n - g .pages) bs (d .1) in
       let first : any (inBlock g b) ws ≡ ltb 0 n = head-test n in
@@ -67,8 +64,8 @@ module _ (g : Geometry) (ps : List Page) (pos : 0 < g .pages) where
       → erases g ps (take n (places g ps head bs)) bs ≡ erasesFrom g ps (n - length (filter (freeAt ps) (pagesIn g head))) bs
   erases-walk head n bs d a =
       let own : List ℕ = filter (freeAt ps) (pagesIn g head) in
-      filter-same (test (take n (own ++ flat (pagesIn g) bs))) (test (take (n - length own) (flat (pagesIn g) bs)))
-      (All-map (λ b k. ap (λ (t : Bool). t && (not (all (freeAt ps) (pagesIn g b))))
+      filter-same (isReclaimed g ps (take n (own ++ flat (pagesIn g) bs))) (isReclaimed g ps (take (n - length own) (flat (pagesIn g) bs)))
+      (All-map (λ b k. ap (λ (t : Bool). t && (not (whollyFree g ps b)))
       (ap (any (inBlock g b)) (take-over n own (flat (pagesIn g) bs))
       ∙ any-behind (inBlock g b) (take n own) (take (n - length own) (flat (pagesIn g) bs))
       (false-any (inBlock g b) (All-take n (All-filter (freeAt ps) (All-map (λ p i. out-block g head b p i (λ e. k (sym e))) (tab-range (head * g .pages) (g .pages)))))))) a)

@@ -20,7 +20,7 @@ use Rattle.chip.specs.Geometry.{Geometry, small}
 use Rattle.chip.specs.Page.{Page, isFree}
 use Rattle.chip.specs.Chip.{pagesOf}
 use Rattle.chip.proofs.ImageLaws.{length-pages, page-at, pages-free}
-use Rattle.log.specs.Plan.{countFrom, freeAt, pagesIn, places, erases}
+use Rattle.log.specs.Plan.{countFrom, freeAt, pagesIn, places, erases, whollyFree}
 use Rattle.lists.proofs.Sets.{mem-at}
 use Rattle.log.proofs.PlanPlaces.{Origin, old, new, places-from, length-flat}
 use Rattle.plan.proofs.EraseLaws.{places-count, erases-walk}
@@ -100,7 +100,7 @@ module _ (image : List ℕ) (b : ℕ) (fits : b * 16896 + 16896 ≤ length image
       ∙ getD-default (pagesOf small image) (b * 32 + i) [] (0 ∷ []) (omega (arith, length-pages small image)))
 
   -- the block is wholly free: its bytes, and its pages by place
-  pub block-free : isFree (part (b * 16896) (b * 16896 + 16896 - b * 16896) image) ≡ all (freeAt (pagesOf small image)) (pagesIn small b)
+  pub block-free : isFree (part (b * 16896) (b * 16896 + 16896 - b * 16896) image) ≡ whollyFree small (pagesOf small image) b
   block-free =
       let e : b * 16896 + 16896 - b * 16896 ≡ 16896 = omega arith in
       ap (λ (n : ℕ). isFree (part (b * 16896) n image)) e
@@ -193,7 +193,7 @@ places-on B head n ps bs h s = All-take n (All-map (λ p o. go p o) (places-from
 module _ (ps : List Page) (w : ℕ) (ring : List ℕ) (lr : length ring ≡ 32) (lw : w ≤ 32) (j : ℕ) where
   pub erase-next : (left n r : ℕ) (before after target : List ℕ) → j < w
       → take n before ++ erasesFrom small ps left (drop j (take w ring)) ≡ target
-      → (keep : Bool) → keep ≡ (ltb 0 left && not (all (freeAt ps) (pagesIn small (getD ring j 0))))
+      → (keep : Bool) → keep ≡ (ltb 0 left && not (whollyFree small ps (getD ring j 0)))
       → take r after ≡ take n before ++ cond keep (getD ring j 0 ∷ []) []
       → take r after ++ erasesFrom small ps (left - 32) (drop (j + 1) (take w ring)) ≡ target
   erase-next left n r before after target h e keep k is =

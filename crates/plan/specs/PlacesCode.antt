@@ -5,10 +5,10 @@ use mathlib.Core.List.{List, [], _∷_}
 use Prim.Native.Nat.{ℕ, _-_, _*_, _<_}
 use lib.Dec.{ltb}
 use lib.ListN.{length, take}
-use Rattle.lists.specs.Lists.{all, filter, All, Diff}
+use Rattle.lists.specs.Lists.{filter, All, Diff}
 use Rattle.chip.specs.Geometry.{Geometry, small}
 use Rattle.chip.specs.Page.{Page}
-use Rattle.log.specs.Plan.{freeAt, pagesIn, places, erases}
+use Rattle.log.specs.Plan.{freeAt, pagesIn, places, erases, whollyFree}
 
 -- ---- parts of a plan under names that stay closed in contracts
 -- the free pages of block b
@@ -27,7 +27,7 @@ firstErases g ps head bs n = erases g ps (take n (places g ps head bs)) bs
 abbrev pub erasesFrom : Geometry → List Page → ℕ → List ℕ → List ℕ
 erasesFrom g ps left [] = []
 erasesFrom g ps left (b ∷ bs) =
-    cond (ltb 0 left && not (all (freeAt ps) (pagesIn g b))) (b ∷ erasesFrom g ps (left - g .pages) bs) (erasesFrom g ps (left - g .pages) bs)
+    cond (ltb 0 left && not (whollyFree g ps b)) (b ∷ erasesFrom g ps (left - g .pages) bs) (erasesFrom g ps (left - g .pages) bs)
 
 -- ---- blocks that a commit may write: on the chip, not the head, no one twice
 pub record Spare (B head : ℕ) (bs : List ℕ) : Type 0 where

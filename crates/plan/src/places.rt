@@ -5,10 +5,10 @@ ghost use mathlib.Core.List.{_++_};
 ghost use Prim.Native.Nat.{_+_, _-_, _*_, _/_, _%_, _<_, _≤_};
 ghost use lib.Dec.{leb, ltb};
 ghost use lib.ListN.{length, take, getD};
-ghost use Rattle.lists.specs.Lists.{all, flat};
+ghost use Rattle.lists.specs.Lists.{flat};
 ghost use Rattle.chip.specs.Geometry.{small};
 ghost use Rattle.chip.specs.Chip.{pagesOf};
-ghost use Rattle.log.specs.Plan.{freeAt, pagesIn};
+ghost use Rattle.log.specs.Plan.{freeAt, pagesIn, whollyFree};
 ghost use Rattle.plan.specs.PlacesCode.{freePages, Spare, Lays, erasesFrom};
 use crate::survey;
 use chip::geometry::BLOCK;
@@ -135,7 +135,7 @@ pub fn lay_places(
 // Is the block to be erased: `left` places are still to be reached, and not all its pages are free?
 fn is_erased(image: &[u8], at: usize, left: usize) -> bool
     requires { ⌜ (at * 16896 + 16896 ≤ length (now image)) × (length (now image) % 528 ≡ 0) ⌝ }
-    ensures { λ r. ⌜ r ≡ (ltb 0 left && not (all (freeAt (pagesOf small (now (image .entry)))) (pagesIn small at))) ⌝ }
+    ensures { λ r. ⌜ r ≡ (ltb 0 left && not (whollyFree small (pagesOf small (now (image .entry))) at)) ⌝ }
 {
     if left == 0 {
         return false;

@@ -29,6 +29,27 @@ module _ (g : Geometry) (S : Store) (s : S .State) (i : S .Image) (good : S .Goo
       omega arith)
       (λ l. accepted-not 10 (c .power q b .short (leb-false (length (S .commitOps s i)) n l) .0))
 
+  -- a commit that is accepted with updates pending has done all its operations
+  all-done : (n : ℕ) (torn : List ℕ) (ops : ℕ) (s' : S .State) (i' : S .Image) → Committing g S n torn s i → S .able s i ≡ true → Commit g S n torn s i accepted ops s' i'
+      → length (S .commitOps s i) ≤ n
+  all-done n torn ops s' i' q b c =
+      cases (leb (length (S .commitOps s i)) n)
+      (λ l. leb-true (length (S .commitOps s i)) n l) (λ l. absurd (accepted-not 10 (c .power q b .short (leb-false (length (S .commitOps s i)) n l) .0)))
+
+  -- one that erases a block which the next one, from a state that calls gave for the image it left, would erase too
+  pub same-block : (n : ℕ) (torn : List ℕ) (ops : ℕ) (s' : S .State) (i' : S .Image) (b : ℕ) (t : S .State) → Committing g S n torn s i → S .able s i ≡ true
+      → 0 < erasesIn b (S .commitOps s i) → S .Good t i' → 0 < erasesIn b (S .commitOps t i') → Commit g S n torn s i accepted ops s' i' → ⊥
+  same-block n torn ops s' i' b t q y h d k c = let z = c .rests q y (all-done n torn ops s' i' q y c) b h t d in omega arith
+
+  -- one that leaves no page free
+  pub none-free : (n : ℕ) (torn : List ℕ) (ops : ℕ) (s' : S .State) (i' : S .Image) → Committing g S n torn s i → S .able s i ≡ true → S .free i' ≡ 0
+      → Commit g S n torn s i accepted ops s' i' → ⊥
+  none-free n torn ops s' i' q y e c = let z = c .leavesFree q y (all-done n torn ops s' i' q y c) in omega arith
+
+  -- a mount, given any state, that writes to an image that calls gave a state for
+  pub writing-mount : (n : ℕ) (torn : List ℕ) (t : S .State) (a : Answer) (ops : ℕ) (s' : S .State) (i' : S .Image) → (i' ≡ i → ⊥) → Mount g S n torn t i a ops s' i' → ⊥
+  writing-mount n torn t a ops s' i' h c = h (c .still s good .1)
+
   -- an update that is accepted and changes nothing
   lazy-by : (u : UpdateCall) (k : ℕ) → laterRefusal (stateOf S s i) (updates u (S .size i)) ≡ k → PassesFirst g S (updates u (S .size i)) s → Updates g S u s i accepted s i → ⊥
   unfolding updated stateOf

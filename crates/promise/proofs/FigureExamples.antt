@@ -58,5 +58,5 @@ again-fine = (insert-proper 7 99, (tt, (insert-proper 8 1, (tt, (delete-proper 9
 pub sample-figures : (b : ℕ) → leaves again s₀ i₀ .erases b ≡ wholeErases small sample b (sinceStart sample (stepsOf again s₀ i₀))
 unfolding insertion deletion isChipSize isTornSize hasBlocks stateOf leaf T.insert T.allowed T.inserted T.insertAt T.gain T.fitOrSplit T.halve T.raise T.find
 sample-figures =
-    figures-any small sample s₀ i₀ (stepsOf again s₀ i₀) tt (runs again (Only sample s₀) s₀ i₀ refl again-fine) (λ b. refl) (leaves again s₀ i₀)
+    figures-any small sample s₀ i₀ (stepsOf again s₀ i₀) (refl, refl) (runs again (Only sample s₀) s₀ i₀ refl again-fine) (λ b. refl) (leaves again s₀ i₀)
     (record { returned = refl; known = λ e. absurd (accepted-not 1 e) }) refl

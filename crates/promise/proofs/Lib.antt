@@ -5,9 +5,12 @@ pub mod Images
 pub mod Trees
 pub mod Values
 pub mod Durable
+pub mod Effects
 pub mod Figures
+pub mod Wear
 pub mod Proper
 pub mod Falls
 pub mod Sample
 pub mod Examples
 pub mod FigureExamples
+pub mod WearExamples

@@ -6,7 +6,7 @@ use Prim.Native.Nat.{ℕ, zero, suc, _+_, _%_, _<_, _≤_}
 use native.Mathlib.Omega.{arith}
 use lib.Dec.{ltb, leb, eqb}
 use lib.ListN.{length, getD}
-use borrow.Author.Tests.{le-leb, lt-leb, lt-ltb, le-ltb}
+use borrow.Author.Tests.{eqb-true, ne-eqb, le-leb, lt-leb, lt-ltb, le-ltb}
 use Rattle.lists.proofs.Filters.{bit-most}
 use Rattle.lists.proofs.Tests.{cases, clash, or-right}
 use Rattle.lists.specs.Lists.{bit}
@@ -58,6 +58,14 @@ commitOpsOf s = cond (ltb 0 (s .pending)) (workOf (s .number)) []
 abbrev pub mountOpsOf : SampleImage → List Op
 mountOpsOf i = cond (i .void) (mark 0 Obsolete ∷ []) []
 
+-- an image with room has one to three free pages, by its number
+abbrev pub freeOf : SampleImage → ℕ
+freeOf i = cond (i .roomy) (suc (i .number % 3)) 0
+
+-- calls leave no void page, and a state with the image's number
+abbrev pub Tied : SampleState → SampleImage → Type 0
+Tied s i = (i .void ≡ false) × (s .number ≡ i .number)
+
 abbrev pub sample : Store
 sample =
     record {
@@ -71,11 +79,12 @@ sample =
       erases = λ s. s .erases;
       present = presentOf;
       meaning = meaningOf;
+      free = freeOf;
       mountOps = mountOpsOf;
       commitOps = λ s i. commitOpsOf s;
       formatOps = λ B. erase 0 ∷ erase 1 ∷ erase 2 ∷ program 0 (7 ∷ []) ∷ [];
       most = 3;
-      Good = λ s i. Unit {0};
+      Good = Tied;
       Room = λ i. i .roomy ≡ true;
       able = λ s i. i .roomy;
     }
@@ -257,7 +266,7 @@ update-ok u w s i =
           (λ k z e r. three-later u w (s .blocks) (presentOf s i) k (s .pending) h e (let q : suc k ≡ 3 = cc in q))
           (λ z e r. accepted-not 3 r);
       then = λ good t n e. rw (t, e);
-      done = λ good t e. rw (t, e) (refl, refl, tt);
+      done = λ good t e. rw (t, e) (refl, refl, good);
     }
 
 -- ---- commit
@@ -299,6 +308,15 @@ commit-once : (b n : ℕ) (c : Bool) → erasesIn b (cond c (workOf n) []) ≤ 1
 commit-once b n true = let m = bit-most (eqb b (n % 3)) in omega arith
 commit-once b n false = omega arith
 
+-- nor by two commits in a row
+commit-rests : (b n m : ℕ) (c d : Bool) → m ≡ suc n → 0 < erasesIn b (cond c (workOf n) []) → erasesIn b (cond d (workOf m) []) ≡ 0
+commit-rests b n m false d e h = absurd (omega arith)
+commit-rests b n m true false e h = refl
+commit-rests b n m true true e h =
+    cases (eqb b (n % 3))
+    (λ t. let q = eqb-true b (n % 3) t in rw (ne-eqb b (m % 3) (λ z. omega arith)))
+    (λ t. let z : _<_ 0 0 = (rw t at h) in absurd (omega arith))
+
 quiet-ten : (n k : ℕ) (s s' : SampleState) (i i' : SampleImage) → refuses 10 ≡ refuses k → (k ≡ 10 → ⊥) → (n ≡ 0) × Same sample s i s' i'
 quiet-ten n k s s' i i' e f = let q : _≡_ {A = ℕ} 10 k = cc in absurd (f (sym q))
 
@@ -318,6 +336,12 @@ commit-able n torn s i q b = commit-is n torn s i q ∙ rw b
 
 three-ops : (n : ℕ) (torn : List ℕ) (s : SampleState) (i : SampleImage) → Committing small sample n torn s i → length (commitOpsOf s) ≡ 3
 three-ops n torn s i q = rw (lt-ltb 0 (s .pending) (q .pending))
+
+commit-finished : (n : ℕ) (torn : List ℕ) (s : SampleState) (i : SampleImage) → Committing small sample n torn s i → i .roomy ≡ true → length (commitOpsOf s) ≤ n
+    → act (commit n torn) s i ≡ out accepted 3 (emptied s) (written s i)
+commit-finished n torn s i q b h =
+    let j : 3 ≤ n = (rw (three-ops n torn s i q) at h) in
+    commit-able n torn s i q b ∙ rw (le-leb 3 n j)
 
 commit-ok : (n : ℕ) (torn : List ℕ) (s : SampleState) (i : SampleImage)
     → Commit small sample n torn s i (act (commit n torn) s i .answer) (act (commit n torn) s i .ops) (act (commit n torn) s i .state) (act (commit n torn) s i .image)
@@ -354,9 +378,12 @@ commit-ok n torn s i =
       choice = λ q b. rw (commit-able n torn s i q b, three-ops n torn s i q)
           (cases (leb 3 n) (λ u. rw u) (λ u. rw u (cut-means (eqb (suc n) 3 && eqb (getD torn 0 0) 0) s i)));
       room = λ q b r. rw (commit-able n torn s i q b) (cases (leb 3 n) (λ u. rw u r) (λ u. rw u (cut-room (eqb (suc n) 3 && eqb (getD torn 0 0) 0) s i r)));
-      done = λ q b h. let j : 3 ≤ n = (rw (three-ops n torn s i q) at h) in rw (commit-able n torn s i q b, le-leb 3 n j) (refl, tt);
+      done = λ q b h. rw (commit-finished n torn s i q b h) (refl, (refl, refl));
       once = λ q b x. commit-once x (s .number) (ltb 0 (s .pending));
-      adds = λ q b h x k. let j : 3 ≤ n = (rw (three-ops n torn s i q) at h) in rw (commit-able n torn s i q b, le-leb 3 n j);
+      adds = λ q b h x k. rw (commit-finished n torn s i q b h);
+      leavesFree = λ q b h. rw (commit-finished n torn s i q b h, b) (omega arith);
+      rests = λ q b h x z t good.
+          commit-rests x (s .number) (t .number) (ltb 0 (s .pending)) (ltb 0 (t .pending)) (good .1 ∙ ap (λ y. y .image .number) (commit-finished n torn s i q b h)) z;
       cut = λ q b h. let j : n < 3 = (rw (three-ops n torn s i q) at h) in rw (commit-able n torn s i q b, lt-leb 3 n j);
     }
 
@@ -398,6 +425,15 @@ ten-loud n k e f = let q : _≡_ {A = ℕ} 10 k = cc in absurd (f (sym q))
 mount-is : (n : ℕ) (torn : List ℕ) (s : SampleState) (i : SampleImage) → firstRefusal small (s .on) (s .blocks) (mounts n (i .size) (length torn)) ≡ 0 → act (mount n torn) s i ≡ mountDone n s i
 mount-is n torn s i t = rw t
 
+mount-finished : (n : ℕ) (torn : List ℕ) (s : SampleState) (i : SampleImage) → firstRefusal small (s .on) (s .blocks) (mounts n (i .size) (length torn)) ≡ 0 → i .whole ≡ true
+    → length (mountOpsOf i) ≤ n → act (mount n torn) s i ≡ out accepted (length (mountOpsOf i)) (opened i) (voided false i)
+mount-finished n torn s i t e h = mount-is n torn s i t ∙ mount-whole n s i e ∙ rw (le-leb (length (mountOpsOf i)) n h)
+
+-- it sets a mark or does nothing
+mount-none : (b : ℕ) (c : Bool) → erasesIn b (cond c (mark 0 Obsolete ∷ []) []) ≡ 0
+mount-none b true = refl
+mount-none b false = refl
+
 mount-ok : (n : ℕ) (torn : List ℕ) (s : SampleState) (i : SampleImage)
     → Mount small sample n torn s i (act (mount n torn) s i .answer) (act (mount n torn) s i .ops) (act (mount n torn) s i .state) (act (mount n torn) s i .image)
 unfolding stateOf resting
@@ -428,13 +464,12 @@ mount-ok n torn s i =
           let k = cond-means (leb (length (mountOpsOf i)) n) i n (length (mountOpsOf i)) (opened i) (down s) in
           (ap (λ x. meaningOf (x .image)) d ∙ k .0 ∙ e, λ r. ap (λ x. x .image .roomy) d ∙ k .1 ∙ r);
       done = λ t K G e h.
-          let b = holds-by (i .whole) (i .tree) (i .number) K G e in (
-            ap (λ x. stateOf sample (x .state) (x .image)) (mount-is n torn s i t ∙ mount-whole n s i (b .0))
-                ∙ ap (λ u. stateOf sample (cond u (out accepted (length (mountOpsOf i)) (opened i) (voided false i)) (out (refuses 10) n (down s) i) .state)
-                (cond u (out accepted (length (mountOpsOf i)) (opened i) (voided false i)) (out (refuses 10) n (down s) i) .image)) (le-leb (length (mountOpsOf i)) n h)
+          let b = holds-by (i .whole) (i .tree) (i .number) K G e in
+          let d = mount-finished n torn s i t (b .0) h in (
+            ap (λ x. stateOf sample (x .state) (x .image)) d
                 ∙ ap (λ m. record { kept = treeIn m; present = treeIn m; pending = 0; number = i .number; on = true; blocks = blocksOf small (i .size) }) e
                 ∙ ap (λ m. record { kept = K; present = K; pending = 0; number = m; on = true; blocks = blocksOf small (i .size) }) (b .2),
-            tt,
+            subst (λ x. Tied (x .state) (x .image)) (sym d) (refl, refl),
           );
       cut = λ t K G e h.
           let b = holds-by (i .whole) (i .tree) (i .number) K G e in
@@ -442,6 +477,11 @@ mount-ok n torn s i =
       zeros = sieve-case (λ x. x .answer ≡ accepted → (b : ℕ) → x .state .erases b ≡ 0) f 0 s i o (λ k e q. absurd (accepted-not (suc k) (sym q)))
           (λ k z e. absurd (omega arith))
           (λ z e. mount-cases (λ x. x .answer ≡ accepted → (b : ℕ) → x .state .erases b ≡ 0) n s i (λ q b. refl) (λ q. absurd (accepted-not 10 (sym q))) (λ q. absurd (accepted-not 7 (sym q))));
+      noErase = λ b. mount-none b (i .void);
+      still = λ t good. (
+        rw (good .0),
+        sieve-case (λ x. x .image ≡ i) f 0 s i o (λ k e. refl) (λ k z e. refl) (λ z e. mount-cases (λ x. x .image ≡ i) n s i (ap (λ b. voided b i) (sym (good .0))) refl refl),
+      );
     }
 
 -- ---- format
@@ -467,7 +507,7 @@ format-ok n torn s i =
           (λ z e. format-cases (λ x. (k : ℕ) → x .answer ≡ refuses k → (k ≡ 10 → ⊥) → x .ops ≡ 0) n s i (λ k e f. absurd (accepted-not k e)) (ten-loud n));
       few = λ t. omega arith;
       power = λ t. rw t (record { enough = λ h. rw (le-leb 4 n h) (refl, refl); short = λ h. rw (lt-leb 4 n h) (refl, refl) });
-      done = λ t h. rw (t, le-leb 4 n h) (refl {a = fresh (blocksOf small (i .size))}, refl, tt, refl);
+      done = λ t h. rw (t, le-leb 4 n h) (refl {a = fresh (blocksOf small (i .size))}, refl, (refl, refl), refl);
       zeros = sieve-case (λ x. x .answer ≡ accepted → (b : ℕ) → x .state .erases b ≡ 0) f 0 s i o (λ k e q. absurd (accepted-not (suc k) (sym q)))
           (λ k z e. absurd (omega arith))
           (λ z e. format-cases (λ x. x .answer ≡ accepted → (b : ℕ) → x .state .erases b ≡ 0) n s i (λ q b. refl) (λ q. absurd (accepted-not 10 (sym q))));

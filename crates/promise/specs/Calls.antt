@@ -41,6 +41,8 @@ pub record Store : Type 1 where
   -- P: what the pages of the image and the buffer of the state give
   pub present : State → Image → Table
   pub meaning : Image → Meaning
+  -- the number of its free pages
+  pub free : Image → ℕ
   -- the operations of a mount (a mark for each void page), of a commit, and of a format of a chip with that many blocks
   pub mountOps : Image → List Op
   pub commitOps : State → Image → List Op
@@ -193,6 +195,10 @@ module _ (g : Geometry) (S : Store) where
     pub once : Committing allowance torn s i → S .able s i ≡ true → (b : ℕ) → erasesIn b (S .commitOps s i) ≤ 1
     pub adds : Committing allowance torn s i → S .able s i ≡ true → length (S .commitOps s i) ≤ allowance → (b : ℕ) → S .erases s b ≤ S .number s
         → S .erases s' b ≡ S .erases s b + erasesIn b (S .commitOps s i)
+    -- finished, it leaves a page free, and the next one, from any state that calls gave for the image it left, erases no block that this one erased
+    pub leavesFree : Committing allowance torn s i → S .able s i ≡ true → length (S .commitOps s i) ≤ allowance → 0 < S .free i'
+    pub rests : Committing allowance torn s i → S .able s i ≡ true → length (S .commitOps s i) ≤ allowance → (b : ℕ) → 0 < erasesIn b (S .commitOps s i)
+        → (t : S .State) → S .Good t i' → erasesIn b (S .commitOps t i') ≡ 0
     pub cut : Committing allowance torn s i → S .able s i ≡ true → allowance < length (S .commitOps s i) → S .on s' ≡ false
 
   -- mount reads the image alone
@@ -213,3 +219,7 @@ module _ (g : Geometry) (S : Store) where
     pub cut : PassesFirst (mounts allowance (S .size i) (length torn)) s → (K : Table) (G : ℕ) → S .meaning i ≡ means K G
         → allowance < length (S .mountOps i) → S .on s' ≡ false
     pub zeros : a ≡ accepted → (b : ℕ) → S .erases s' b ≡ 0
+    -- it erases no block
+    pub noErase : (b : ℕ) → erasesIn b (S .mountOps i) ≡ 0
+    -- an image that calls gave a state for has no void page: there is nothing to do, and it stays as it is
+    pub still : (t : S .State) → S .Good t i → (S .mountOps i ≡ []) × (i' ≡ i)

@@ -4,19 +4,19 @@ use mathlib.Core.Bool.{Bool, true, false, cond}
 use mathlib.Core.List.{List, foldl}
 use Prim.Native.Nat.{ℕ, suc, _+_, _*_, _^_, _≤_, _<_}
 use native.Mathlib.Omega.{arith}
-use lib.Dec.{eqb, ltb}
+use lib.Dec.{ltb}
 use lib.ListN.{length, getD, length-map}
 use lib.Seq.{take-all}
-use Rattle.lists.specs.Lists.{All, any, tab}
+use borrow.Author.Tests.{ltb-false, ltb-true}
+use Rattle.lists.specs.Lists.{count, tab}
 use Rattle.lists.proofs.Alls.{All-map}
 use Rattle.lists.proofs.Flats.{tab-same, getD-tab}
-use Rattle.lists.proofs.Sets.{Mem, eqb-mem}
 use Rattle.lists.proofs.Tests.{cases}
 use Rattle.chip.specs.declared.progress.Progress.{Progress}
 use Rattle.chip.specs.Geometry.{small, blocksOf}
 use Rattle.chip.specs.Power.{isGone, takesEffect}
 use Rattle.chip.specs.Counts.{countsOf}
-use Rattle.chip.specs.Page.{Page}
+use Rattle.chip.specs.Page.{Page, isFree}
 use Rattle.chip.specs.Chip.{Op, Machine, kindOf, kindsOf, pagesOf}
 use Rattle.chip.specs.Erases.{erasesIn}
 use Rattle.chip.specs.RunCode.{atStart}
@@ -30,7 +30,7 @@ use Rattle.views.specs.Table.{Node, events, fresh, turn}
 use Rattle.views.proofs.Meanings.{Kept, nodeIn, kept-node}
 use Rattle.tree.specs.Tree.{Table, next}
 use Rattle.tree.specs.Step6.{step6}
-use Rattle.log.specs.Plan.{Plan, freeAt, newsOf, nodeAt, spareBlocks}
+use Rattle.log.specs.Plan.{newsOf, nodeAt, opsOf, spareBlocks}
 use Rattle.log.specs.Policy.{planOf}
 use Rattle.log.proofs.EraseLaws.{commit-erases, erased-none, erased-on}
 use Rattle.log.proofs.AdmissibleLaws.{Safe, imageAfter, nodeAfter}
@@ -40,31 +40,28 @@ use Rattle.promise.specs.Calls as P
 use Rattle.commits.specs.ExecuteCode.{Executed}
 use Rattle.store.specs.declared.state.State.{State}
 use Rattle.store.specs.FreshCode.{committedState}
-use Rattle.store.specs.State.{limitOf, nodesOf, unitsOf, presentOf, Good, Room}
+use Rattle.store.specs.State.{limitOf, nodesOf, unitsOf, presentOf, Good, Room, commitOps}
 use Rattle.store.specs.Contracts.{thePlan, theOps, toldOf}
 use Rattle.store.proofs.BegunViews.{map-tab}
 use Rattle.store.proofs.Begun.{Settled}
-use Rattle.store.proofs.CommitGood.{good-chip, good-kept, good-long, good-present, good-room, room-by}
+use Rattle.store.proofs.CommitGood.{good-chip, good-kept, good-long, good-present, good-room, ops-none, ops-some, room-by}
 
 -- ---- with an allowance for all of them, all are told
 pub all-told : (n : ℕ) (os : List Op) → length os ≤ n → toldOf n os ≡ countsOf (kindsOf os)
 all-told n os h = ap countsOf (take-all n (kindsOf os) (omega (arith, length-map os kindOf)))
 
--- ---- what the plan of the next commit is made of
+-- ---- what the operations of the next commit are made of
 same-nodes : {tb nx : List Node} {G H : ℕ} → Views.means tb G ≡ Views.means nx H → tb ≡ nx
 same-nodes e = cc
 
 same-number : {tb nx : List Node} {G H : ℕ} → Views.means tb G ≡ Views.means nx H → G ≡ H
 same-number e = cc
 
-same-plan : {B C : ℕ} {ps qs : List Page} {tb nx : List Node} {G H : ℕ} (us : List U.Unit) → B ≡ C → ps ≡ qs → tb ≡ nx → G ≡ H
-    → planOf small (8 * B) B ps tb G us ≡ planOf small (8 * C) C qs nx H us
-same-plan {B = B} {C = C} {ps = ps} {qs = qs} {tb = tb} {nx = nx} {G = G} us b p t g =
-    ap (λ (x : ℕ). planOf small (8 * x) x ps tb G us) b ∙ ap (λ (x : List Page). planOf small (8 * C) C x tb G us) p
-    ∙ ap (λ (x : List Node). planOf small (8 * C) C qs x G us) t ∙ ap (λ (x : ℕ). planOf small (8 * C) C qs nx x us) g
-
-not-member : (b : ℕ) (xs : List ℕ) → (Mem b xs → ⊥) → any (eqb b) xs ≡ false
-not-member b xs h = cases (any (eqb b) xs) (λ t. absurd (h (eqb-mem b xs t))) (λ t. t)
+same-ops : {B C : ℕ} {ps qs : List Page} {tb nx : List Node} {G H : ℕ} (us : List U.Unit) → B ≡ C → ps ≡ qs → tb ≡ nx → G ≡ H
+    → opsOf small G (planOf small (8 * B) B ps tb G us) ≡ opsOf small H (planOf small (8 * C) C qs nx H us)
+same-ops {B = B} {C = C} {ps = ps} {qs = qs} {tb = tb} {nx = nx} {G = G} us b p t g =
+    ap (λ (x : ℕ). opsOf small G (planOf small (8 * x) x ps tb G us)) b ∙ ap (λ (x : List Page). opsOf small G (planOf small (8 * C) C x tb G us)) p
+    ∙ ap (λ (x : List Node). opsOf small G (planOf small (8 * C) C qs x G us)) t ∙ ap (λ (x : ℕ). opsOf small x (planOf small (8 * C) C qs nx x us)) g
 
 module _ (n : ℕ) (torn : List ℕ) (s : State) (i i' lens slots erases : List ℕ) (reached : Progress) (g : Good small s i)
     (x : Executed (limitOf s) (s .commit) (nodesOf small s i) (thePlan s i) torn (atStart n) i i' lens slots (s .erases) erases reached) where
@@ -162,23 +159,33 @@ module _ (n : ℕ) (torn : List ℕ) (s : State) (i i' lens slots erases : List 
       finished : Kept small (limitOf s) (pagesOf small i') nextNodes (suc (s .commit))
       finished = rw after-pages (sf .kept n enough)
 
-      pub after-free : (p : ℕ) × (freeAt (pagesOf small i') p ≡ true)
-      after-free = let r = sf .page-free n enough in (r .0, ap (λ (qs : List Page). freeAt qs (r .0)) after-pages ∙ r .1)
+      pub after-free : 0 < count isFree (pagesOf small i')
+      after-free = rw after-pages (sf .page-free n enough)
 
-      -- a state that is good for the image has the nodes and the number of the commit
-      next-plan : (t : State) → Good small t i'
-          → thePlan t i' ≡ planOf small (limitOf s) (s .blocks) (imageAfter small torn ps (s .commit) (thePlan s i) n) nextNodes (suc (s .commit)) (unitsOf t)
-      next-plan t h =
-          let b : t .blocks ≡ s .blocks = h .blocks ∙ sym after-blocks in
-          let m : Views.means (nodesOf small t i') (t .commit) ≡ Views.means nextNodes (suc (s .commit)) =
-          sym (h .means) ∙ ap (λ (B : ℕ). Views.meaning small (8 * B) (pagesOf small i')) b ∙ finished .is in
-          same-plan (unitsOf t) b after-pages (same-nodes m) (same-number m)
+      -- a state that is good for the image has the blocks, the nodes and the number of the commit
+      next-blocks : (t : State) → Good small t i' → t .blocks ≡ s .blocks
+      next-blocks t h = h .blocks ∙ sym after-blocks
 
-      pub after-rests : (t : State) → Good small t i' → All (λ (b : ℕ). any (eqb b) (thePlan t i' .erased) ≡ false) (thePlan s i .erased)
-      after-rests t h =
-          All-map
-          (λ b m. not-member b (thePlan t i' .erased) (λ k. m (subst (λ (q : Plan). Mem b (q .erased)) (next-plan t h) k)))
-          (rests-next small (limitOf s) (s .blocks) (spareBlocks small (s .blocks)) torn ps tb (s .commit) (unitsOf s) (thePlan s i) sf n enough (unitsOf t))
+      next-means : (t : State) → Good small t i' → Views.means (nodesOf small t i') (t .commit) ≡ Views.means nextNodes (suc (s .commit))
+      next-means t h = sym (h .means) ∙ ap (λ (B : ℕ). Views.meaning small (8 * B) (pagesOf small i')) (next-blocks t h) ∙ finished .is
+
+      next-ops : (t : State) → Good small t i'
+          → theOps t i' ≡ opsOf small (suc (s .commit)) (planOf small (limitOf s) (s .blocks) (imageAfter small torn ps (s .commit) (thePlan s i) n) nextNodes (suc (s .commit)) (unitsOf t))
+      next-ops t h =
+          let m = next-means t h in
+          same-ops (unitsOf t) (next-blocks t h) after-pages (same-nodes m) (same-number m)
+
+      -- and with updates pending it erases no block that the commit erased
+      next-rests : (b : ℕ) → 0 < erasesIn b (theOps s i) → (t : State) → Good small t i' → erasesIn b (theOps t i') ≡ 0
+      next-rests b e t h =
+          ap (erasesIn b) (next-ops t h)
+          ∙ rests-next small (limitOf s) (s .blocks) (spareBlocks small (s .blocks)) torn ps tb (s .commit) (unitsOf s) (thePlan s i) sf n enough (unitsOf t) b e
+
+      pub after-rests : (b : ℕ) → 0 < erasesIn b (theOps s i) → (t : State) → Good small t i' → erasesIn b (commitOps small t i') ≡ 0
+      after-rests b e t h =
+          cases (ltb 0 (t .pending))
+          (λ p. ap (erasesIn b) (ops-some t i' (ltb-true 0 (t .pending) p)) ∙ next-rests b e t h)
+          (λ p. let z = ltb-false 0 (t .pending) p in ap (erasesIn b) (ops-none t i' (omega arith)))
 
       pub after-settled : ((j : ℕ) → getD i' j 0 < 256) → Settled (committedState s lens slots erases) i' nextNodes
       after-settled bytes =

@@ -115,6 +115,8 @@ module _ (n : ℕ) (torn : List ℕ) (s : State) (i : List ℕ) where
           done = λ c. absurd (never c);
           once = λ c. absurd (never c);
           adds = λ c. absurd (never c);
+          leavesFree = λ c. absurd (never c);
+          rests = λ c. absurd (never c);
           cut = λ c. absurd (never c);
         };
         kinds = λ c. absurd (never c);
@@ -126,8 +128,6 @@ module _ (n : ℕ) (torn : List ℕ) (s : State) (i : List ℕ) where
         legal = λ c. absurd (never c);
         once = λ c. absurd (never c);
         cost = λ c. absurd (never c);
-        pageFree = λ c. absurd (never c);
-        rests = λ c. absurd (never c);
         off = λ e. absurd (d e);
         bounds = record { blocks = refl; units = omega arith };
       }
@@ -262,6 +262,8 @@ module _ (n : ℕ) (torn : List ℕ) (s : State) (i : List ℕ) where
                 done = λ c b. no-plan (c .good) b;
                 once = λ c b. no-plan (c .good) b;
                 adds = λ c b. no-plan (c .good) b;
+                leavesFree = λ c b. no-plan (c .good) b;
+                rests = λ c b. no-plan (c .good) b;
                 cut = λ c b. no-plan (c .good) b;
               };
               spent = λ e. other 6 10 (λ u. omega arith) e;
@@ -273,8 +275,6 @@ module _ (n : ℕ) (torn : List ℕ) (s : State) (i : List ℕ) where
               legal = λ c. subst (λ (q : Plan). Legal small (pagesOf small i) (opsOf small (s .commit) q)) (sym (is-stuck (c .good))) tt;
               once = λ c. subst (λ (q : Plan). Distinct (groupsOf (q .written))) (sym (is-stuck (c .good))) tt;
               cost = λ c. length-plan small (s .commit) (thePlan s i);
-              pageFree = λ c a. not-refused 6 (sym a);
-              rests = λ c a. not-refused 6 (sym a);
               off = λ e. other 6 10 (λ u. omega arith) e;
               bounds = record { blocks = refl; units = omega arith };
             }
@@ -394,6 +394,8 @@ module _ (n : ℕ) (torn : List ℕ) (s : State) (i : List ℕ) where
                 done = λ c b k. absurd (omega (arith, short (c .good), need));
                 once = λ c b. once-each (c .good);
                 adds = λ c b k. absurd (omega (arith, short (c .good), need));
+                leavesFree = λ c b k. absurd (omega (arith, short (c .good), need));
+                rests = λ c b k. absurd (omega (arith, short (c .good), need));
                 cut = λ c b m. refl;
               };
               kinds = λ c. kinds-are (c .good);
@@ -405,8 +407,6 @@ module _ (n : ℕ) (torn : List ℕ) (s : State) (i : List ℕ) where
               legal = λ c. secure (c .good) .legal;
               once = λ c. secure (c .good) .once;
               cost = λ c. length-plan small (s .commit) (thePlan s i);
-              pageFree = λ c a. not-refused 10 (sym a);
-              rests = λ c a. not-refused 10 (sym a);
               off = λ e. refl;
               bounds = record { blocks = refl; units = omega arith };
             })
@@ -440,6 +440,10 @@ module _ (n : ℕ) (torn : List ℕ) (s : State) (i : List ℕ) where
               settled-state after i' (nodes g) (settled g)
               ∙ rw (next-views n torn s i i' lens' slots' erases' (e .reached) g (by-plan g) (secure g), let z : s .commit + 1 ≡ suc (s .commit) = omega arith in z)
 
+          rests-after : Good small s i → (b : ℕ) → 0 < erasesIn b (State.commitOps small s i) → (t : State) → Good small t i' → erasesIn b (State.commitOps small t i') ≡ 0
+          rests-after g b h =
+              after-rests n torn s i i' lens' slots' erases' (e .reached) g (by-plan g) (secure g) (enough g) b (omega (arith, ap (erasesIn b) (ops-some s i pending)))
+
           commit-done : (new : State) → new ≡ committedState s lens' slots' erases'
               → Commits n torn s i (record { answer = Accepted; ops = e .reached .done; state = new }) i'
           commit-done new f =
@@ -463,6 +467,8 @@ module _ (n : ℕ) (torn : List ℕ) (s : State) (i : List ℕ) where
                   done = λ c b k. (state-new (c .good), settled-good after i' (nodes (c .good)) (settled (c .good)));
                   once = λ c b. once-each (c .good);
                   adds = λ c b k. adds (c .good);
+                  leavesFree = λ c b k. after-free n torn s i i' lens' slots' erases' (e .reached) (c .good) (by-plan (c .good)) (secure (c .good)) (enough (c .good));
+                  rests = λ c b k. rests-after (c .good);
                   cut = λ c b m. absurd (omega (arith, enough (c .good), need));
                 };
                 kinds = λ c. kinds-are (c .good);
@@ -474,8 +480,6 @@ module _ (n : ℕ) (torn : List ℕ) (s : State) (i : List ℕ) where
                 legal = λ c. secure (c .good) .legal;
                 once = λ c. secure (c .good) .once;
                 cost = λ c. length-plan small (s .commit) (thePlan s i);
-                pageFree = λ c a. after-free n torn s i i' lens' slots' erases' (e .reached) (c .good) (by-plan (c .good)) (secure (c .good)) (enough (c .good));
-                rests = λ c a. after-rests n torn s i i' lens' slots' erases' (e .reached) (c .good) (by-plan (c .good)) (secure (c .good)) (enough (c .good));
                 off = λ e. not-refused 10 e;
                 bounds = record { blocks = refl; units = omega arith };
               })

@@ -13,15 +13,17 @@ use Rattle.promise.specs.Plain.{accepted, leaf}
 use Rattle.promise.specs.Calls as C
 use Rattle.promise.specs.Calls.{means}
 use Rattle.promise.specs.Image.{imageMeaning}
-use Rattle.promise.specs.Steps.{Step, boots, one, Takes, Mounted, Started, Formatted}
+use Rattle.promise.specs.Steps.{Step, Only, NoFormat, boots, one, Runs, Takes, Mounted, Started, Formatted}
 use Rattle.promise.specs.History.{TreeOf, LawfulAct}
 use Rattle.promise.specs.Promise as P
 use Rattle.promise.specs.Erases as E
+use Rattle.promise.specs.Wear as W
 use Rattle.promise.proofs.Promise.{format-starts, mount-mounts}
 use Rattle.promise.proofs.Trees.{insert-lawful, delete-lawful}
 use Rattle.promise.proofs.Claims as L
 use Rattle.promise.proofs.Durable as D
 use Rattle.promise.proofs.Figures as F
+use Rattle.promise.proofs.Wear.{once-each, erases-pay, erases-few, leaves-free}
 use Rattle.store.specs.declared.state.State.{State}
 use Rattle.store.specs.declared.step.Call.{Call}
 use Rattle.store.specs.declared.step.Call.the-variants.{Format, Insert, Delete, LookUp, Commit, Mount}
@@ -128,3 +130,20 @@ index-figures-any = F.figures-any small (index small)
 
 pub index-figures-fit : E.FiguresFit small (index small)
 index-figures-fit = F.figures-fit small (index small)
+
+-- ---- an erase pays: from a state that calls gave, with no call cut and no format finished; so after a finished format
+pub index-unbroken : (s : State) (i : List ℕ) (xs : List (Step (index small))) → Formatted small (index small) s i → Runs small (index small) (Only (index small) s) i xs
+    → W.NoneCut (index small) xs → NoFormat (index small) xs → W.Unbroken small (index small) s i xs
+index-unbroken s i xs f r c n = record { good = index-starts s i f .mounted .good; runs = r; uncut = c; unformatted = n }
+
+pub index-once-each : W.OnceEach small (index small)
+index-once-each = once-each small (index small)
+
+pub index-erases-pay : W.ErasesPay small (index small)
+index-erases-pay = erases-pay small (index small)
+
+pub index-erases-few : W.ErasesFew small (index small)
+index-erases-few = erases-few small (index small)
+
+pub index-leaves-free : W.LeavesFree small (index small)
+index-leaves-free = leaves-free small (index small)

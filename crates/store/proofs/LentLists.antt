@@ -8,8 +8,9 @@ use Rattle.chip.specs.declared.progress.Counts.{Counts}
 use Rattle.chip.specs.Geometry.{small}
 use Rattle.chip.specs.Counts.{nothing}
 use Rattle.tree.specs.Tree.{Table}
-use Rattle.promise.specs.Steps.{Hands, Only, Runs, Started, Uncut, lastHands, starts, Agrees}
+use Rattle.promise.specs.Steps.{Hands, NoFormat, Only, Runs, Started, Uncut, lastHands, starts, Agrees}
 use Rattle.promise.specs.Erases.{Unworn, sinceStart, wholeErases}
+use Rattle.promise.specs.Wear.{NoneCut, Unbroken}
 use Rattle.store.specs.declared.answer.Answer.{Answer}
 use Rattle.store.specs.declared.answer.Look.{Look}
 use Rattle.store.specs.declared.state.State.{State}
@@ -91,3 +92,8 @@ pub lent-figures : (p : Parts) (i : List ℕ) (xs : List LentStep) → Good smal
     → (b : ℕ) → getD (t .erases) b 0 ≡ wholeErases small (index small) b (sinceStart (index small) (map lentStep xs))
 lent-figures p i xs g r z =
     index-figures-any (stateFrom p) i (map lentStep xs) g (lent-runs (Only (index small) (stateFrom p)) i xs r) z
+
+-- an erase pays: from a state that calls gave, with no call cut and no format finished, the list is one of which that is said
+pub lent-unbroken : (p : Parts) (i : List ℕ) (xs : List LentStep) → Good small (stateFrom p) i → RunsLent (Only (index small) (stateFrom p)) i xs
+    → NoneCut (index small) (map lentStep xs) → NoFormat (index small) (map lentStep xs) → Unbroken small (index small) (stateFrom p) i (map lentStep xs)
+lent-unbroken p i xs g r c f = record { good = g; runs = lent-runs (Only (index small) (stateFrom p)) i xs r; uncut = c; unformatted = f }

@@ -19,6 +19,7 @@ use Rattle.chip.specs.Counts.{nothing, total}
 use Rattle.chip.specs.Page.{Page, isLive}
 use Rattle.chip.specs.Chip.{Op, Machine, run, pagesOf}
 use Rattle.chip.specs.RunCode.{atStart, machine, Ran}
+use Rattle.chip.proofs.ImageLaws.{same-image}
 use Rattle.chip.proofs.Runs as R
 use Rattle.chip.proofs.Runs.{ran-told, ran-total, with-power}
 use Rattle.pages.specs.Steps.{Live, live, liveFrom, ofCommit, ordered, stand, steps}
@@ -28,7 +29,7 @@ use Rattle.views.proofs.ViewLaws.{Apart, apart-filter, apart-live}
 use Rattle.tree.specs.Tree.{Table}
 use Rattle.log.specs.Mount.{mountOps, mountedBy}
 use Rattle.log.specs.Plan.{hasRoom, spareBlocks}
-use Rattle.log.proofs.MountLaws.{mount-legal, mount-keeps, mount-clean, mount-gone, image-sized}
+use Rattle.log.proofs.MountLaws.{clean-none, clean-stays, mount-erases, mount-legal, mount-keeps, mount-clean, mount-gone, image-sized}
 use Rattle.log.proofs.PlanBlocks.{has-room, room-has}
 use Rattle.log.proofs.PlanRoom.{LiveAt, obsoletes, room-marks}
 use Rattle.log.specs.MountCode.{retireOps}
@@ -43,7 +44,7 @@ use Rattle.store.specs.declared.state.State.{State}
 use Rattle.store.specs.declared.state.Wrote.{Wrote}
 use Rattle.store.specs.Answers.{answerOf}
 use Rattle.store.specs.AdmitCode.{ChipOf, Sized}
-use Rattle.store.specs.State.{RoomIn, Room}
+use Rattle.store.specs.State.{Good, RoomIn, Room}
 use Rattle.store.specs.FreshCode.{NextOf, mountedState}
 use Rattle.store.specs.CheckCode.{marksOf, Read}
 use Rattle.store.specs.EndingCode.{refusedWith, acceptedWith, endedWith}
@@ -78,6 +79,10 @@ module _ (i : List ℕ) (nodes : List Node) (G : ℕ)
   unfolding Room
   room-shut h = subst (λ (x : Views.NodesRead). RoomIn small i x) (sym m) h
 
+-- ---- an image that calls gave a state for has no void page
+good-none : (t : State) (i : List ℕ) → Good small t i → mountOps small (pagesOf small i) ≡ []
+good-none t i h = clean-none small (pagesOf small i) (ordered (liveFrom small 0 (pagesOf small i))) (h .clean)
+
 -- ---- a mount refused by its sizes
 module _ (allowance : ℕ) (torn : List ℕ) (s : State) (i : List ℕ) (bytes : (j : ℕ) → getD i j 0 < 256) where
   abbrev first : ℕ
@@ -104,6 +109,8 @@ module _ (allowance : ℕ) (torn : List ℕ) (s : State) (i : List ℕ) (bytes :
           done = λ e K G m l. absurd (never e);
           cut = λ e K G m l. absurd (never e);
           zeros = λ e. absurd (accepted-not 1 (sym e));
+          noErase = mount-erases small (pagesOf small i);
+          still = λ t h. (good-none t i h, refl);
         };
         kinds = λ e K G m. absurd (never e);
         bytes = λ e K G m. absurd (never e);
@@ -139,6 +146,8 @@ module _ (allowance : ℕ) (torn : List ℕ) (s : State) (i : List ℕ) (bytes :
             done = λ e K G q l. absurd (no K G q);
             cut = λ e K G q l. absurd (no K G q);
             zeros = λ e. absurd (accepted-not n (sym e ∙ is));
+            noErase = mount-erases small (pagesOf small i);
+            still = λ t h. (good-none t i h, refl);
           };
           kinds = λ e K G q. absurd (no K G q);
           bytes = λ e K G q. absurd (no K G q);
@@ -176,6 +185,15 @@ module _ (allowance : ℕ) (torn : List ℕ) (s : State) (i : List ℕ) (bytes :
 
       sizes : All (R.Sized small) ps
       sizes = image-sized i b (chip .size)
+
+      -- without a void page the image stays as it is
+      still : (t : State) → Good small t i → (mountOps small ps ≡ []) × (i' ≡ i)
+      still t h =
+          let z = chip .size in (
+            good-none t i h,
+            same-image small i (32 * b) (omega arith) (omega arith) i' (ran .size)
+                (pages-are ∙ clean-stays small torn allowance ps (ordered (liveFrom small 0 ps)) (h .clean)),
+          )
 
       keeps : Views.meaning small limit (pagesOf small i') ≡ Views.meaning small limit ps
       keeps = ap (Views.meaning small limit) pages-are ∙ mount-keeps small limit torn (omega arith) ps sizes allowance
@@ -244,6 +262,8 @@ module _ (allowance : ℕ) (torn : List ℕ) (s : State) (i : List ℕ) (bytes :
               done = λ q K H m l. absurd (omega arith);
               cut = λ q K H m l. refl;
               zeros = λ e. absurd (accepted-not 10 (sym e));
+              noErase = mount-erases small (pagesOf small i);
+              still = still;
             };
             kinds = λ q K H m. kinds-are;
             bytes = λ q K H m. pages-are;
@@ -312,6 +332,8 @@ module _ (allowance : ℕ) (torn : List ℕ) (s : State) (i : List ℕ) (bytes :
                 done = λ q K H m l. (is-done K H m, begun-good st i' (rd .nodes) begun);
                 cut = λ q K H m l. absurd (omega arith);
                 zeros = λ e b. getD-same 32 b 0;
+                noErase = mount-erases small (pagesOf small i);
+                still = still;
               };
               kinds = λ q K H m. kinds-are;
               bytes = λ q K H m. pages-are;

@@ -1,11 +1,11 @@
 -- What each call ensures: the records of the promise, read on the code's state and image, and what those leave out.
 use mathlib.Core.Path.{_≡_}
-use mathlib.Core.Bool.{true, false, not}
+use mathlib.Core.Bool.{not}
 use mathlib.Core.List.{List, [], _∷_, map}
 use Prim.Native.Nat.{ℕ, _+_, _*_, _<_, _≤_, max}
-use lib.Dec.{eqb, leb}
+use lib.Dec.{leb}
 use lib.ListN.{length, take, getD, replicate}
-use Rattle.lists.specs.Lists.{All, any, part, count, first}
+use Rattle.lists.specs.Lists.{any, part, count, first}
 use Rattle.chip.specs.Geometry.{Geometry, small, blocksOf}
 use Rattle.chip.specs.Page.{isFree}
 use Rattle.chip.specs.declared.power.Power.the-variants.{Left}
@@ -21,7 +21,7 @@ use Rattle.tree.specs.Shown.{pagesRead}
 use Rattle.log.specs.Format.{formatOps, formattedBy}
 use Rattle.log.specs.Mount.{mountOps, mountedBy}
 use Rattle.log.specs.Commit.{groupsOf}
-use Rattle.log.specs.Plan.{Plan, freeAt, nodeAt, opsOf, isEmpty}
+use Rattle.log.specs.Plan.{Plan, nodeAt, opsOf, isEmpty}
 use Rattle.log.specs.Policy.{planOf}
 use Rattle.promise.specs.Plain.{UpdateCall, accepted, insertion, deletion, admission, formats, lookedUp, mounts, refuses, firstRefusal, orElse, when}
 use Rattle.promise.specs.Calls as P
@@ -49,6 +49,7 @@ index g =
       erases = λ s b. getD (s .erases) b 0;
       present = presentOf g;
       meaning = imageMeaning g;
+      free = λ i. count isFree (pagesOf g i);
       mountOps = λ i. mountOps g (pagesOf g i);
       commitOps = commitOps g;
       formatOps = formatOps g;
@@ -162,10 +163,5 @@ pub record Commits (allowance : ℕ) (torn : List ℕ) (s : State) (i : List ℕ
   pub once : P.Committing small (index small) allowance torn s i → Distinct (groupsOf (thePlan s i .written))
   -- the cost is known from the plan: an erase for each block, and three operations a page
   pub cost : P.Committing small (index small) allowance torn s i → length (theOps s i) ≡ length (thePlan s i .erased) + 3 * length (thePlan s i .written)
-  -- a finished commit leaves a page free
-  pub pageFree : P.Committing small (index small) allowance torn s i → answerOf (r .answer) ≡ accepted → (p : ℕ) × (freeAt (pagesOf small i') p ≡ true)
-  -- the next one, from any state t that is good for the image it left, erases no block that this one erased
-  pub rests : P.Committing small (index small) allowance torn s i → answerOf (r .answer) ≡ accepted → (t : State) → Good small t i'
-      → All (λ (b : ℕ). any (eqb b) (thePlan t i' .erased) ≡ false) (thePlan s i .erased)
   pub off : answerOf (r .answer) ≡ refuses 10 → r .state ≡ turnedOff s
   pub bounds : KeepsBounds s (r .state)

@@ -26,6 +26,17 @@ impl Range {
         Range { least: number, most: number }
     }
 
+    /// Both numbers one higher.
+    pub fn next(self) -> Range {
+        Range { least: self.least.saturating_add(1), most: self.most.saturating_add(1) }
+    }
+
+    /// The numbers that are in another range too, if there are any.
+    pub fn meet(self, other: Range) -> Option<Range> {
+        let both = Range { least: self.least.max(other.least), most: self.most.min(other.most) };
+        (both.least <= both.most).then_some(both)
+    }
+
     /// Whether a number is in the range.
     fn has(self, number: u64) -> bool {
         (self.least..=self.most).contains(&number)
@@ -70,6 +81,20 @@ impl Erases {
         let mut erases = Erases { blocks: self.blocks.iter().zip(&commit.blocks).map(both).collect(), sum };
         erases.narrow();
         erases
+    }
+
+    /// These erases where those of each block lie in one more range too; else a block with which that cannot be.
+    pub fn within(&self, ranges: impl Iterator<Item = Range>) -> Result<Erases, usize> {
+        let mut blocks = Vec::new();
+        for (block, range) in ranges.enumerate() {
+            blocks.push(self.range(block).meet(range).ok_or(block)?);
+        }
+        let mut erases = Erases { blocks, sum: self.sum };
+        erases.narrow();
+        match erases.blocks.iter().position(|range| range.least > range.most) {
+            Some(block) => Err(block),
+            None => Ok(erases),
+        }
     }
 
     /// Holds a block's figure to its range and to the sum; it is known from then on.

@@ -11,6 +11,7 @@ use super::counts::Counts;
 use super::erases::Erases;
 use super::frame::{self, Frame};
 use super::image::{self, Meaning};
+use super::pays::Pays;
 use super::plain::{Call, Lengths, Plain};
 use std::rc::Rc;
 
@@ -38,6 +39,8 @@ pub struct Judge {
     ground: Shared,
     /// The erases of each block since the last finished mount or format.
     erases: Erases,
+    /// The list that note 8 of document 02 is about, while there is one.
+    pays: Option<Pays>,
     /// Whether an open call gave the state, so that only on or off and B are known of it.
     wild: bool,
     /// Whether a finished format began the chip that the last call left, and only calls wrote it since.
@@ -72,6 +75,7 @@ impl Judge {
             plain: Plain::new(),
             ground: Rc::new(Err(image::NOTHING)),
             erases: Erases::none(0),
+            pays: None,
             wild: false,
             begun: false,
             left: None,

@@ -7,6 +7,7 @@ pub mod foreign;
 pub mod frame;
 pub mod image;
 pub mod judge;
+pub mod pays;
 pub mod plain;
 pub mod tree;
 pub mod unit;

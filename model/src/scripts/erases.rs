@@ -19,7 +19,7 @@ fn cut(random: &mut Random, writer: &mut Writer) {
 }
 
 /// A format, a commit and a mount that are refused since the image lent is too long; the store stays on, and the figures stay.
-fn refused(writer: &mut Writer) {
+pub fn refused(writer: &mut Writer) {
     let len = writer.probe().image().len();
     writer.lend_bytes((len + BLOCK) as u32 - 1);
     writer.format(2000);

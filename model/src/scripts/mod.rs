@@ -7,6 +7,7 @@ pub mod edges;
 pub mod erases;
 pub mod images;
 pub mod lines;
+pub mod pays;
 pub mod sizes;
 pub mod torn;
 pub mod writer;
@@ -20,7 +21,7 @@ pub struct Kind {
 }
 
 /// All kinds of scripts for the probe.
-pub const KINDS: [Kind; 12] = [
+pub const KINDS: [Kind; 13] = [
     Kind { name: "calls", make: calls::make },
     Kind { name: "valid", make: images::valid },
     Kind { name: "steep", make: images::steep },
@@ -33,6 +34,7 @@ pub const KINDS: [Kind; 12] = [
     Kind { name: "pending", make: edges::pending },
     Kind { name: "changed", make: changed::make },
     Kind { name: "erases", make: erases::make },
+    Kind { name: "pays", make: pays::make },
 ];
 
 /// The kind with this name.

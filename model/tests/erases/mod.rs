@@ -134,10 +134,15 @@ fn erase_that_does_not_show() {
     }
 }
 
-/// A block that shows an erase may have been erased more than once, as often as is told.
+/// A block that shows an erase may have been erased more than once, as often as is told, in a list with a cut: note 8 is not
+/// about it.
 #[test]
 fn block_erased_again() {
     let (mut hand, pages) = (before_split(), split_pages());
+    hand.set_torn(0, 255);
+    cut(&mut hand, &split_operations(&pages), 0, NONE);
+    hand.frame(Frame::Mount(255), &reply(0, NONE));
+    insert(&mut hand, 17, 17);
     commit(&mut hand, &split_operations(&pages), [2, 4, 3]);
     just(&hand, [0, 3, 0]);
     insert(&mut hand, 18, 18);

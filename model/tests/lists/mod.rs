@@ -58,10 +58,20 @@ impl Tally {
     }
 }
 
+/// After a finished format of a store that erases blocks twice: a commit that is cut, so that note 8 is not about the list, and a mount.
+fn cut(run: &mut Run, times: u64) {
+    if times > 1 {
+        for frame in [Frame::Insert(5, 5), Frame::Commit(0), Frame::Mount(255)] {
+            run.frame(frame).unwrap();
+        }
+    }
+}
+
 /// A list from a format on a chip of a number of blocks, with cuts, mounts and formats; tells the greatest sum of figures.
 fn list(run: &mut Run, random: &mut Random, blocks: usize, times: u64) -> u64 {
     run.frame(Frame::Blocks(blocks as u32)).unwrap();
     run.frame(Frame::Format(2000)).unwrap();
+    cut(run, times);
     let mut tally = Tally::new(blocks);
     let mut greatest = 0;
     for _ in 0..1500 {
@@ -69,11 +79,15 @@ fn list(run: &mut Run, random: &mut Random, blocks: usize, times: u64) -> u64 {
         let before = run.tiny.image().to_vec();
         let reply = run.frame(frame).unwrap();
         tally.take(frame, &reply, &before, run.tiny.image());
+        if matches!(frame, Frame::Format(_)) && reply.starts_with("00") {
+            cut(run, times);
+        }
         if matches!(frame, Frame::Commit(_) | Frame::Mount(_) | Frame::Format(_)) || random.once_in(9) {
             greatest = greatest.max(tally.hold(run, times));
         }
         if reply.starts_with("02") {
             run.frame(Frame::Format(2000)).unwrap();
+            cut(run, times);
             tally = Tally::new(blocks);
         }
     }

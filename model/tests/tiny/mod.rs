@@ -13,7 +13,7 @@ use model::model::unit::{encode, page_data, Deed, Unit, HEAD, ROOM, UNIT};
 #[derive(Clone, Copy, Debug, PartialEq, Eq)]
 pub enum Bug {
     None,
-    /// No fault: a block is erased twice.
+    /// A commit erases a block twice: a fault only where note 8 of document 02 says so.
     EraseTwice,
     CommitToldHigh,
     CommitToldLow,
@@ -75,7 +75,8 @@ pub enum Bug {
 
 impl Bug {
     /// All faults.
-    pub const FAULTS: [Bug; 56] = [
+    pub const FAULTS: [Bug; 57] = [
+        Bug::EraseTwice,
         Bug::CommitToldHigh,
         Bug::CommitToldLow,
         Bug::CutTold,

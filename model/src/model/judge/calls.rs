@@ -68,7 +68,11 @@ impl Judge {
         let free = format!("00{count:02X}{first:02X}");
         let figure = reply.strip_prefix(&free).and_then(|digits| erases::read(digits.as_bytes()));
         let figure = figure.ok_or_else(|| format!("{free} and 16 digits expected"))?;
-        self.erases.hold(block as usize, figure)
+        self.erases.hold(block as usize, figure)?;
+        if let Some(list) = &mut self.pays {
+            self.erases = list.hold(&self.erases)?;
+        }
+        Ok(())
     }
 
     /// Show: the units of a live page that passes its own rules in step 2, else an empty part.

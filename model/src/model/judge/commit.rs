@@ -6,6 +6,7 @@ use crate::model::chip::TORN;
 use crate::model::counts::Counts;
 use crate::model::erases::Erases;
 use crate::model::image::{self, Meaning};
+use crate::model::pays;
 use crate::model::plain::{Call, LAST_NUMBER, NEVER_CUT, POWER};
 use std::rc::Rc;
 
@@ -71,11 +72,23 @@ impl Judge {
             cut,
         };
         let erases = change.hold(told.counts)?;
+        self.pays.take_if(|_| cut);
         if !cut {
-            self.erases = self.erases.and(&erases);
+            self.put_on_record(&erases, told.counts, image)?;
         }
         self.plain.call(Call::Commit(told.allowance), self.lengths(), cut, chosen);
         self.take(image, Some(Rc::new(Ok(means))), !cut);
+        Ok(())
+    }
+
+    /// The erases of a finished commit of a list added to the figures; where note 8 holds, they have to pay.
+    fn put_on_record(&mut self, erases: &Erases, told: Counts, image: &[u8]) -> Result<(), String> {
+        let Some(list) = &mut self.pays else {
+            self.erases = self.erases.and(erases);
+            return Ok(());
+        };
+        pays::leaves_a_page(told.erases, image)?;
+        self.erases = list.commit(&self.erases, erases)?;
         Ok(())
     }
 
@@ -123,6 +136,7 @@ impl Judge {
         }
         self.take(image, None, false);
         self.begun = false;
+        self.pays = None;
         self.plain.on = told.refusal == 0;
         self.wild = self.plain.on;
         Ok(())

@@ -25,6 +25,7 @@ impl Judge {
             return false;
         }
         self.touch();
+        self.pays = None;
         self.buffer.fill(255);
         self.lent = blocks * BLOCK;
         true
@@ -49,6 +50,7 @@ impl Judge {
         }
         if self.buffer[at] != byte {
             self.touch();
+            self.pays = None;
             self.buffer[at] = byte;
         }
         true
@@ -85,6 +87,7 @@ impl Judge {
     /// Frame 16: noise in the image lent.
     fn noise(&mut self, seed: u32) -> bool {
         self.touch();
+        self.pays = None;
         let mut x = seed;
         for byte in &mut self.buffer[..self.lent] {
             x = x.wrapping_mul(1_664_525).wrapping_add(1_013_904_223);

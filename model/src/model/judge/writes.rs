@@ -4,6 +4,7 @@ use crate::model::chip::{self, Operation, Power, OBSOLETE, TORN};
 use crate::model::counts::Counts;
 use crate::model::erases::Erases;
 use crate::model::image::Meaning;
+use crate::model::pays::Pays;
 use crate::model::plain::{Call, Plain, POWER};
 use crate::model::unit::{self, Deed, Unit};
 use std::rc::Rc;
@@ -42,6 +43,7 @@ impl Judge {
         self.changed();
         self.leave();
         self.begun = !cut;
+        self.pays = (!cut).then(|| Pays::new(blocks));
         if cut {
             return told(POWER, counts);
         }
@@ -58,6 +60,7 @@ impl Judge {
         }
         let meaning = self.read();
         self.begun &= self.aligned();
+        self.pays.take_if(|_| !self.begun);
         self.leave();
         match &*meaning {
             Ok(means) => self.mount_meaning(allowance, means, &meaning),
@@ -81,11 +84,13 @@ impl Judge {
             self.changed();
         }
         self.mounted(allowance, means, cut);
+        self.pays.take_if(|_| cut);
         if cut {
             return Ok(told(POWER, counts));
         }
         self.wild = false;
         self.erases = Erases::none(self.plain.blocks);
+        self.pays.iter_mut().for_each(Pays::mount);
         self.ground = shared.clone();
         if !means.void.is_empty() {
             self.ground = Rc::new(Ok(Meaning { void: Vec::new(), ..means.clone() }));
