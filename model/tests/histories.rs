@@ -106,10 +106,9 @@ fn paid(history: &History) -> usize {
     (0..history.len()).find(|at| !pays(&history[..=*at])).unwrap_or(history.len())
 }
 
-/// Histories of which all shows, with mounts: the first commit that does not keep to note 8 is found, and none before.
-#[test]
-fn shown_histories() {
-    let mut random = Random::new(52);
+/// Histories with mounts, a commit at a time as `sees` tells it: the first that does not keep to note 8 is found, and none before.
+fn finds(seed: u64, sees: impl Fn(&mut List, &Vec<u64>) -> bool) {
+    let mut random = Random::new(seed);
     for _ in 0..20_000 {
         let blocks = 3 + random.index(3);
         let history = any(&mut random, blocks, 10);
@@ -118,26 +117,20 @@ fn shown_histories() {
             if random.once_in(4) {
                 list.mount();
             }
-            list.commit(commit, |_| true).is_ok()
+            sees(&mut list, commit)
         };
         assert_eq!(history.iter().take_while(|commit| step(commit)).count(), paid(&history), "{history:?}");
     }
 }
 
+/// Histories of which all shows.
+#[test]
+fn shown_histories() {
+    finds(52, |list, commit| list.commit(commit, |_| true).is_ok());
+}
+
 /// Histories of which nothing shows but the figures of all blocks after each commit.
 #[test]
 fn reported_histories() {
-    let mut random = Random::new(53);
-    for _ in 0..20_000 {
-        let blocks = 3 + random.index(3);
-        let history = any(&mut random, blocks, 10);
-        let mut list = List::new(blocks);
-        let mut step = |commit: &Vec<u64>| {
-            if random.once_in(4) {
-                list.mount();
-            }
-            list.commit(commit, |_| false).is_ok() && (0..blocks).all(|block| list.report(block).is_ok())
-        };
-        assert_eq!(history.iter().take_while(|commit| step(commit)).count(), paid(&history), "{history:?}");
-    }
+    finds(53, |list, commit| list.commit(commit, |_| false).is_ok() && (0..commit.len()).all(|block| list.report(block).is_ok()));
 }
