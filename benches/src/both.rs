@@ -80,10 +80,15 @@ impl Both {
     /// `commits` commits of 16 events, each a random key of the tree with another value.
     pub fn churn(&mut self, keys: &[u32], commits: usize, random: &mut Random) {
         for _ in 0..commits {
-            for _ in 0..PENDING {
-                assert_eq!(self.insert(random.pick(keys), random.next() as u32), 0);
-            }
+            self.events(keys, random);
             self.commit();
+        }
+    }
+
+    /// 16 events, each a random key of the tree with another value.
+    pub fn events(&mut self, keys: &[u32], random: &mut Random) {
+        for _ in 0..PENDING {
+            assert_eq!(self.insert(random.pick(keys), random.next() as u32), 0);
         }
     }
 
@@ -101,10 +106,20 @@ impl Both {
         answer
     }
 
+    /// What a commit made now would tell, compared.
+    fn forecast(&self) -> Told {
+        let told = self.library.forecast(&self.image);
+        assert_eq!(self.twin.forecast(&self.twin_image), told, "forecast");
+        told
+    }
+
+    /// A commit, which tells what was forecast.
     pub fn commit(&mut self) -> Told {
+        let forecast = self.forecast();
         let told = self.library.commit(&mut self.image, &TORN, ALLOWANCE);
         let twin = self.twin.commit(&mut self.twin_image, &TORN, ALLOWANCE);
         assert_eq!(told, twin, "commit");
+        assert_eq!(told, forecast, "a commit and its forecast");
         assert_eq!(told.refusal, 0);
         assert!(self.image == self.twin_image, "the images differ after a commit");
         self.pending = 0;

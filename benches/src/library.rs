@@ -87,6 +87,15 @@ extern "C" {
         allowance: u32,
         ops: &mut Ops,
     ) -> u32;
+    fn vehinoke_forecast(
+        numbers: &Numbers,
+        lens: &Lens,
+        slots: &Slots,
+        buffer: &Buffer,
+        image: *const u8,
+        image_len: usize,
+        ops: &mut Ops,
+    ) -> u32;
     pub fn vehinoke_is_free(page: *const u8, page_len: usize) -> u32;
 }
 
@@ -105,7 +114,7 @@ pub struct Library {
     buffer: Box<Buffer>,
 }
 
-/// What format, mount and commit tell, by the refusal that they return and the counts that they leave.
+/// What format, mount, commit and forecast tell, by the refusal that they return and the counts that they leave.
 fn told(refusal: u32, [programs, marks, erases]: Ops) -> Told {
     Told { refusal, counts: Counts { programs, marks, erases } }
 }
@@ -147,6 +156,14 @@ impl Library {
         let (i, t) = (image.as_mut_ptr(), torn.as_ptr());
         let (n, l, s, e, b) = (&mut self.numbers, &mut self.lens, &mut self.slots, &mut self.erases, &self.buffer);
         let refusal = unsafe { vehinoke_commit(n, l, s, e, b, i, image.len(), t, torn.len(), allowance, &mut ops) };
+        told(refusal, ops)
+    }
+
+    /// What a commit made now would tell that has power enough.
+    pub fn forecast(&self, image: &[u8]) -> Told {
+        let mut ops = [0; 3];
+        let (n, l, s, b) = (&self.numbers, &self.lens, &self.slots, &self.buffer);
+        let refusal = unsafe { vehinoke_forecast(n, l, s, b, image.as_ptr(), image.len(), &mut ops) };
         told(refusal, ops)
     }
 

@@ -1,8 +1,9 @@
-//! The benchmarks: times of the free-page test, times of the proved library against the twin, wear against SQLite and LMDB, and the
-//! erases of each block in long runs.
+//! The benchmarks: times of the free-page test, of a forecast beside its commit, and of the proved library against the twin; wear against
+//! SQLite and LMDB, and the erases of each block in long runs.
 
 mod both;
 mod clock;
+mod forecast;
 mod free;
 mod growth;
 mod library;
@@ -27,6 +28,15 @@ const COMMITS: usize = 5_000;
 
 /// A page that starts with 0 is to be tested in less than this share of a free page's time.
 const SHARE: f64 = 0.25;
+
+/// A forecast is to take at most this share of the time of a commit with allowance 0; what is above 1 is for noise.
+const AHEAD: f64 = 1.05;
+
+/// The rounds of the forecasts in a quick run, which is held to that share too.
+const FEW: usize = 21;
+
+/// What the program may be asked for.
+const WORDS: &str = "none, --times, --free, --forecast, --wear, --long, --quick, profile CALL BLOCKS ROUNDS library or twin, put NAME FILE";
 
 /// Tables, printed; and put into the document unless the run is a quick one.
 fn show(parts: &[(&str, String)], keep: bool) {
@@ -56,6 +66,17 @@ fn free(keep: bool) {
     show(&[("free", report::free_table(&rows))], keep && holds);
     if !holds {
         fail(&format!("a page that starts with 0 is tested in {ratio:.3} of a free page's time, which is not under {SHARE}"));
+    }
+}
+
+/// The table of the forecasts. The run fails where a forecast takes longer than a commit that is cut at its first operation.
+fn forecast(rounds: usize, keep: bool) {
+    let rows = forecast::rows(rounds);
+    let late = rows.iter().find(|row| row.to_cut > AHEAD);
+    show(&[("forecast", report::forecast_table(&rows))], keep && late.is_none());
+    if let Some(row) = late {
+        let (blocks, ratio) = (row.blocks, row.to_cut);
+        fail(&format!("at B = {blocks} a forecast takes {ratio:.3} of the time of a commit with allowance 0, which is above {AHEAD}"));
     }
 }
 
@@ -99,15 +120,18 @@ fn main() {
     match words[1..] {
         [] => {
             free(true);
+            forecast(ROUNDS, true);
             times(ROUNDS, true);
             wear(EVENTS, true);
             long(COMMITS, true);
         }
         ["--times"] => {
             free(true);
+            forecast(ROUNDS, true);
             times(ROUNDS, true);
         }
         ["--free"] => free(true),
+        ["--forecast"] => forecast(ROUNDS, true),
         ["--wear"] => {
             wear(EVENTS, true);
             long(COMMITS, true);
@@ -115,6 +139,7 @@ fn main() {
         ["--long"] => long(COMMITS, true),
         ["--quick"] => {
             free(false);
+            forecast(FEW, false);
             times(3, false);
             wear(160, false);
             long(100, false);
@@ -123,8 +148,6 @@ fn main() {
         ["put", name, file] => report::put(name, &std::fs::read_to_string(file).unwrap()),
         ["border"] => free::child(),
         ["child", store, file, folder] => others::child(store, file, folder),
-        _ => {
-            eprintln!("words: none, --times, --free, --wear, --long, --quick, profile CALL BLOCKS ROUNDS library or twin, or put NAME FILE")
-        }
+        _ => eprintln!("words: {WORDS}"),
     }
 }

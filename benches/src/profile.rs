@@ -18,6 +18,7 @@ fn library(call: &str, both: &mut Both, number: u32) {
         "look-up" => drop(black_box(both.library.look_up(&both.image, number))),
         "insert" => assert_eq!(both.library.insert(&both.image, number, number), 0),
         "commit" => assert_eq!(both.library.commit(&mut both.image, &TORN, ALLOWANCE).refusal, 0),
+        "forecast" => assert_eq!(black_box(both.library.forecast(&both.image)).refusal, 0),
         "mount" => assert_eq!(both.library.mount(&mut both.image, &TORN, ALLOWANCE).refusal, 0),
         "block-report" => drop(black_box(both.library.block_report(&both.image, number))),
         _ => assert_eq!(both.library.format(&mut both.image, &TORN, ALLOWANCE).refusal, 0),
@@ -30,6 +31,7 @@ fn twin(call: &str, both: &mut Both, number: u32) {
         "look-up" => drop(black_box(twin::look_up(&both.twin, &both.twin_image, number))),
         "insert" => assert_eq!(both.twin.insert(&both.twin_image, number, number), 0),
         "commit" => assert_eq!(both.twin.commit(&mut both.twin_image, &TORN, ALLOWANCE).refusal, 0),
+        "forecast" => assert_eq!(black_box(both.twin.forecast(&both.twin_image)).refusal, 0),
         "mount" => assert_eq!(both.twin.mount(&mut both.twin_image, &TORN, ALLOWANCE).refusal, 0),
         "block-report" => drop(black_box(twin::block_report(&both.twin, &both.twin_image, number))),
         _ => assert_eq!(both.twin.format(&mut both.twin_image, &TORN, ALLOWANCE).refusal, 0),
@@ -37,14 +39,14 @@ fn twin(call: &str, both: &mut Both, number: u32) {
 }
 
 /// `rounds` calls of the library or of the twin on full trees; those that fill them are not counted. Inserts are made with 0 to 15
-/// updates pending, commits with 16; block reports are of all blocks in turn.
+/// updates pending, commits and forecasts with 16; block reports are of all blocks in turn.
 pub fn run(call: &str, blocks: usize, rounds: usize, who: &str) {
     let mut random = Random::new(blocks as u64);
     let (mut both, keys) = Both::filled(blocks, usize::MAX, &mut random);
     both.churn(&keys, 100, &mut random);
     let one = if who == "twin" { twin } else { library };
     for round in 0..rounds {
-        let full = if call == "commit" { PENDING } else { round % PENDING };
+        let full = if matches!(call, "commit" | "forecast") { PENDING } else { round % PENDING };
         while both.pending < full {
             assert_eq!(both.insert(random.pick(&keys), random.next() as u32), 0);
         }

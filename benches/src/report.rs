@@ -1,5 +1,6 @@
 //! The results as tables of docs/BENCHMARKS.md and as plots.
 
+use crate::forecast;
 use crate::free;
 use crate::svg::Plot;
 use crate::times::Row;
@@ -51,6 +52,19 @@ pub fn free_table(rows: &[free::Row]) -> String {
     out
 }
 
+/// The table of the forecasts.
+pub fn forecast_table(rows: &[forecast::Row]) -> String {
+    let mut out = String::from(
+        "| B | Forecast | Commit | Commit with allowance 0 | Forecast / commit | Forecast / commit with allowance 0 |\n\
+         |---|---|---|---|---|---|\n",
+    );
+    for r in rows {
+        let (forecast, whole, cut) = (time(r.forecast), time(r.whole), time(r.cut));
+        out += &format!("| {} | {forecast} | {whole} | {cut} | {:.2} | {:.2} |\n", r.blocks, r.to_whole, r.to_cut);
+    }
+    out
+}
+
 /// The first words that a program prints.
 fn says(program: &str, words: &[&str]) -> String {
     let out = Command::new(program).args(words).output();
@@ -95,7 +109,7 @@ pub fn put(name: &str, table: &str) {
 /// The plot of the ratios.
 pub fn plot_times(rows: &[Row]) {
     let mut groups: Vec<(String, Vec<f64>)> = Vec::new();
-    for call in ["look up", "insert", "commit", "mount", "block report", "format"] {
+    for call in ["look up", "insert", "commit", "forecast", "mount", "block report", "format"] {
         groups.push((call.to_string(), rows.iter().filter(|r| r.call == call).map(|r| r.ratio).collect()));
     }
     let top = rows.iter().map(|r| r.ratio).fold(2.0, f64::max).ceil();

@@ -106,9 +106,7 @@ pub fn insert(both: &Both, keys: &[u32], count: usize, rounds: usize, random: &m
 
 /// A commit of 16 events: the times of library and twin, and the pages that it wrote.
 pub fn one_commit(both: &mut Both, keys: &[u32], random: &mut Random) -> (f64, f64, u32) {
-    for _ in 0..PENDING {
-        assert_eq!(both.insert(random.pick(keys), random.next() as u32), 0);
-    }
+    both.events(keys, random);
     let clock = reading();
     let (mut told, mut other) = (None, None);
     let library = nanos(|| told = Some(both.library.commit(&mut both.image, &TORN, ALLOWANCE))) - clock;
@@ -133,6 +131,24 @@ pub fn commit(both: &mut Both, keys: &[u32], rounds: usize, random: &mut Random)
             (library / 20.0, twin / 20.0)
         })
         .collect()
+}
+
+/// Forecasts with 16 events pending, as of commits, each followed by the commit; a round is 20 of them in turn.
+fn forecast(both: &mut Both, keys: &[u32], rounds: usize, random: &mut Random) -> Vec<Round> {
+    let mut turn = || {
+        let clock = reading();
+        let (mut library, mut twin) = (0.0, 0.0);
+        for _ in 0..20 {
+            both.events(keys, random);
+            let (mut told, mut other) = (None, None);
+            library += nanos(|| told = Some(both.library.forecast(black_box(&both.image)))) - clock;
+            twin += nanos(|| other = Some(both.twin.forecast(black_box(&both.twin_image)))) - clock;
+            assert_eq!(told, other, "the forecasts");
+            assert_eq!(told, Some(both.commit()), "a forecast and its commit");
+        }
+        (library / 20.0, twin / 20.0)
+    };
+    (0..rounds).map(|_| turn()).collect()
 }
 
 /// Mounts of the image; a round is 4 of them.
@@ -177,6 +193,7 @@ pub fn table(rounds: usize) -> Vec<Row> {
         rows.push(row("look up", blocks, note.clone(), &look_up(&both, &keys, rounds, &mut random)));
         rows.push(row("insert", blocks, note.clone(), &insert(&both, &keys, PENDING, rounds, &mut random)));
         rows.push(row("commit", blocks, note.clone(), &commit(&mut both, &keys, rounds, &mut random)));
+        rows.push(row("forecast", blocks, note.clone(), &forecast(&mut both.clone(), &keys, rounds, &mut random)));
         rows.push(row("mount", blocks, note.clone(), &mount(&mut both, rounds)));
         rows.push(row("block report", blocks, note.clone(), &block_report(&both, rounds)));
         rows.push(row("format", blocks, String::new(), &format(blocks, rounds)));

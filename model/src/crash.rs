@@ -128,7 +128,7 @@ impl Case {
         Replays { lines: writer.lines(), replays }
     }
 
-    /// A replay for each allowance from 0 to what the commit needs, with torn bytes of a kind.
+    /// A replay for each allowance from 0 to what the commit needs, forecast before it, with torn bytes of a kind.
     fn cut_commits(&self, random: &mut Random, writer: &mut Writer, kind: u64) -> usize {
         self.replay(writer);
         let need = writer.probe().need(4).total();
@@ -138,6 +138,7 @@ impl Case {
             if allowance > 0 {
                 self.replay(writer);
             }
+            writer.forecast();
             writer.commit(allowance);
             self.check(writer);
         }

@@ -29,7 +29,7 @@ impl Default for Probe {
     }
 }
 
-/// A call that did operations: the refusal, and their numbers by kind.
+/// A call that did operations or foretold them: the refusal, and their numbers by kind.
 fn wrote(told: Told) -> String {
     let Counts { programs, marks, erases } = told.counts;
     format!("{:02X}{programs:08X}{marks:08X}{erases:08X}", told.refusal)
@@ -69,13 +69,13 @@ impl Probe {
     /// The reply to a line.
     pub fn line(&mut self, line: &[u8]) -> String {
         match parse(line) {
-            Some((kind @ 0..=7, len, first, second)) => self.call(kind, len, first, second),
+            Some((kind @ (0..=7 | 9), len, first, second)) => self.call(kind, len, first, second),
             Some((kind, len, first, second)) => self.set(kind, len, first, second),
             None => "FF".into(),
         }
     }
 
-    /// The frames 00 to 07: the calls.
+    /// The frames 00 to 07 and 09: the calls.
     fn call(&mut self, kind: u32, len: usize, first: u32, second: u32) -> String {
         let (image, torn) = (&mut self.image[..self.len], &self.torn[..self.torn_len]);
         match (kind, len) {
@@ -90,6 +90,7 @@ impl Probe {
                 Err(refusal) => plain(refusal),
             },
             (7, 10) => self.show(first),
+            (9, 2) => wrote(self.state.forecast(image)),
             _ => "FF".into(),
         }
     }

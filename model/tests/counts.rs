@@ -1,5 +1,7 @@
-//! The three counts of format, mount and commit, data programs, marks set, erases, and the erases of blocks, which have to pay: by hand.
+//! The three counts of format, mount and commit, data programs, marks set, erases, the erases of blocks, which have to pay, and
+//! forecasts: by hand.
 mod erases;
+mod forecast;
 mod hand;
 mod pays;
 

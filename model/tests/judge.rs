@@ -3,6 +3,7 @@ mod lists;
 mod tiny;
 
 use model::model::chip::{BLOCK, PAGE};
+use model::model::counts::Counts;
 use model::model::foreign;
 use model::model::frame::{line, Frame};
 use model::model::judge::Judge;
@@ -87,6 +88,7 @@ fn call(random: &mut Random) -> Frame {
         23 if random.once_in(60) => Frame::Format(random.below(12) as u32),
         24 if random.once_in(30) => Frame::Format(2000),
         25 => Frame::Sum,
+        26 => Frame::Forecast,
         _ => Frame::Insert(key, random.next() as u32),
     }
 }
@@ -137,6 +139,21 @@ fn refused_commit(run: &mut Run) -> Result<(), String> {
     run.frame(Frame::TornLength(528)).map(|_| ())
 }
 
+/// A forecast at each place up to the commit that it tells of: after an update, with another torn length, before the commit with
+/// allowances around the sum, and after it.
+fn foretold(run: &mut Run, random: &mut Random) -> Result<(), String> {
+    run.frame(Frame::Insert(random.below(400) as u32, 9))?;
+    run.frame(Frame::TornLength(random.below(600) as u32))?;
+    run.frame(Frame::Forecast)?;
+    run.frame(Frame::TornLength(528))?;
+    run.frame(Frame::LookUp(random.below(400) as u32))?;
+    let reply = run.frame(Frame::Forecast)?;
+    let sum = Counts::read(&reply.as_bytes()[2..]).map_or(0, |counts| counts.sum()) as u32;
+    let allowances = [sum, sum, sum.saturating_sub(1), sum + 1, 2000, random.below(sum as u64 + 1) as u32];
+    run.frame(Frame::Commit(allowances[random.index(6)]))?;
+    run.frame(Frame::Forecast).map(|_| ())
+}
+
 /// A script of a list of calls with few frames that change what is lent.
 fn script(run: &mut Run, random: &mut Random, lines: u64) -> Result<(), String> {
     run.frame(Frame::Format(2000))?;
@@ -148,6 +165,7 @@ fn script(run: &mut Run, random: &mut Random, lines: u64) -> Result<(), String> 
             run.frame(Frame::Insert(5, 5))?;
             run.frame(Frame::Commit(random.below(2) as u32 * 2000))?;
             refused_commit(run)?;
+            run.frame(Frame::Forecast)?;
             for _ in 0..random.below(4) {
                 run.frame(outside(random))?;
             }
@@ -157,6 +175,9 @@ fn script(run: &mut Run, random: &mut Random, lines: u64) -> Result<(), String> 
             run.frame(Frame::TornLength(528))?;
             run.frame(Frame::Blocks(3 + random.below(4) as u32))?;
             run.frame(Frame::Format(2000))?;
+        }
+        if random.once_in(50) {
+            foretold(run, random)?;
         }
         if random.once_in(300) {
             run.text([&b""[..], b"0", b"0G", b"0300000007 ", b"99", b"15FF", b"0a"][random.index(7)])?;

@@ -7,7 +7,7 @@ use Prim.Native.Nat.{ℕ, zero, suc, _+_, _*_, _<_, _≤_}
 use native.Mathlib.Numerals.{add-one}
 use native.Mathlib.Omega.{arith}
 use lib.ListN.{length, take}
-use lib.Seq.{take-take}
+use lib.Seq.{length-take-le, take-take}
 use Rattle.lists.specs.Lists.{All, none, tab}
 use Rattle.lists.proofs.Flats.{length-tab, tab-same}
 use Rattle.lists.proofs.Alls.{All-take}
@@ -25,12 +25,12 @@ use Rattle.views.specs.Table.{Node, events, turn}
 use Rattle.views.specs.PassCode.{Turned}
 use Rattle.views.specs.Stored.{Stores}
 use Rattle.log.specs.Commit.{Pack, Sheet, ValidSheet, unitsOfPacks}
-use Rattle.log.specs.Plan.{Plan, erases, headBlock, isEmpty, newsOf, nodeAt, opsOf, places, planOn, sheets, spareBlocks, stuck}
-use Rattle.log.specs.Admissible.{Assignment, Contents, allPacks, contentsOf, pagePacks, unusedBlocks, writtenOf}
-use Rattle.log.specs.Policy.{Decision, decide, decideOn, planOf, follow, nothing, planBy, usedBlocks}
+use Rattle.log.specs.Plan.{Plan, erases, headBlock, isEmpty, newsOf, nodeAt, opsOf, places, sheets, spareBlocks, stuck}
+use Rattle.log.specs.Admissible.{Assignment, Contents, allPacks, contentsOf, pagePacks, writtenOf}
+use Rattle.log.specs.Policy.{Decision, planOf, follow, nothing}
 use Rattle.log.specs.PlanCode.{targetIn}
 use Rattle.log.proofs.EraseLaws.{commit-figures}
-use Rattle.log.proofs.ContentsLaws.{decide-same, page-same, plan-by-same}
+use Rattle.log.proofs.ContentsLaws.{page-same}
 use Rattle.log.proofs.AssignedChoice.{Chip, Committable}
 use Rattle.log.proofs.PlanKept.{chip-small, wide-small, ready}
 use Rattle.log.proofs.AdmissibleLaws.{Safe}
@@ -41,8 +41,9 @@ use Rattle.plan.specs.MakeCode.{HoldsAssignment, LaysPlan, Makes, decisionOf, p
 use Rattle.plan.proofs.PlaceLaws.{first-erases-is, first-places-is}
 use Rattle.execution.specs.ExecutionCode.{CarriesOut, namedPlan}
 use Rattle.execution.specs.WriteCode.{Holds}
-use Rattle.commits.specs.ExecuteCode.{Executed, Executes, Plannable}
-use Rattle.commits.proofs.HeldLaws.{held-contents, held-unused, held-used}
+use Rattle.commits.specs.ExecuteCode.{Executes, Plannable, planOver, planRead}
+use Rattle.commits.proofs.HeldLaws.{held-contents, held-list, held-size}
+use Rattle.commits.proofs.ReadLaws.{read-plan}
 
 -- ---- places beyond the pages are of no account
 sheets-take : (n : ℕ) (ws : List ℕ) (ks : List (List Pack)) → length ks ≤ n → sheets (take n ws) ks ≡ sheets ws ks
@@ -67,6 +68,13 @@ sheets-none [] ks h = refl
 sheets-none (w ∷ ws) [] h = refl
 sheets-none (w ∷ ws) (k ∷ ks) h = absurd (omega arith)
 
+-- as many as pages, where there are places
+sheets-many : (ws : List ℕ) (ks : List (List Pack)) → length ks ≤ length ws → length (sheets ws ks) ≡ length ks
+sheets-many [] [] h = refl
+sheets-many [] (k ∷ ks) h = absurd (omega arith)
+sheets-many (w ∷ ws) [] h = refl
+sheets-many (w ∷ ws) (k ∷ ks) h = ap suc (sheets-many ws ks (omega arith))
+
 first-some : (n : ℕ) (ws : List ℕ) → n + 1 ≤ length ws → 0 < length (take (suc n) ws)
 first-some n [] h = absurd (omega arith)
 first-some n (w ∷ ws) h = omega arith
@@ -76,6 +84,12 @@ stores-after : (limit : ℕ) (T : ℕ → Node) (news : List Live) (l s u v : Li
     → Turned (events limit news) l s u v → (m : ℕ) → m < limit → Stores u v m (foldl (turn m) (T m) (events limit news) .pages)
 stores-after limit T news l s u v b h k m i = k m (omega arith) (T m) (h m i)
 
+-- ---- the plan that is read from arrays that hold a table
+plan-read : {limit B : ℕ} {lens slots : List ℕ} {count : ℕ} {bytes : List ℕ} {G : ℕ} {ps : List Page} {tb : List Node} {us : List U.Unit}
+    → Plannable limit B lens slots count bytes ps tb G us → planRead limit B lens slots count bytes G ps ≡ planOf small limit B ps tb G us
+plan-read {limit} {B} {lens} {slots} {count} {bytes} {G} {ps} {tb} {us} pl =
+    read-plan limit B lens slots count bytes G ps tb (held-size (pl .held)) (held-list (pl .held)) (contentsOf (nodeAt tb) us) (held-contents (pl .held))
+
 module _ {limit B : ℕ} {lens slots : List ℕ} {count : ℕ} {bytes : List ℕ} {G : ℕ} {ps : List Page} {targets sizes units : List ℕ} {r : M.Plan}
     (m : Makes limit B lens slots count bytes G ps targets sizes units r) where
   abbrev N : Contents
@@ -84,18 +98,26 @@ module _ {limit B : ℕ} {lens slots : List ℕ} {count : ℕ} {bytes : List ℕ
   abbrev un : List ℕ
   un = unusedOf limit B lens slots G ps
 
-  -- the plan of the policy, over what the code reads
-  abbrev planRead : Decision → Plan
-  planRead nothing = stuck
-  planRead (follow A) = planOn small ps (headBlock small ps) un (allPacks N A limit)
+  -- the plan that is read is the one of its decision
+  abbrev q : Plan
+  q = planRead limit B lens slots count bytes G ps
+
+  read-is : (D : Decision) → decisionOf limit B lens slots count bytes G ps ≡ D → q ≡ planOver limit ps un N D
+  unfolding planRead
+  read-is D e = ap (planOver limit ps un N) e
 
   -- ---- no page: the plan has none
-  pub read-none : (D : Decision) → decisionOf limit B lens slots count bytes G ps ≡ D → r .pages ≡ 0 → isEmpty (planRead D .written) ≡ true
-  read-none nothing e z = refl
-  read-none (follow A) e z =
+  none-by : (D : Decision) → decisionOf limit B lens slots count bytes G ps ≡ D → r .pages ≡ 0 → isEmpty (planOver limit ps un N D .written) ≡ true
+  none-by nothing e z = refl
+  none-by (follow A) e z =
       let c : A .count ≡ r .pages = m .decision .is A e .count in
       sheets-none (take (suc (length (allPacks N A limit))) (places small ps (headBlock small ps) un)) (allPacks N A limit)
       (length-tab (pagePacks (writtenOf N (A .isAnew)) (A .target) limit) 0 (A .count) ∙ c ∙ z)
+
+  pub read-none : r .pages ≡ 0 → isEmpty (q .written) ≡ true
+  read-none z =
+      let D = decisionOf limit B lens slots count bytes G ps in
+      ap (λ (p : Plan). isEmpty (p .written)) (read-is D refl) ∙ none-by D refl z
 
   -- ---- pages: the plan that the arrays name
   module _ (A : Assignment) (e : decisionOf limit B lens slots count bytes G ps ≡ follow A) (some : 0 < r .pages) where
@@ -140,15 +162,25 @@ module _ {limit B : ℕ} {lens slots : List ℕ} {count : ℕ} {bytes : List ℕ
         laid .erased ∙ first-erases-is small ps (headBlock small ps) un (r .pages + 1)
         ∙ ap (λ (n : ℕ). erases small ps (take n ws) un) (add-one (r .pages) ∙ ap suc (sym ks-many))
 
-    pub named-is : namedPlan limit f targets r ≡ planRead (follow A)
+    pub named-is : namedPlan limit f targets r ≡ q
     named-is =
         ap₂ (λ (xs : List ℕ) (ts : List Sheet). record { erased = xs; written = ts }) erased-is
-        (ap (sheets (take (r .pages) (r .places))) ks-is ∙ sheets-is)
+        (ap (sheets (take (r .pages) (r .places))) ks-is ∙ sheets-is) ∙ sym (read-is (follow A) e)
 
-    pub read-some : isEmpty (planRead (follow A) .written) ≡ false
-    read-some =
-        sheets-some (take (suc (length ks)) ws) ks (subst (λ (n : ℕ). 0 < n) (sym ks-many) some)
+    some-by : isEmpty (q .written) ≡ false
+    some-by =
+        ap (λ (p : Plan). isEmpty (p .written)) (read-is (follow A) e)
+        ∙ sheets-some (take (suc (length ks)) ws) ks (subst (λ (n : ℕ). 0 < n) (sym ks-many) some)
         (subst (λ (n : ℕ). 0 < length (take (suc n) ws)) (sym ks-many) (first-some (r .pages) ws (laid .enough)))
+
+    pages-by : length (q .written) ≡ r .pages
+    pages-by =
+        ap (λ (p : Plan). length (p .written)) (read-is (follow A) e)
+        ∙ sheets-many (take (suc (length ks)) ws) ks (within (length ks) (r .pages) (length ws) (length (take (suc (length ks)) ws)) ks-many (laid .enough) (length-take-le (suc (length ks)) ws))
+        ∙ ks-many
+      where
+        within : (k n w t : ℕ) → k ≡ n → n + 1 ≤ w → (suc k ≤ w → t ≡ suc k) → k ≤ t
+        within k n w t e h f = omega (arith, f (omega arith))
 
     pub named-holds : Holds limit f targets sizes units (r .pages)
     named-holds =
@@ -162,27 +194,22 @@ module _ {limit B : ℕ} {lens slots : List ℕ} {count : ℕ} {bytes : List ℕ
   follows nothing e h = absurd (omega (arith, m .decision .count, ap pageCount e))
   follows (follow A) e h = (A, e)
 
+  pub read-some : 0 < r .pages → isEmpty (q .written) ≡ false
+  read-some h = let x = follows (decisionOf limit B lens slots count bytes G ps) refl h in some-by (x .0) (x .1) h
+
+  -- as many pages and erases as the code's plan says
+  pub read-pages : 0 < r .pages → length (q .written) ≡ r .pages
+  read-pages h =
+      let x = follows (decisionOf limit B lens slots count bytes G ps) refl h in
+      pages-by (x .0) (x .1) h
+
+  pub read-erases : 0 < r .pages → length (q .erased) ≡ r .erases
+  read-erases h =
+      let x = follows (decisionOf limit B lens slots count bytes G ps) refl h in
+      ap (λ (p : Plan). length (p .erased)) (sym (named-is (x .0) (x .1) h)) ∙ m .laid h .many
+
   -- ---- arrays that hold a table
   module _ {tb : List Node} {us : List U.Unit} (pl : Plannable limit B lens slots count bytes ps tb G us) where
-    -- blocks are those of the table
-    un-is : un ≡ unusedBlocks small B ps tb G
-    un-is = held-unused (pl .held) B (headBlock small ps)
-
-    decision-is : decisionOf limit B lens slots count bytes G ps ≡ decide small limit B ps tb G N
-    decision-is =
-        ap₂ (λ (xs ys : List ℕ). decideOn small limit (spareBlocks small B) ps (headBlock small ps) xs ys N) un-is (held-used (pl .held) B (headBlock small ps))
-
-    read-is : (D : Decision) → planRead D ≡ planBy small limit B ps tb G N D
-    read-is nothing = refl
-    read-is (follow A) = ap (λ (bs : List ℕ). planOn small ps (headBlock small ps) bs (allPacks N A limit)) un-is
-
-    -- the plan of the policy
-    pub plan-is : (D : Decision) → decisionOf limit B lens slots count bytes G ps ≡ D → planOf small limit B ps tb G us ≡ planRead D
-    plan-is D e =
-        sym (plan-by-same small limit B ps tb G N (contentsOf (nodeAt tb) us) (decide small limit B ps tb G N) (decide small limit B ps tb G (contentsOf (nodeAt tb) us)) (held-contents (pl .held))
-        (decide-same small limit (spareBlocks small B) ps (headBlock small ps) (unusedBlocks small B ps tb G) (usedBlocks small B ps tb G) N (contentsOf (nodeAt tb) us) (held-contents (pl .held))))
-        ∙ ap (planBy small limit B ps tb G N) (sym decision-is ∙ e) ∙ sym (read-is D)
-
     plan-ready : Committable small limit B ps tb G us
     plan-ready =
         ready small limit B ps tb G us (record { is = pl .held .is; clean = pl .held .clean }) (pl .number) (pl .bytes) (pl .sizes) (pl .long)
@@ -192,42 +219,34 @@ module _ {limit B : ℕ} {lens slots : List ℕ} {count : ℕ} {bytes : List ℕ
     plan-holds : (torn : List ℕ) → length torn ≡ 528 → 3 ≤ B → All (ValidSheet small limit) (planOf small limit B ps tb G us .written)
     plan-holds torn size many =
         ⊎-elim
-        (λ (e : planOf small limit B ps tb G us ≡ stuck). subst (λ (q : Plan). All (ValidSheet small limit) (q .written)) (sym e) none)
+        (λ (e : planOf small limit B ps tb G us ≡ stuck). subst (λ (p : Plan). All (ValidSheet small limit) (p .written)) (sym e) none)
         (λ (sf : Safe small limit B (spareBlocks small B) torn ps tb G us (planOf small limit B ps tb G us)). sf .pages-hold)
         (foreign small limit B torn (subst (λ (n : ℕ). Chip small n B torn) (sym (pl .limits)) (chip-small B torn size)) ps tb G us plan-ready (pl .some) (wide-small B many))
 
-    pub empty-none : r .pages ≡ 0 → isEmpty (planOf small limit B ps tb G us .written) ≡ true
-    empty-none z =
-        let D = decisionOf limit B lens slots count bytes G ps in
-        ap (λ (q : Plan). isEmpty (q .written)) (plan-is D refl) ∙ read-none D refl z
-
-    pub empty-some : 0 < r .pages → isEmpty (planOf small limit B ps tb G us .written) ≡ false
-    empty-some h =
-        let x = follows (decisionOf limit B lens slots count bytes G ps) refl h in
-        ap (λ (q : Plan). isEmpty (q .written)) (plan-is (follow (x .0)) (x .1)) ∙ read-some (x .0) (x .1) h
-
-    -- carried out
-    pub executed : 0 < r .pages → (torn : List ℕ) → length torn ≡ 528 → 3 ≤ B → B ≤ 32 → {p reached : Progress} {before after u v : List ℕ}
+    -- its pages noted
+    pub listed : 0 < r .pages → (torn : List ℕ) → length torn ≡ 528 → 3 ≤ B → B ≤ 32 → {p reached : Progress} {before after u v : List ℕ}
         → CarriesOut limit G r targets sizes units torn p reached before after lens slots u v
-        → {w x : List ℕ} → x ≡ figuresAfter (map erase (take (r .erases) (r .erased))) w
-        → Executed limit G tb (planOf small limit B ps tb G us) torn p before after u v w x reached
-    executed h torn size many most {p} {reached} {before} {after} {u} {v} c {w} {x} k =
+        → (n : ℕ) → n < limit → Stores u v n (foldl (turn n) (nodeAt tb n) (events limit (newsOf small G q)) .pages)
+    listed h torn size many most {p} {reached} {before} {after} {u} {v} c =
         let y = follows (decisionOf limit B lens slots count bytes G ps) refl h in
-        let A = y .0 in
-        let e : namedPlan limit (f A (y .1) h) targets r ≡ planOf small limit B ps tb G us = named-is A (y .1) h ∙ sym (plan-is (follow A) (y .1)) in
-        let hold = named-holds A (y .1) h in
-        let ran : Ran small torn (opsOf small G (planOf small limit B ps tb G us)) p reached before after =
-        subst (λ (q : Plan). Ran small torn (opsOf small G q) p reached before after) e (c .ran (f A (y .1) h) hold) in
-        let valid : All (ValidSheet small limit) (namedPlan limit (f A (y .1) h) targets r .written) =
-        subst (λ (q : Plan). All (ValidSheet small limit) (q .written)) (sym e) (plan-holds torn size many) in
-        let turned : Turned (events limit (newsOf small G (planOf small limit B ps tb G us))) lens slots u v =
-        subst (λ (q : Plan). Turned (events limit (newsOf small G q)) lens slots u v) e (c .turned (f A (y .1) h) hold valid) in
-        record {
-          ran = ran;
-          lists = stores-after limit (nodeAt tb) (newsOf small G (planOf small limit B ps tb G us)) lens slots u v (omega (arith, pl .limits)) (pl .held .lists) turned;
-          figures = k ∙ ap (λ (q : Plan). figuresAfter (map erase (q .erased)) w) e
-              ∙ commit-figures (planOf small limit B ps tb G us .erased) (newsOf small G (planOf small limit B ps tb G us)) w;
-        }
+        let e = named-is (y .0) (y .1) h in
+        let valid : All (ValidSheet small limit) (q .written) = subst (λ (p : Plan). All (ValidSheet small limit) (p .written)) (sym (plan-read pl)) (plan-holds torn size many) in
+        let turned : Turned (events limit (newsOf small G q)) lens slots u v =
+        subst (λ (p : Plan). Turned (events limit (newsOf small G p)) lens slots u v) e
+        (c .turned (f (y .0) (y .1) h) (named-holds (y .0) (y .1) h) (subst (λ (p : Plan). All (ValidSheet small limit) (p .written)) (sym e) valid)) in
+        stores-after limit (nodeAt tb) (newsOf small G q) lens slots u v (omega (arith, pl .limits)) (pl .held .lists) turned
+
+  -- ---- carried out, on any arrays
+  pub carried : 0 < r .pages → {torn : List ℕ} {p reached : Progress} {before after l s u v : List ℕ} → CarriesOut limit G r targets sizes units torn p reached before after l s u v
+      → Ran small torn (opsOf small G q) p reached before after
+  carried h {torn} {p} {reached} {before} {after} c =
+      let y = follows (decisionOf limit B lens slots count bytes G ps) refl h in
+      subst (λ (x : Plan). Ran small torn (opsOf small G x) p reached before after) (named-is (y .0) (y .1) h) (c .ran (f (y .0) (y .1) h) (named-holds (y .0) (y .1) h))
+
+  worn-by : 0 < r .pages → (w x : List ℕ) → x ≡ figuresAfter (map erase (take (r .erases) (r .erased))) w → x ≡ figuresAfter (opsOf small G q) w
+  worn-by h w x k =
+      let y = follows (decisionOf limit B lens slots count bytes G ps) refl h in
+      k ∙ ap (λ (p : Plan). figuresAfter (map erase (p .erased)) w) (named-is (y .0) (y .1) h) ∙ commit-figures (q .erased) (newsOf small G q) w
 
 -- ---- the call
 module _ {limit B : ℕ} {lens slots : List ℕ} {count : ℕ} {bytes : List ℕ} {G : ℕ} (before : List ℕ) {targets sizes units : List ℕ} {r : M.Plan}
@@ -238,10 +257,11 @@ module _ {limit B : ℕ} {lens slots : List ℕ} {count : ℕ} {bytes : List ℕ
   executes-none z torn p l s u v w x =
       record {
         size = refl;
+        stuck = sym (read-none m z);
         still = λ e. refl;
-        some = λ e. clash refl e;
-        stuck = λ tb us pl. sym (empty-none m pl z);
-        is = λ tb us pl a b e. clash refl e;
+        ran = λ e. clash refl e;
+        figures = λ e. clash refl e;
+        lists = λ tb us pl a b e. clash refl e;
       }
 
   -- pages: the plan is carried out
@@ -252,12 +272,13 @@ module _ {limit B : ℕ} {lens slots : List ℕ} {count : ℕ} {bytes : List ℕ
   executes-some h torn size many most {p} {reached} {after} {l} {s} {u} {v} c {w} {x} k =
       record {
         size = c .size;
+        stuck = sym (read-some m h);
         still = λ e. clash e refl;
-        some = λ e. (take (r .erases) (r .erased), c .some .0, c .some .1, k ∙ commit-figures (take (r .erases) (r .erased)) (c .some .0) w);
-        stuck = λ tb us pl. sym (empty-some m pl h);
-        is = λ tb us pl a b e. executed m pl h torn size many most
+        ran = λ e. carried m h c;
+        figures = λ e. worn-by m h w x k;
+        lists = λ tb us pl a b e. listed m pl h torn size many most
             (subst (λ (y : List ℕ). CarriesOut limit G r targets sizes units torn p reached before after y slots u v) a
-            (subst (λ (y : List ℕ). CarriesOut limit G r targets sizes units torn p reached before after l y u v) b c)) k;
+            (subst (λ (y : List ℕ). CarriesOut limit G r targets sizes units torn p reached before after l y u v) b c));
       }
 
   -- what the execution asks of the plan

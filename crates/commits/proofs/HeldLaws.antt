@@ -1,26 +1,24 @@
--- What the code reads from arrays that hold a table: the contents of its nodes, and its used and unused blocks. Assumes nothing.
+-- What the code reads from arrays that hold a table: its lists, and the contents of its nodes. Assumes nothing.
 use mathlib.Core.Path.{_≡_, sym, ap, _∙_}
 use mathlib.Core.List.{List, reverse}
 use Prim.Native.Nat.{ℕ, _<_, _≤_}
 use lib.ListN.{length, length-reverse}
-use Rattle.lists.specs.Lists.{any, filter}
+use Rattle.lists.specs.Lists.{any}
 use Rattle.chip.specs.Geometry.{Geometry}
 use Rattle.chip.specs.Page.{Page}
 use Rattle.chip.specs.Chip.{inBlock}
 use Rattle.pages.specs.declared.unit.Unit as U
-use Rattle.pages.specs.Steps.{liveFrom}
 use Rattle.views.specs.Table.{Node, fresh}
 use Rattle.views.specs.Stored.{Stores, listView, storedList}
 use Rattle.views.proofs.Groups.{well-is}
 use Rattle.views.proofs.Meanings.{Kept, kept-node, kept-size, kept-well, nodeIn}
 use Rattle.views.proofs.ViewLaws.{view-stored}
-use Rattle.log.specs.Plan.{isUsed, nodeAt, ring, unused}
+use Rattle.log.specs.Plan.{nodeAt}
 use Rattle.log.specs.Admissible.{contentsOf}
 use Rattle.log.proofs.ContentsLaws.{SameContents}
 use Rattle.contents.specs.ContentsCode.{contentsIn}
 use Rattle.contents.proofs.OwnLaws.{after-is, own-is}
-use Rattle.plan.specs.SurveyCode.{unusedIn, usedAround}
-use Rattle.plan.proofs.SurveyLaws.{any-reverse, around-is, unused-is}
+use Rattle.plan.proofs.SurveyLaws.{any-reverse}
 use Rattle.commits.specs.ExecuteCode.{HoldsTable}
 
 module _ {g : Geometry} {limit : ℕ} {ps : List Page} {lens slots : List ℕ} {count : ℕ} {bytes : List ℕ} {tb : List Node} {G : ℕ} {us : List U.Unit}
@@ -44,7 +42,7 @@ module _ {g : Geometry} {limit : ℕ} {ps : List Page} {lens slots : List ℕ} {
       let s : Stores lens slots n (nodeIn g limit ps n .pages) = (rw e at (h .lists n l)) in
       view-stored g limit ps tb G held-kept n lens slots l s ∙ ap (λ (s : Node). s .now) (sym e)
 
-  held-list : (n : ℕ) → n < limit → storedList lens slots n ≡ reverse (nodeAt tb n .pages)
+  pub held-list : (n : ℕ) → n < limit → storedList lens slots n ≡ reverse (nodeAt tb n .pages)
   held-list n l = h .lists n l .pages (held-short n l)
 
   -- ---- the contents
@@ -59,9 +57,5 @@ module _ {g : Geometry} {limit : ℕ} {ps : List Page} {lens slots : List ℕ} {
         };
       }
 
-  -- ---- blocks
-  pub held-unused : (B head : ℕ) → unusedIn g B limit lens slots G (liveFrom g 0 ps) head ≡ unused g B tb G (liveFrom g 0 ps) head
-  held-unused B head = unused-is g limit lens slots G (liveFrom g 0 ps) tb (kept-size g limit ps tb G held-kept) (h .lists) held-short B head
-
-  pub held-used : (B head : ℕ) → usedAround g B limit lens slots G (liveFrom g 0 ps) head ≡ filter (isUsed g tb G (liveFrom g 0 ps)) (ring B head)
-  held-used B head = around-is g limit lens slots G (liveFrom g 0 ps) tb (kept-size g limit ps tb G held-kept) (h .lists) held-short B head
+  pub held-size : length tb ≡ limit
+  held-size = kept-size g limit ps tb G held-kept

@@ -1,2 +1,4 @@
 pub mod HeldLaws
+pub mod ReadLaws
 pub mod ExecuteLaws
+pub mod ForecastLaws

@@ -1,4 +1,4 @@
--- What the execution of a commit ensures: the operations of the plan, and the node table and the figures of the blocks that the commit leaves.
+-- What the execution of a commit ensures, and its forecast: the operations of the plan, and the node table and the figures of the blocks that the commit leaves.
 use mathlib.Core.Path.{_≡_}
 use mathlib.Core.Bool.{true, false}
 use mathlib.Core.List.{List, [], map, foldl}
@@ -8,20 +8,35 @@ use Rattle.lists.specs.Lists.{All}
 use Rattle.chip.specs.declared.progress.Progress.{Progress}
 use Rattle.chip.specs.Geometry.{Geometry, pageSize, small}
 use Rattle.chip.specs.Page.{Page}
-use Rattle.chip.specs.Chip.{pagesOf}
+use Rattle.chip.specs.Counts.{countsOf, nothing}
+use Rattle.chip.specs.Chip.{kindsOf, pagesOf}
 use Rattle.chip.specs.Erases.{figuresAfter}
 use Rattle.chip.specs.RunCode.{Ran}
 use Rattle.pages.specs.declared.unit.Unit as U
 use Rattle.pages.specs.declared.unit.Decoded.the-variants.{Good}
 use Rattle.pages.specs.Units.{Valid, decodes}
-use Rattle.pages.specs.Steps.{Live, liveFrom, ordered, stand, steps}
+use Rattle.pages.specs.Steps.{liveFrom, ordered, stand, steps}
 use Rattle.views.specs.Table.{Node, events, isWhole, meaning, means, turn}
 use Rattle.views.specs.Groups.{present}
 use Rattle.views.specs.Stored.{Stores}
-use Rattle.log.specs.Commit.{commitOps}
-use Rattle.log.specs.Plan.{Plan, isEmpty, opsOf, newsOf, nodeAt}
-use Rattle.log.specs.Policy.{planOf}
+use Rattle.log.specs.Plan.{Plan, headBlock, isEmpty, newsOf, nodeAt, opsOf, planOn, stuck}
+use Rattle.log.specs.Admissible.{Contents, allPacks}
+use Rattle.log.specs.Policy as Policy
+use Rattle.log.specs.Policy.{Decision, follow}
+use Rattle.contents.specs.ContentsCode.{contentsIn}
+use Rattle.plan.specs.MakeCode.{decisionOf, unusedOf}
 use Rattle.commits.specs.declared.execute.Ended.{Ended}
+use Rattle.commits.specs.declared.forecast.Cost.{Cost}
+
+-- ---- the plan of commit G + 1, read from image and arrays, whatever these hold
+-- the decision over the contents N, on the head and the unused blocks un
+abbrev pub planOver : ℕ → List Page → List ℕ → Contents → Decision → Plan
+planOver limit ps un N Policy.nothing = stuck
+planOver limit ps un N (follow A) = planOn small ps (headBlock small ps) un (allPacks N A limit)
+
+unfoldable pub planRead : ℕ → ℕ → List ℕ → List ℕ → ℕ → List ℕ → ℕ → List Page → Plan
+planRead limit B lens slots count bytes G ps =
+    planOver limit ps (unusedOf limit B lens slots G ps) (contentsIn small limit ps lens slots count bytes) (decisionOf limit B lens slots count bytes G ps)
 
 -- the image means the table tb and the commit number c, with no void page; the arrays hold the lists of tb, and the buffer holds the units us
 pub record HoldsTable (g : Geometry) (limit : ℕ) (ps : List Page) (lens slots : List ℕ) (count : ℕ) (bytes : List ℕ)
@@ -44,22 +59,21 @@ pub record Plannable (limit B : ℕ) (lens slots : List ℕ) (count : ℕ) (buff
   pub valid : All (Valid limit) us
   pub whole : (n : ℕ) → n < limit → isWhole (present n (nodeAt tb n .now) us) ≡ true
 
--- the plan q done as far as the power goes; the lists with the pages of the plan noted; and the figures with its erases counted
-pub record Executed (limit G : ℕ) (tb : List Node) (q : Plan) (torn : List ℕ) (p : Progress) (before after lens slots worn worn' : List ℕ) (reached : Progress) : Type 0 where
-  pub ran : Ran small torn (opsOf small G q) p reached before after
-  pub lists : (n : ℕ) → n < limit → Stores lens slots n (foldl (turn n) (nodeAt tb n) (events limit (newsOf small G q)) .pages)
-  pub figures : worn' ≡ figuresAfter (opsOf small G q) worn
-
--- on any arrays the image keeps its length, is as it was where the commit is stuck, and else some blocks were erased and some pages written; on arrays that hold
--- a table and units it is stuck where the plan has no page, and else the plan is executed. The arrays l and s become r and t, and where it is not stuck the figures worn
--- are those after the operations
+-- on any arrays: it is stuck where the plan that is read has no page, and then the image is as it was; else the operations of that plan are done as far as the power
+-- goes, and the figures worn are those after them. On arrays that hold a table and units the pages of the plan are noted too. The arrays l and s become r and t
 pub record Executes (limit B : ℕ) (lens slots : List ℕ) (count : ℕ) (buffer : List ℕ) (G : ℕ) (torn : List ℕ) (p : Progress)
     (before after l s r t worn worn' : List ℕ) (e : Ended) : Type 0 where
   pub size : length after ≡ length before
+  pub stuck : e .stuck ≡ isEmpty (planRead limit B lens slots count buffer G (pagesOf small before) .written)
   pub still : e .stuck ≡ true → after ≡ before
-  pub some : e .stuck ≡ false → (bs : List ℕ) × (news : List Live) × Ran small torn (commitOps bs news) p (e .reached) before after
-      × (worn' ≡ figuresAfter (commitOps bs news) worn)
-  pub stuck : (tb : List Node) (us : List U.Unit) → Plannable limit B lens slots count buffer (pagesOf small before) tb G us
-      → e .stuck ≡ isEmpty (planOf small limit B (pagesOf small before) tb G us .written)
-  pub is : (tb : List Node) (us : List U.Unit) → Plannable limit B lens slots count buffer (pagesOf small before) tb G us → l ≡ lens → s ≡ slots
-      → e .stuck ≡ false → Executed limit G tb (planOf small limit B (pagesOf small before) tb G us) torn p before after r t worn worn' (e .reached)
+  pub ran : e .stuck ≡ false → Ran small torn (opsOf small G (planRead limit B lens slots count buffer G (pagesOf small before))) p (e .reached) before after
+  pub figures : e .stuck ≡ false → worn' ≡ figuresAfter (opsOf small G (planRead limit B lens slots count buffer G (pagesOf small before))) worn
+  pub lists : (tb : List Node) (us : List U.Unit) → Plannable limit B lens slots count buffer (pagesOf small before) tb G us → l ≡ lens → s ≡ slots
+      → e .stuck ≡ false → (n : ℕ) → n < limit
+      → Stores r t n (foldl (turn n) (nodeAt tb n) (events limit (newsOf small G (planRead limit B lens slots count buffer G (pagesOf small before)))) .pages)
+
+-- the forecast of a commit, on any arrays: stuck where that plan has no page; else its operations by kind
+pub record Costs (limit B : ℕ) (lens slots : List ℕ) (count : ℕ) (buffer : List ℕ) (G : ℕ) (ps : List Page) (r : Cost) : Type 0 where
+  pub stuck : r .stuck ≡ isEmpty (planRead limit B lens slots count buffer G ps .written)
+  pub none : r .stuck ≡ true → r .ops ≡ nothing
+  pub all : r .stuck ≡ false → r .ops ≡ countsOf (kindsOf (opsOf small G (planRead limit B lens slots count buffer G ps)))

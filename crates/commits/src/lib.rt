@@ -1,2 +1,3 @@
-// A commit: its plan made, and carried out.
+// A commit: its plan made, and carried out; or what it would cost.
 pub mod execute;
+pub mod forecast;

@@ -97,10 +97,6 @@ module _ (limit G : ℕ) (plan : Plan) (targets sizes units torn : List ℕ) (p 
         turned = λ f h valid.
             subst (λ (ns : List Live). Turned (events limit ns) l s u v) (news-is f)
             (w .turned f h (valid-in limit f targets (plan .places) (plan .pages) few valid));
-        some = (
-          w .some .0,
-          ran-append small torn (map erase (take (plan .erases) (plan .erased))) (flat writesOf (w .some .0)) p p' p'' xs ys zs e (w .some .1),
-        );
       }
 
   pub executes : Ran small torn (map erase (take (plan .erases) (plan .erased))) p p' xs ys

@@ -1,7 +1,7 @@
 -- The pages of a commit written and noted, one after the other. Assumes nothing.
 use mathlib.Core.Path.{_≡_, refl, sym, ap, _∙_, subst}
 use mathlib.Core.Bool.{Bool, true}
-use mathlib.Core.List.{List, [], _∷_, _++_, foldl, foldl-append, append-nil}
+use mathlib.Core.List.{List, [], _++_, foldl, foldl-append, append-nil}
 use Prim.Native.Nat.{ℕ, _+_, _*_, _%_, _^_, _<_, _≤_}
 use native.Mathlib.Numerals.{add-one}
 use native.Mathlib.Omega.{arith}
@@ -76,13 +76,12 @@ module _ (pages : Pages) (targets sizes units torn places : List ℕ) (i : ℕ) 
             subst (λ (es : List Event). Turned es l s u v) (sym (append-nil (eventsOf (pages .limit) (live f))))
             (page-turned (pages .limit) (getD places i 0) (pages .commit) i (pages .total) (pageUnits f (targetIn targets) (pages .limit) i) hc l s u v (h .fits i on) (valid i on)
             (subst (λ (x : List ℕ). NotesPage (pages .limit) (getD places i 0) x l s u v) (page-is f h) t));
-        some = (record { place = getD places i 0; bytes = page } ∷ [], w);
       }
 
 module _ {pages : Pages} {targets sizes units places torn : List ℕ} where
   -- none
   pub writes-none : (p : Progress) (xs l s : List ℕ) → Writes pages targets sizes units places torn 0 0 p p xs xs l s l s
-  writes-none p xs l s = record { size = refl; ran = λ f h. ran-none small torn p xs; turned = λ f h v. turned-none l s; some = ([], ran-none small torn p xs) }
+  writes-none p xs l s = record { size = refl; ran = λ f h. ran-none small torn p xs; turned = λ f h v. turned-none l s }
 
 -- the pages so far, and one more
 module _ (pages : Pages) (targets sizes units places torn : List ℕ) (i : ℕ) where
@@ -110,11 +109,6 @@ module _ (pages : Pages) (targets sizes units places torn : List ℕ) (i : ℕ) 
             subst (λ (es : List Event). Turned es l s l' s')
             (sym (ap (events (pages .limit)) (done-more f) ∙ flat-append (eventsOf (pages .limit)) (done f) (next f)))
             (turned-append (events (pages .limit) (done f)) (events (pages .limit) (next f)) l s u v l' s' (a .turned f h valid) (b .turned f h valid));
-        some = (
-          a .some .0 ++ b .some .0,
-          subst (λ (os : List Op). Ran small torn os p p'' xs zs) (sym (flat-append writesOf (a .some .0) (b .some .0)))
-              (ran-append small torn (flat writesOf (a .some .0)) (flat writesOf (b .some .0)) p p' p'' xs ys zs (a .some .1) (b .some .1)),
-        );
       }
 
 -- ---- on the image

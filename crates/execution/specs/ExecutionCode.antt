@@ -8,11 +8,10 @@ use Rattle.chip.specs.declared.progress.Progress.{Progress}
 use Rattle.chip.specs.Geometry.{small}
 use Rattle.chip.specs.RunCode.{Ran}
 use Rattle.pages.specs.declared.unit.Update.{Update}
-use Rattle.pages.specs.Steps.{Live}
 use Rattle.views.specs.Table.{events}
 use Rattle.views.specs.PassCode.{Turned}
 use Rattle.log.specs.Admissible.{pagePacks}
-use Rattle.log.specs.Commit.{ValidSheet, commitOps}
+use Rattle.log.specs.Commit.{ValidSheet}
 use Rattle.log.specs.Plan as P
 use Rattle.log.specs.PlanCode.{targetIn}
 use Rattle.plan.specs.declared.make.Plan.{Plan}
@@ -28,11 +27,10 @@ abbrev pub namedPlan : ℕ → (ℕ → List Update) → List ℕ → Plan → P
 namedPlan limit f targets plan = planIn limit f targets (plan .places) (plan .pages) (plan .erased) (plan .erases)
 
 -- commit G + 1 carried out as far as the power goes, for every f that the arrays hold: its operations done; and its pages noted where their units obey the layout.
--- whatever the arrays hold, blocks were erased and pages written. The arrays l and s become u and v
+-- The arrays l and s become u and v
 pub record CarriesOut (limit G : ℕ) (plan : Plan) (targets sizes units torn : List ℕ) (p reached : Progress) (before after l s u v : List ℕ) : Type 0 where
   pub size : length after ≡ length before
   pub ran : (f : ℕ → List Update) → Holds limit f targets sizes units (plan .pages)
       → Ran small torn (P.opsOf small G (namedPlan limit f targets plan)) p reached before after
   pub turned : (f : ℕ → List Update) → Holds limit f targets sizes units (plan .pages) → All (ValidSheet small limit) (namedPlan limit f targets plan .written)
       → Turned (events limit (P.newsOf small G (namedPlan limit f targets plan))) l s u v
-  pub some : (news : List Live) × Ran small torn (commitOps (take (plan .erases) (plan .erased)) news) p reached before after

@@ -39,11 +39,10 @@ NotesPage limit place page l s u v =
     half page 6 ≤ 42 → all isSound (eventsOf limit (record { place = place; bytes = page })) ≡ true
     → Turned (eventsOf limit (record { place = place; bytes = page })) l s u v
 
--- pages k, k + 1, .., m of them, written and noted, for every f that the arrays hold; whatever they hold, some pages were written
+-- pages k, k + 1, .., m of them, written and noted, for every f that the arrays hold
 pub record Writes (pages : Pages) (targets sizes units places torn : List ℕ) (k m : ℕ) (p reached : Progress) (before after l s u v : List ℕ) : Type 0 where
   pub size : length after ≡ length before
   pub ran : (f : ℕ → List Update) → Holds (pages .limit) f targets sizes units (pages .total)
       → Ran small torn (flat writesOf (tab k m (liveIn pages f targets places))) p reached before after
   pub turned : (f : ℕ → List Update) → Holds (pages .limit) f targets sizes units (pages .total) → ValidPages (pages .limit) f targets (pages .total)
       → Turned (events (pages .limit) (tab k m (liveIn pages f targets places))) l s u v
-  pub some : (news : List Live) × Ran small torn (flat writesOf news) p reached before after

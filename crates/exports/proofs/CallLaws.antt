@@ -1,10 +1,11 @@
 -- What the store's call says of the numbers loaded, told of the caller's words.
-use mathlib.Core.Path.{_≡_, subst, ap, _∙_}
+use mathlib.Core.Path.{_≡_, refl, subst, ap, _∙_}
 use mathlib.Core.List.{List, [], _∷_}
 use Prim.Native.Nat.{ℕ}
 use Rattle.store.specs.Answers.{refusalNumber}
-use Rattle.store.specs.Contracts.{Formats, Mounts, Looks, Inserts, Deletes, Commits, Reports}
+use Rattle.store.specs.Contracts.{Formats, Mounts, Looks, Inserts, Deletes, Commits, Forecasts, Reports}
 use Rattle.store.specs.Parts.{joined, updatedWith, wroteWith}
+use Rattle.store.specs.declared.answer.Forecast.{Forecast}
 use Rattle.store.specs.declared.answer.Look.{Look}
 use Rattle.store.specs.declared.answer.Report.{Report}
 use Rattle.store.specs.declared.state.Numbers.{Numbers}
@@ -15,7 +16,7 @@ use Rattle.exports.specs.declared.finds.Reported.{Reported}
 use Rattle.exports.specs.Told.{lookTold, reportTold}
 use Rattle.exports.specs.Words.{numbersIn, Loads, wordsOf}
 use Rattle.exports.proofs.ExactLaws.{Narrow, words-back, bounds-narrow, format-narrow, mount-narrow}
-use Rattle.exports.specs.Calls.{LooksTold, ReportsTold, InsertsTold, DeletesTold, Tells, FormatsTold, MountsTold, CommitsTold}
+use Rattle.exports.specs.Calls.{LooksTold, ForecastsTold, ReportsTold, InsertsTold, DeletesTold, Tells, FormatsTold, MountsTold, CommitsTold}
 
 -- numbers loaded make a state with blocks and units in 32 bits
 loaded-narrow : (words : List ℕ) (n : Numbers) → Loads words n → (buffer lens slots erases : List ℕ) → Narrow (joined n buffer lens slots erases)
@@ -34,6 +35,17 @@ module _ (words : List ℕ) (n : Numbers) (e : Loads words n) where
         says = λ (erases : List ℕ). subst (λ (m : Numbers). Looks key (joined m buffer lens slots erases) image l) (e .is) (h erases);
         refusal = ap (λ (x : Told). x .refusal) f;
         tells = ap (λ (x : Told). x .first ∷ x .second ∷ []) f;
+      }
+
+  -- a forecast: the counts of its result, in the caller's words
+  pub foreseen : (buffer lens slots image : List ℕ) (f : Forecast) (r : ℕ) → r ≡ refusalNumber (f .answer) → ((erases : List ℕ) → Forecasts (joined n buffer lens slots erases) image f)
+      → ForecastsTold words buffer lens slots image r (f .ops .programs ∷ f .ops .marks ∷ f .ops .erases ∷ [])
+  foreseen buffer lens slots image f r g h =
+      record {
+        result = f;
+        says = λ (erases : List ℕ). subst (λ (m : Numbers). Forecasts (joined m buffer lens slots erases) image f) (e .is) (h erases);
+        refusal = g;
+        done = refl;
       }
 
   pub reported : (block : ℕ) (erases image : List ℕ) (l : Report) (t : Reported) → t ≡ reportTold l

@@ -1,10 +1,12 @@
--- A list of exported calls is a list on lent arrays, and so one of the promise: what each call ensures is one step of it. Assumes nothing.
+-- A list of exported calls is a list on lent arrays, and so one of the promise: what each call ensures is one step of it. What a forecast told is what
+-- a commit then tells. Assumes nothing.
 use mathlib.Core.Path.{_≡_, refl, sym, ap, subst, _∙_}
 use mathlib.Core.Bool.{true}
 use mathlib.Core.List.{List, [], _∷_, map}
 use Prim.Native.Nat.{ℕ}
 use native.Mathlib.Omega.{arith}
-use lib.ListN.{getD}
+use lib.ListN.{length, getD}
+use Rattle.chip.specs.declared.progress.Counts.{Counts}
 use Rattle.chip.specs.Geometry.{small}
 use Rattle.tree.specs.Tree.{Table}
 use Rattle.promise.specs.Plain.{Plain}
@@ -14,18 +16,19 @@ use Rattle.promise.specs.Wear.{NoneCut, Unbroken}
 use Rattle.store.specs.declared.state.Numbers.{Numbers}
 use Rattle.store.specs.declared.state.State.{State}
 use Rattle.store.specs.declared.step.Call.{Call}
-use Rattle.store.specs.declared.step.Call.the-variants.{Format, Insert, Delete, LookUp, Commit, Mount}
+use Rattle.store.specs.declared.step.Call.the-variants.{Format, Insert, Delete, LookUp, Forecast, Commit, Mount}
 use Rattle.store.specs.Answers.{answerOf, refusalIn}
 use Rattle.store.specs.State.{Good}
 use Rattle.store.specs.Contracts.{index, Formats, Mounts, Inserts, Deletes, Commits}
-use Rattle.store.specs.Parts.{joined}
+use Rattle.store.specs.Parts.{joined, wroteWith}
 use Rattle.store.specs.Step.{ofLook}
 use Rattle.store.specs.Lent.{stateFrom, Meets, lentStep, RunsLent}
+use Rattle.store.proofs.Foretold.{foretells}
 use Rattle.store.proofs.StepLaws.{look-answer}
 use Rattle.store.proofs.LentLists.{lent-figures, lent-promise, lent-unbroken}
 use Rattle.exports.specs.Told.{valueIn}
 use Rattle.exports.specs.Words.{numbersIn}
-use Rattle.exports.specs.Exported.{Memory, partsIn, Ensures, Exported, answerBy, opsBy, exportedStep, promiseStep, RunsExported, TellsAnswer, AgreesTold}
+use Rattle.exports.specs.Exported.{Memory, partsIn, Ensures, Exported, answerBy, opsBy, exportedStep, promiseStep, RunsExported, TellsAnswer, AgreesTold, sumTold, ForetellsTold}
 
 -- the state that memory holds is the one of these numbers, where its words read back as them
 state-is : (m : Memory) (n : Numbers) (buffer lens slots erases : List ℕ) → numbersIn (m .words) ≡ n → m .buffer ≡ buffer → m .lens ≡ lens → m .slots ≡ slots → m .erases ≡ erases
@@ -72,6 +75,7 @@ module _ (x : Exported) where
         image = h .4;
       }
   meets (LookUp k) h = record { look = h .0 .look; says = h .0 .says (x .given .erases); is = ap (λ (m : Memory). ofLook (h .0 .look) (stateFrom (partsIn m))) (h .1); image = h .2 }
+  meets Forecast h = record { says = h .0 .says (x .given .erases); state = ap (λ (m : Memory). stateFrom (partsIn m)) (h .1); image = h .2 }
 
   -- what a call tells is its answer
   tells-by : (c : Call) (h : Ensures (x .torn) (x .given) (x .lent) (x .refusal) (x .told) (x .after) (x .left) c) → x .refusal ≡ refusalIn (answerOf (answerBy (x .torn) (x .given) (x .lent) (x .refusal) (x .told) (x .after) (x .left) c h))
@@ -81,6 +85,7 @@ module _ (x : Exported) where
   tells-by (Insert k v) h = h .0 .refusal
   tells-by (Delete k) h = h .0 .refusal
   tells-by (LookUp k) h = h .0 .refusal ∙ ap refusalIn (sym (look-answer (h .0 .look)))
+  tells-by Forecast h = h .0 .refusal
 
   value-by : (c : Call) (h : Ensures (x .torn) (x .given) (x .lent) (x .refusal) (x .told) (x .after) (x .left) c) (k : ℕ) → c ≡ LookUp k
       → getD (x .told) 0 0 ≡ valueIn (answerOf (answerBy (x .torn) (x .given) (x .lent) (x .refusal) (x .told) (x .after) (x .left) c h))
@@ -90,6 +95,7 @@ module _ (x : Exported) where
   value-by (Insert j v) h k e = let z : _≡_ {A = ℕ} 0 1 = cc in absurd (omega arith)
   value-by (Delete j) h k e = let z : _≡_ {A = ℕ} 0 1 = cc in absurd (omega arith)
   value-by (LookUp j) h k e = ap (λ (ns : List ℕ). getD ns 0 0) (h .0 .tells) ∙ ap valueIn (sym (look-answer (h .0 .look)))
+  value-by Forecast h k e = let z : _≡_ {A = ℕ} 0 1 = cc in absurd (omega arith)
 
   pub tells-own : TellsAnswer x (answerOf (answerBy (x .torn) (x .given) (x .lent) (x .refusal) (x .told) (x .after) (x .left) (x .call) (x .ensures)))
   tells-own = record { refusal = tells-by (x .call) (x .ensures); value = value-by (x .call) (x .ensures) }
@@ -137,3 +143,30 @@ exported-unbroken m i xs g r c f =
     let e = steps-same xs in
     subst (Unbroken small (index small) (stateFrom (partsIn m)) i) (sym e)
     (lent-unbroken (partsIn m) i (map exportedStep xs) g (exported-runs (Only (index small) (stateFrom (partsIn m))) i xs r) (subst (NoneCut (index small)) e c) (subst (NoFormat (index small)) e f))
+
+-- ---- a forecast and a commit, on any memory and any image
+module _ (x y : Exported) (n : ℕ) (size : length (y .torn) ≡ 528) where
+  -- what both ensure, from the memory and the image of the forecast
+  foretells-by : Ensures (x .torn) (x .given) (x .lent) (x .refusal) (x .told) (x .after) (x .left) Forecast
+      → Ensures (y .torn) (x .given) (x .lent) (y .refusal) (y .told) (y .after) (y .left) (Commit n) → ForetellsTold n x y
+  foretells-by f c =
+      let m = x .given in
+      let w = wroteWith (c .0 .result) (m .buffer) (y .after .lens) (y .after .slots) (y .after .erases) in
+      let t = foretells (stateFrom (partsIn m)) (x .lent) (f .0 .result) (f .0 .says (m .erases)) n (y .torn) size w (y .left) (c .0 .says) in
+      let d = c .0 .tells in
+      let sum = ap sumTold (f .0 .done) in
+      record {
+        enough =
+            λ l. let e = t .enough (omega (arith, sum)) in
+            (d .refusal ∙ ap refusalIn (e .0) ∙ sym (f .0 .refusal), d .done ∙ ap (λ (o : Counts). o .programs ∷ o .marks ∷ o .erases ∷ []) (e .1) ∙ sym (f .0 .done));
+        short = λ l. let e = t .short (omega (arith, sum)) in (d .refusal ∙ ap refusalIn (e .0), ap sumTold (d .done) ∙ e .1);
+      }
+
+  -- a forecast, and a commit from the same memory and image with a torn slice of 528 bytes: what the forecast told is what the commit tells
+  pub exported-foretells : x .call ≡ Forecast → y .call ≡ Commit n → y .given ≡ x .given → y .lent ≡ x .lent → ForetellsTold n x y
+  exported-foretells e f g h =
+      foretells-by
+      (subst (Ensures (x .torn) (x .given) (x .lent) (x .refusal) (x .told) (x .after) (x .left)) e (x .ensures))
+      (subst (λ (m : Memory). Ensures (y .torn) m (x .lent) (y .refusal) (y .told) (y .after) (y .left) (Commit n)) g
+      (subst (λ (i : List ℕ). Ensures (y .torn) (y .given) i (y .refusal) (y .told) (y .after) (y .left) (Commit n)) h
+      (subst (Ensures (y .torn) (y .given) (y .lent) (y .refusal) (y .told) (y .after) (y .left)) f (y .ensures))))

@@ -4,8 +4,9 @@ use mathlib.Core.Path.{_≡_}
 use mathlib.Core.List.{List, [], _∷_}
 use Prim.Native.Nat.{ℕ}
 use Rattle.store.specs.Answers.{refusalNumber}
-use Rattle.store.specs.Contracts.{Formats, Mounts, Looks, Inserts, Deletes, Commits, Reports}
+use Rattle.store.specs.Contracts.{Formats, Mounts, Looks, Inserts, Deletes, Commits, Forecasts, Reports}
 use Rattle.store.specs.Parts.{joined, updatedWith, wroteWith}
+use Rattle.store.specs.declared.answer.Forecast.{Forecast}
 use Rattle.store.specs.declared.answer.Look.{Look}
 use Rattle.store.specs.declared.answer.Report.{Report}
 use Rattle.store.specs.declared.state.UpdatedParts.{UpdatedParts}
@@ -19,6 +20,13 @@ pub record LooksTold (key : ℕ) (words buffer lens slots image : List ℕ) (r :
   pub says : (erases : List ℕ) → Looks key (joined (numbersIn words) buffer lens slots erases) image look
   pub refusal : r ≡ lookTold look .refusal
   pub tells : told ≡ lookTold look .first ∷ lookTold look .second ∷ []
+
+-- forecast: the refusal r, and in `ops` the operations by kind that a commit made now would tell
+pub record ForecastsTold (words buffer lens slots image : List ℕ) (r : ℕ) (ops : List ℕ) : Type 0 where
+  pub result : Forecast
+  pub says : (erases : List ℕ) → Forecasts (joined (numbersIn words) buffer lens slots erases) image result
+  pub refusal : r ≡ refusalNumber (result .answer)
+  pub done : ops ≡ result .ops .programs ∷ result .ops .marks ∷ result .ops .erases ∷ []
 
 -- block report, whatever the buffer and the node table: the refusal r, and the free pages, the first of them and the erases in `told`
 pub record ReportsTold (block : ℕ) (words erases image : List ℕ) (r : ℕ) (told : List ℕ) : Type 0 where

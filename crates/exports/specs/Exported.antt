@@ -2,7 +2,7 @@
 use mathlib.Core.Path.{_≡_}
 use mathlib.Core.Bool.{false}
 use mathlib.Core.List.{List, [], _∷_}
-use Prim.Native.Nat.{ℕ}
+use Prim.Native.Nat.{ℕ, _+_, _<_, _≤_}
 use lib.ListN.{getD}
 use Rattle.chip.specs.declared.progress.Counts.{Counts}
 use Rattle.chip.specs.Geometry.{small}
@@ -15,12 +15,12 @@ use Rattle.promise.specs.Steps.{Step, Lends, Hands, boots, next, answerTo}
 use Rattle.store.specs.declared.answer.Answer.{Answer}
 use Rattle.store.specs.declared.state.State.{State}
 use Rattle.store.specs.declared.step.Call.{Call}
-use Rattle.store.specs.declared.step.Call.the-variants.{Format, Insert, Delete, LookUp, Commit, Mount}
+use Rattle.store.specs.declared.step.Call.the-variants.{Format, Insert, Delete, LookUp, Forecast, Commit, Mount}
 use Rattle.store.specs.Answers.{refusalIn}
 use Rattle.store.specs.Contracts.{index}
 use Rattle.store.specs.Lent.{Parts, stateFrom, LentStep, lentStep}
 use Rattle.store.specs.Step.{actOf, answerIn}
-use Rattle.exports.specs.Calls.{LooksTold, InsertsTold, DeletesTold, FormatsTold, MountsTold, CommitsTold}
+use Rattle.exports.specs.Calls.{LooksTold, ForecastsTold, InsertsTold, DeletesTold, FormatsTold, MountsTold, CommitsTold}
 use Rattle.exports.specs.Told.{valueIn}
 use Rattle.exports.specs.Words.{numbersIn}
 
@@ -48,6 +48,7 @@ module _ (torn : List ℕ) (m : Memory) (i : List ℕ) (r : ℕ) (told : List �
   Ensures (Delete k) =
       DeletesTold k (m .words) (m .buffer) (m .lens) (m .slots) i r (m' .words) (m' .buffer) × (m' .lens ≡ m .lens) × (m' .slots ≡ m .slots) × (m' .erases ≡ m .erases) × (i' ≡ i)
   Ensures (LookUp k) = LooksTold k (m .words) (m .buffer) (m .lens) (m .slots) i r told × (m' ≡ m) × (i' ≡ i)
+  Ensures Forecast = ForecastsTold (m .words) (m .buffer) (m .lens) (m .slots) i r told × (m' ≡ m) × (i' ≡ i)
 
   -- the answer and the operations of the result that it tells
   abbrev pub answerBy : (c : Call) → Ensures c → Answer
@@ -57,6 +58,7 @@ module _ (torn : List ℕ) (m : Memory) (i : List ℕ) (r : ℕ) (told : List �
   answerBy (Insert k v) h = h .0 .result .answer
   answerBy (Delete k) h = h .0 .result .answer
   answerBy (LookUp k) h = answerIn (h .0 .look)
+  answerBy Forecast h = h .0 .result .answer
 
   abbrev pub opsBy : (c : Call) → Ensures c → Counts
   opsBy (Format n) h = h .0 .result .ops
@@ -65,6 +67,7 @@ module _ (torn : List ℕ) (m : Memory) (i : List ℕ) (r : ℕ) (told : List �
   opsBy (Insert k v) h = nothing
   opsBy (Delete k) h = nothing
   opsBy (LookUp k) h = nothing
+  opsBy Forecast h = h .0 .result .ops
 
 -- one call as it happened: the memory given and the image lent to it, what it left of that, the refusal, the numbers told, the memory then; and the one
 -- image after the call
@@ -121,3 +124,13 @@ AgreesTold p i (x ∷ xs) =
     TellsAnswer x (answerTo small (index small) p (promiseStep x))
     × (imageMeaning small (x .image) ≡ means (next small (index small) p i (promiseStep x) .kept) (next small (index small) p i (promiseStep x) .number))
     × AgreesTold (next small (index small) p i (promiseStep x)) (x .image) xs
+
+-- the sum of the three numbers told
+abbrev pub sumTold : List ℕ → ℕ
+sumTold told = getD told 0 0 + getD told 1 0 + getD told 2 0
+
+-- what the forecast x says of the commit y with an allowance of n: with the sum of its three numbers, or more, the commit tells the same refusal and the
+-- same three; with less it is refused with 10, and its three numbers add up to the allowance
+pub record ForetellsTold (n : ℕ) (x y : Exported) : Type 0 where
+  pub enough : sumTold (x .told) ≤ n → (y .refusal ≡ x .refusal) × (y .told ≡ x .told)
+  pub short : n < sumTold (x .told) → (y .refusal ≡ 10) × (sumTold (y .told) ≡ n)

@@ -56,7 +56,7 @@ page-kinds (x ∷ news) =
     let e = page-kinds news in
     counts-same _ _ (omega (arith, ap programs e)) (omega (arith, ap marks e)) (omega (arith, ap erases e))
 
-pub commit-ops-kinds : (bs : List ℕ) (news : List Live) → countsOf (kindsOf (commitOps bs news)) ≡ record { programs = length news; marks = 2 * length news; erases = length bs }
+commit-ops-kinds : (bs : List ℕ) (news : List Live) → countsOf (kindsOf (commitOps bs news)) ≡ record { programs = length news; marks = 2 * length news; erases = length bs }
 commit-ops-kinds [] news = page-kinds news
 commit-ops-kinds (b ∷ bs) news =
     let e = commit-ops-kinds bs news in

@@ -5,14 +5,14 @@ use Prim.Native.Nat.{ℕ}
 use lib.Dec.{ltb, eqb}
 use lib.ListN.{length, take, drop}
 use Rattle.frames.specs.Frames.{allDigits, value, kindOf, numberAt}
-use Rattle.orders.specs.declared.order.Call.the-variants.{Format, Insert, Delete, LookUp, Commit, Mount, Report, Show}
+use Rattle.orders.specs.declared.order.Call.the-variants.{Format, Insert, Delete, LookUp, Commit, Mount, Report, Show, Forecast}
 use Rattle.orders.specs.declared.order.Setting.the-variants.{Lend, Cut, SetImage, SetTorn, LendTorn, Sum, Noise}
 use Rattle.orders.specs.declared.order.Order.{Order}
 use Rattle.orders.specs.declared.order.Order.the-variants.{NoFrame, Calls, Sets}
 
--- 15 sum
+-- 09 forecast; 15 sum
 abbrev pub bare : ℕ → Order
-bare kind = cond (eqb kind 21) (Sets Sum) NoFrame
+bare kind = cond (eqb kind 9) (Calls Forecast) (cond (eqb kind 21) (Sets Sum) NoFrame)
 
 -- 00 format, 04 commit and 05 mount with an allowance; 02 delete and 03 look up a key; 06 report a block; 07 show a page
 abbrev pub callOf : ℕ → ℕ → Order

@@ -5,7 +5,7 @@ ghost use Rattle.orders.specs.OrderCode.{Orders};
 use frames::frame;
 use frames::line::Line;
 
-// A call with its numbers: an allowance; a key and a value; a key; a block; a page.
+// A call with its numbers: an allowance; a key and a value; a key; a block; a page; none.
 pub enum Call {
     Format(u32),
     Insert(u32, u32),
@@ -15,6 +15,7 @@ pub enum Call {
     Mount(u32),
     Report(u32),
     Show(u32),
+    Forecast,
 }
 
 // What is done to the bytes that the calls are lent: so many blocks lent, so many bytes, a byte of the image or a torn byte set at an
@@ -40,6 +41,9 @@ pub enum Order {
 fn bare(kind: u32) -> Order
     ensures { λ r. ⌜ r ≡ bare kind ⌝ }
 {
+    if kind == 9 {
+        return Order::Calls(Call::Forecast);
+    }
     if kind == 21 {
         return Order::Sets(Setting::Sum);
     }

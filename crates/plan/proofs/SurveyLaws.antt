@@ -17,7 +17,7 @@ use Rattle.chip.specs.Chip.{inBlock, pagesOf}
 use Rattle.chip.proofs.ImageLaws.{length-pages}
 use Rattle.pages.specs.Steps.{Live, liveFrom}
 use Rattle.views.specs.Table.{Node, fresh}
-use Rattle.views.specs.Stored.{storedList, Stores}
+use Rattle.views.specs.Stored.{storedList}
 use Rattle.log.specs.Plan.{isListed, holdsCommit, isUsed, unused, countFrom, ring, headBlock, nodeAt}
 use Rattle.lists.proofs.Sets.{diff-filter, diff-take, filter-same}
 use Rattle.log.proofs.PlanBlocks.{ring-range, ring-diff}
@@ -53,7 +53,7 @@ any-from f p d (x ∷ xs) k h =
 
 -- ---- the arrays hold the lists of the table tb
 module _ (g : Geometry) (limit : ℕ) (lens slots : List ℕ) (c : ℕ) (xs : List Live) (tb : List Node) (size : length tb ≡ limit)
-    (stores : (n : ℕ) → n < limit → Stores lens slots n (nodeAt tb n .pages)) (short : (n : ℕ) → n < limit → length (nodeAt tb n .pages) ≤ 4) where
+    (lists : (n : ℕ) → n < limit → storedList lens slots n ≡ reverse (nodeAt tb n .pages)) where
   listed-is : (b : ℕ) → listedIn g limit lens slots b ≡ isListed g tb b
   listed-is b =
       ap (λ (n : ℕ). any (λ (i : ℕ). any (inBlock g b) (storedList lens slots i)) (countFrom 0 n)) (sym size)
@@ -61,7 +61,7 @@ module _ (g : Geometry) (limit : ℕ) (lens slots : List ℕ) (c : ℕ) (xs : Li
       (λ i l. let on : i < limit = omega arith in
       let z : 0 + i ≡ i = omega arith in
       ap (λ (j : ℕ). any (inBlock g b) (storedList lens slots j)) z
-      ∙ ap (any (inBlock g b)) (stores i on .pages (short i on)) ∙ any-reverse (inBlock g b) (nodeAt tb i .pages))
+      ∙ ap (any (inBlock g b)) (lists i on) ∙ any-reverse (inBlock g b) (nodeAt tb i .pages))
 
   -- a block is used by the arrays where it is by the table
   pub used-is : (b : ℕ) → usedIn g limit lens slots c xs b ≡ isUsed g tb c xs b

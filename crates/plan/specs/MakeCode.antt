@@ -59,6 +59,7 @@ pub record LaysPlan (B head : ℕ) (bs : List ℕ) (n : ℕ) (ps : List Page) (r
   pub places : take (n + 1) (r .places) ≡ firstPlaces small ps head bs (n + 1)
   pub on : All (λ (p : ℕ). p < B * 32) (take (n + 1) (r .places))
   pub most : r .erases ≤ 32
+  pub many : length (take (r .erases) (r .erased)) ≡ r .erases
   pub erased : take (r .erases) (r .erased) ≡ firstErases small ps head bs (n + 1)
   pub within : All (λ (b : ℕ). b < B) (take (r .erases) (r .erased))
 

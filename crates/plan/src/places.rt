@@ -157,7 +157,8 @@ fn put_erased(
 ) -> usize
     requires { ⌜ (length (now image) ≡ blocks * 16896) × (width ≤ 32) × (length (now ring) ≡ 32) × (length (now erased) ≡ 32)
         × Spare blocks head (take width (now ring)) ⌝ }
-    ensures { λ r. ⌜ (take r (now (erased .exit)) ≡ erasesFrom small (pagesOf small (now (image .entry))) reach (take width (now (ring .entry)))) × (r ≤ width) ⌝ }
+    ensures { λ r. ⌜ (take r (now (erased .exit)) ≡ erasesFrom small (pagesOf small (now (image .entry))) reach (take width (now (ring .entry)))) × (r ≤ width)
+        × (length (take r (now (erased .exit))) ≡ r) ⌝ }
 {
     let mut left = reach;
     let mut n = 0;
@@ -182,7 +183,8 @@ pub fn lay_erases(
     erased: &mut [u32; 32],
 ) -> usize
     requires { ⌜ (length (now image) ≡ blocks * 16896) × (width ≤ 32) × Spare blocks head (take width (now ring)) ⌝ }
-    ensures { λ r. ⌜ (take r (now (erased .exit)) ≡ erasesFrom small (pagesOf small (now (image .entry))) reach (take width (now (ring .entry)))) × (r ≤ width) ⌝ }
+    ensures { λ r. ⌜ (take r (now (erased .exit)) ≡ erasesFrom small (pagesOf small (now (image .entry))) reach (take width (now (ring .entry)))) × (r ≤ width)
+        × (length (take r (now (erased .exit))) ≡ r) ⌝ }
 {
     put_erased(image, blocks, head, ring, width, reach, erased)
 }

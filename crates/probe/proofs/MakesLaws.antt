@@ -5,18 +5,19 @@ use Prim.Native.Nat.{ℕ, min}
 use lib.ListN.{length, take, drop}
 use lib.Seq.{take-at, drop-at}
 use Rattle.chip.specs.Counts.{total}
+use Rattle.store.specs.declared.answer.Forecast as F
 use Rattle.store.specs.declared.answer.Look.{Look}
 use Rattle.store.specs.declared.state.State.{State}
 use Rattle.store.specs.declared.state.Wrote.{Wrote}
 use Rattle.store.specs.declared.state.Updated.{Updated}
 use Rattle.store.specs.declared.step.Call.the-variants as S
 use Rattle.store.specs.Answers.{answerOf, lookOf}
-use Rattle.store.specs.Contracts.{Formats, Mounts, Looks, Inserts, Deletes, Commits}
+use Rattle.store.specs.Contracts.{Formats, Mounts, Looks, Inserts, Deletes, Commits, Forecasts}
 use Rattle.store.proofs.RunsToLaws.{runs-none, runs-one}
 use Rattle.frames.specs.declared.line.Line.{Line}
 use Rattle.orders.specs.OrderCode.{Orders}
 use Rattle.orders.specs.declared.order.Call.{Call}
-use Rattle.orders.specs.declared.order.Call.the-variants.{Format, Insert, Delete, LookUp, Commit, Mount, Report, Show}
+use Rattle.orders.specs.declared.order.Call.the-variants.{Format, Insert, Delete, LookUp, Commit, Mount, Report, Show, Forecast}
 use Rattle.orders.specs.declared.order.Setting.{Setting}
 use Rattle.orders.specs.declared.order.Order.{Order}
 use Rattle.orders.specs.declared.order.Order.the-variants.{NoFrame, Calls, Sets}
@@ -45,6 +46,9 @@ module _ (call : Call) (torn : List ℕ) (s : State) (i : List ℕ) (s' : State)
 
   pub makes-look : (k : ℕ) → call ≡ LookUp k → (l : Look) → s' ≡ s → Looks k s i l → Makes call torn s i s' i
   makes-look k e l q h = by (LookUp k) e s q i (runs-one torn (S.LookUp k) s i (lookOf l) 0 s i (h .says))
+
+  pub makes-forecast : call ≡ Forecast → (f : F.Forecast) → s' ≡ s → Forecasts s i f → Makes call torn s i s' i
+  makes-forecast e f q h = by Forecast e s q i (runs-one torn S.Forecast s i (answerOf (f .answer)) (total (f .ops)) s i (h .says))
 
   -- a block report and show leave state and image
   pub makes-report : (b : ℕ) → call ≡ Report b → s' ≡ s → Makes call torn s i s' i

@@ -14,7 +14,7 @@ use Rattle.orders.specs.Orders.{orderOf}
 use Rattle.orders.specs.declared.order.Call.{Call}
 use Rattle.orders.specs.declared.order.Order.{Order}
 use Rattle.orders.specs.declared.order.Order.the-variants.{NoFrame, Calls, Sets}
-use Rattle.orders.specs.declared.order.Call.the-variants.{Format, Insert, Delete, LookUp, Commit, Mount, Report, Show}
+use Rattle.orders.specs.declared.order.Call.the-variants.{Format, Insert, Delete, LookUp, Commit, Mount, Report, Show, Forecast}
 use Rattle.probe.specs.declared.bed.Bed.{Bed}
 
 -- the call as one of the store's, none for a block report and for show
@@ -27,6 +27,7 @@ storeCalls (Commit n) = S.Commit n ∷ []
 storeCalls (Mount n) = S.Mount n ∷ []
 storeCalls (Report b) = []
 storeCalls (Show p) = []
+storeCalls Forecast = S.Forecast ∷ []
 
 -- a call on what it is lent
 abbrev pub Makes : Call → (torn : List ℕ) (s : State) (i : List ℕ) (s' : State) (i' : List ℕ) → Type 0

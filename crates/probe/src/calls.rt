@@ -6,10 +6,12 @@ ghost use Rattle.probe.specs.Makes.{Makes};
 use orders::order::Call;
 use orders::reply;
 use store::answer;
+use store::answer::Forecast;
 use store::answer::Look;
 use store::answer::Report;
 use store::commit;
 use store::find;
+use store::forecast;
 use store::format;
 use store::mount;
 use store::report;
@@ -68,6 +70,18 @@ fn tell_report(state: State, told: Report, out: &mut [u8], at: usize) -> Told
     Told { state, at: end }
 }
 
+// What a forecast tells: the operations foretold, by kind.
+fn tell_forecast(state: State, told: Forecast, out: &mut [u8], at: usize) -> Told
+    requires { ⌜ at + 1011 ≤ length (now out) ⌝ }
+    ensures { λ r. ⌜ r .state ≡ state ⌝ }
+{
+    let given = told.answer;
+    let ops = told.ops;
+    let number = answer::number(given);
+    let end = reply::put_counts(out, at, number, ops);
+    Told { state, at: end }
+}
+
 // What show tells: the units of a page are at most 504 bytes.
 fn tell_shown(image: &[u8], page: u32, out: &mut [u8], at: usize) -> usize
     requires { ⌜ at + 1011 ≤ length (now out) ⌝ }
@@ -109,5 +123,6 @@ pub fn call(
             let end = tell_shown(image, page, out, at);
             Told { state, at: end }
         }
+        Call::Forecast => tell_forecast(state, forecast::forecast(state, image), out, at),
     }
 }

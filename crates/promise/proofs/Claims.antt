@@ -10,7 +10,7 @@ use lib.ListN.{length}
 use borrow.Author.Tests.{eqb-true, ltb-true, ltb-false, leb-true, leb-false}
 use Rattle.lists.proofs.Tests.{cases, clash, and-left, and-right}
 use Rattle.chip.specs.Geometry.{Geometry}
-use Rattle.promise.specs.Plain.{Answer, refuses, accepted, Plain, orElse, when, Call, reads, updates, formats, commits, mounts, isChipSize, isTornSize, hasBlocks, firstRefusal, numbersRefusal, refusalOf, lastNumber, mayCut, Verdict, denied, cut, passed, judge, verdict, cutOff, acceptedAnswer, answer, after, afterBy, answerBy, isCommit, isCut, cuts, firstChoice, plainRun, enoughWrites, enoughMarks}
+use Rattle.promise.specs.Plain.{Answer, refuses, accepted, Plain, orElse, when, Call, reads, updates, forecasts, formats, commits, mounts, isChipSize, isTornSize, hasBlocks, firstRefusal, numbersRefusal, refusalOf, lastNumber, noNumberLeft, mayCut, Verdict, denied, cut, passed, judge, verdict, cutOff, acceptedAnswer, answer, after, afterBy, answerBy, isCommit, isCut, cuts, firstChoice, plainRun, enoughWrites, enoughMarks}
 use Rattle.promise.specs.Calls.{Store, Committing, Commit}
 use Rattle.promise.specs.Steps.{Act, commit, mount, format, fed, isTen, boots, Step, Lends, one, other, lastImage, Only, starts, counts, next, Agrees, feed, feeds, choices, seen, expected, Allowed, promised}
 use Rattle.promise.specs.Promise as P
@@ -24,6 +24,7 @@ same-cut : (c : Call) (p : Plain) (w u : Bool) → isCommit c ≡ false → cutO
 unfolding cutOff
 same-cut (reads r image) p w u e = refl
 same-cut (updates d image) p w u e = refl
+same-cut (forecasts image) p w u e = refl
 same-cut (formats a image torn) p w u e = refl
 same-cut (commits a image torn) p w u e = clash refl e
 same-cut (mounts a image torn) p w u e = refl
@@ -46,7 +47,7 @@ no-choice g c true p w u e = cases (isCommit c) (λ t. let z : _≡_ {A = Bool} 
 abbrev pub inTurn : Bool → Bool → ℕ → ℕ
 inTurn on size n = orElse (orElse (when 2 (not on)) (when 1 (not size))) n
 
-last-is : (pending number : ℕ) → ltb 0 pending && eqb number lastNumber ≡ true → (0 < pending) × (number ≡ lastNumber)
+last-is : (pending number : ℕ) → noNumberLeft pending number ≡ true → (0 < pending) × (number ≡ lastNumber)
 last-is p n e = (ltb-true 0 p (and-left (ltb 0 p) (eqb n lastNumber) e), eqb-true n lastNumber (and-right (ltb 0 p) (eqb n lastNumber) e))
 
 commit-by : (p : Plain) (n image torn m : ℕ) (on size last cuts : Bool) → (on ≡ false → p .on ≡ false) → (last ≡ true → (0 < p .pending) × (p .number ≡ lastNumber))
@@ -62,7 +63,7 @@ commit-by p n image torn m true true false false o h k e = absurd (accepted-not 
 pub commit-refusals : (g : Geometry) (p : Plain) (n image torn m : ℕ) (ten : Bool) → refuses m ≡ answer g p (commits n image torn) ten → CommitRefusal p n m
 unfolding verdict
 commit-refusals g p n image torn m ten e =
-    commit-by p n image torn m (p .on) (isChipSize g image && (isTornSize g torn && hasBlocks g (p .blocks) image)) (ltb 0 (p .pending) && eqb (p .number) lastNumber)
+    commit-by p n image torn m (p .on) (isChipSize g image && (isTornSize g torn && hasBlocks g (p .blocks) image)) (noNumberLeft (p .pending) (p .number))
     ((ltb n enoughWrites && ltb 0 (p .pending)) && ten) (λ o. o) (last-is (p .pending) (p .number))
     (λ t. let b = and-left (ltb n enoughWrites && ltb 0 (p .pending)) ten t in
     (ltb-true 0 (p .pending) (and-right (ltb n enoughWrites) (ltb 0 (p .pending)) b), ltb-true n enoughWrites (and-left (ltb n enoughWrites) (ltb 0 (p .pending)) b))) e
@@ -158,14 +159,14 @@ module _ (g : Geometry) (S : Store) where
         let d = first-most g (commit n torn) (S .size i) (S .on s) (S .blocks s) in
         absurd (neither a (suc m) h (c .first .refused m e .0) (λ t. omega arith))
     power-by zero (suc k) e l =
-        let d = when-is 6 k (ltb 0 (S .pending s) && eqb (S .number s) lastNumber) l in
+        let d = when-is 6 k (noNumberLeft (S .pending s) (S .number s)) l in
         absurd (neither a (suc k) h (c .last e k l) (λ t. omega arith))
     power-by zero zero e l =
         let good = v .live (sym (v .power) ∙ on-of (S .on s) _ e) .1 in
         cases (ltb 0 (S .pending s))
-        (λ z. let q : Committing g S n torn s i = record { good = good; passes = e; numbers = l; pending = ltb-true 0 (S .pending s) z } in
+        (λ z. let q : Committing g S n torn s i = record { good = good; proceeds = record { passes = e; numbers = l; pending = ltb-true 0 (S .pending s) z } } in
         let b = c .able q (v .image .room refl) in
-        let w = c .power q b in
+        let w = c .power (q .proceeds) b in
         record {
           few = c .few q b;
           finished = λ y. cases (leb (length (S .commitOps s i)) n)

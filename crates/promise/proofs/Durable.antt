@@ -5,15 +5,15 @@ use mathlib.Core.Bool.{Bool, true, false, cond, not, _&&_}
 use mathlib.Core.List.{List, [], _∷_, _++_, append-assoc}
 use Prim.Native.Nat.{ℕ, zero, suc}
 use native.Mathlib.Omega.{arith}
-use lib.Dec.{ltb, eqb}
+use lib.Dec.{ltb}
 use lib.ListN.{length}
 use borrow.Author.Tests.{ltb-false}
 use Rattle.lists.proofs.Tests.{cases, clash}
 use Rattle.chip.specs.Geometry.{Geometry}
 use Rattle.tree.specs.Tree.{Table, find}
-use Rattle.promise.specs.Plain.{Answer, refuses, accepted, lookedUp, Plain, orElse, when, ReadCall, UpdateCall, Call, reads, commits, mounts, lookingUp, isChipSize, isTornSize, hasBlocks, firstRefusal, laterRefusal, refusalOf, lastNumber, mayCut, Verdict, denied, cut, passed, judge, verdict, committed, finished, off, cutOff, acceptedAnswer, answer, after, afterBy, answerBy, enoughWrites}
+use Rattle.promise.specs.Plain.{Answer, refuses, accepted, lookedUp, Plain, orElse, when, ReadCall, UpdateCall, Call, reads, commits, mounts, lookingUp, isChipSize, isTornSize, hasBlocks, firstRefusal, laterRefusal, refusalOf, noNumberLeft, mayCut, Verdict, denied, cut, passed, judge, verdict, committed, finished, off, cutOff, acceptedAnswer, answer, after, afterBy, answerBy, enoughWrites}
 use Rattle.promise.specs.Calls.{Store}
-use Rattle.promise.specs.Steps.{Act, read, update, format, commit, mount, fed, isTen, isAccepted, isFormat, Step, lastImage, counts, NoFormat, starts, next, lastPlain, answerTo, Agrees}
+use Rattle.promise.specs.Steps.{Act, read, update, forecast, format, commit, mount, fed, isTen, isAccepted, isFormat, Step, lastImage, counts, NoFormat, starts, next, lastPlain, answerTo, Agrees}
 use Rattle.promise.specs.History.{valueOf, History, begun, flushed, historyAfter, dropped, nextHistory, lastHistory, since}
 use Rattle.promise.specs.Promise as P
 use Rattle.promise.specs.Promise.{CommitGives, FinishedMount, LooksUp, Later}
@@ -54,7 +54,7 @@ cut-by true true false false p a image torn e = absurd (accepted-not 10 (sym e))
 cut-verdict : (g : Geometry) (p : Plain) (a image torn : ℕ) (ten : Bool) → refuses 10 ≡ answer g p (commits a image torn) ten → verdict g p (commits a image torn) ten ≡ cut
 unfolding verdict
 cut-verdict g p a image torn ten e =
-    cut-by (p .on) (isChipSize g image && (isTornSize g torn && hasBlocks g (p .blocks) image)) (ltb 0 (p .pending) && eqb (p .number) lastNumber)
+    cut-by (p .on) (isChipSize g image && (isTornSize g torn && hasBlocks g (p .blocks) image)) (noNumberLeft (p .pending) (p .number))
     ((ltb a enoughWrites && ltb 0 (p .pending)) && ten) p a image torn e
 
 passed-zero : (n : ℕ) (b : Bool) → judge n b ≡ passed → n ≡ 0
@@ -74,11 +74,13 @@ unfolding acceptedAnswer
 top-step g (denied n) w x image t us l p e = refl
 top-step g passed w (read r) image t us l p e = refl
 top-step g passed w (update u) image t us l p e = refl
+top-step g passed w forecast image t us l p e = refl
 top-step g passed w (format n torn) image t us l p e = clash refl e
 top-step g passed w (commit n torn) image t us l p e = top-commit t us l
 top-step g passed w (mount n torn) image t us l p e = refl
 top-step g cut w (read r) image t us l p e = refl
 top-step g cut w (update u) image t us l p e = refl
+top-step g cut w forecast image t us l p e = refl
 top-step g cut w (format n torn) image t us l p e = refl
 top-step g cut true (commit n torn) image t us l p e = top-commit t us l
 top-step g cut false (commit n torn) image t us l p e = refl

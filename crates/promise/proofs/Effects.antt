@@ -5,7 +5,7 @@ use mathlib.Core.Bool.{Bool, true, false, _&&_}
 use mathlib.Core.List.{List, []}
 use Prim.Native.Nat.{ℕ, zero, suc, _+_, _<_, _≤_}
 use native.Mathlib.Omega.{arith}
-use lib.Dec.{ltb, leb, eqb}
+use lib.Dec.{ltb, leb}
 use lib.ListN.{length, take, drop, take-append-drop}
 use lib.Seq.{take-all, take-length}
 use borrow.Author.Tests.{ltb-true, ltb-false, leb-true, leb-false}
@@ -14,9 +14,9 @@ use Rattle.chip.specs.Geometry.{Geometry, blocksOf}
 use Rattle.chip.specs.Chip.{Op}
 use Rattle.chip.specs.Erases.{erasesIn}
 use Rattle.chip.proofs.EraseLaws.{erases-append}
-use Rattle.promise.specs.Plain.{Answer, isCommit, isCut, refuses, Plain, UpdateCall, updates, commits, mounts, firstRefusal, numbersRefusal, laterRefusal, lastNumber, updated, committed}
+use Rattle.promise.specs.Plain.{Answer, isCommit, isCut, refuses, Plain, UpdateCall, updates, commits, mounts, firstRefusal, numbersRefusal, laterRefusal, noNumberLeft, updated, committed}
 use Rattle.promise.specs.Calls.{Meaning, invalid, means, Store, stateOf, Same, Updates, Committing, Commit, Mount}
-use Rattle.promise.specs.Steps.{Act, read, update, format, commit, mount, fed, isTen, isAccepted, boots, Step, Lends, one, other, Only, Hands, feed, Allowed, Takes}
+use Rattle.promise.specs.Steps.{Act, read, update, forecast, format, commit, mount, fed, isTen, isAccepted, boots, Step, Lends, one, other, Only, Hands, feed, Allowed, Takes}
 use Rattle.promise.specs.Erases.{begins, operationsOf, doneBy, Unworn}
 use Rattle.promise.specs.Wear.{isFinishedCommit}
 use Rattle.promise.proofs.Promise.{and-false, when-is, one-boots, first-most, on-of, first-of, image-kept}
@@ -31,6 +31,7 @@ module _ (g : Geometry) (S : Store) where
       → a ≡ refuses n → (n ≡ 10 → ⊥) → take ops (operationsOf g S x s i) ≡ []
   none-done (read r) s i a ops s' i' n c e d = take-all ops [] (omega arith)
   none-done (update u) s i a ops s' i' n c e d = take-all ops [] (omega arith)
+  none-done forecast s i a ops s' i' n c e d = take-all ops [] (omega arith)
   none-done (format l torn) s i a ops s' i' n c e d = ap (λ (k : ℕ). take k (S .formatOps (blocksOf g (S .size i)))) (c .quiet n e d)
   none-done (commit l torn) s i a ops s' i' n c e d = ap (λ (k : ℕ). take k (S .commitOps s i)) (c .quiet n e d .0)
   none-done (mount l torn) s i a ops s' i' n c e d = ap (λ (k : ℕ). take k (S .mountOps i)) (c .quiet n e d)
@@ -151,7 +152,7 @@ module _ (g : Geometry) (S : Store) where
       unfolding stateOf committed
       commit-worked q y l z =
           let d = c .done q y l in
-          let p = c .power q y .enough l in
+          let p = c .power (q .proceeds) y .enough l in
           record {
             hand = h;
             on = on-of (S .on s) _ t;
@@ -172,7 +173,7 @@ module _ (g : Geometry) (S : Store) where
           record {
             hand = h;
             on = on-of (S .on s) _ t;
-            is = ap isTen (c .power q y .short l .0);
+            is = ap isTen (c .power (q .proceeds) y .short l .0);
             off = c .cut q y l;
             few = λ b. erases-first b ops (S .commitOps s i);
             once = c .once q y;
@@ -181,16 +182,16 @@ module _ (g : Geometry) (S : Store) where
       -- any, by its number
       commit-effect : (k : ℕ) → numbersRefusal (S .pending s) (S .number s) (commits n (S .size i) (length torn)) ≡ k → Effect H i (stepIs (commit n torn) s i a ops s' i')
       commit-effect (suc k) e =
-          let w = when-is 6 k (ltb 0 (S .pending s) && eqb (S .number s) lastNumber) e in
+          let w = when-is 6 k (noNumberLeft (S .pending s) (S .number s)) e in
           refused-idle (suc k) (c .last t k e) (λ z. omega arith)
       commit-effect zero e =
           cases (ltb 0 (S .pending s))
-          (λ z. let q : Committing g S n torn s i = record { good = v s h (on-of (S .on s) _ t); passes = t; numbers = e; pending = ltb-true 0 (S .pending s) z } in
+          (λ z. let q : Committing g S n torn s i = record { good = v s h (on-of (S .on s) _ t); proceeds = record { passes = t; numbers = e; pending = ltb-true 0 (S .pending s) z } } in
           cases (S .able s i)
           (λ y. cases (leb (length (S .commitOps s i)) n)
           (λ l. worked (commit-worked q y (leb-true (length (S .commitOps s i)) n l) z))
           (λ l. cut (commit-cut q y (leb-false (length (S .commitOps s i)) n l))))
-          (λ y. refused-idle 6 (c .stuck q y) (λ z. omega arith)))
+          (λ y. refused-idle 6 (c .stuck (q .proceeds) y) (λ z. omega arith)))
           (λ z. let y = ltb-false 0 (S .pending s) z in
           let d = c .idle t (omega arith) in
           commit-idle (ap (λ (b : Bool). isAccepted a && b) z ∙ and-false (isAccepted a)) (d .1, d .2))
@@ -206,17 +207,22 @@ module _ (g : Geometry) (S : Store) where
         (ap isAccepted r, c .done t K G d l .1, c .zeros r))
         (λ y. clash o (c .cut t K G d (leb-false (length (S .mountOps i)) n y)))
 
+    -- a look up or a forecast
+    read-idle : (x : Act) → operationsOf g S x s i ≡ [] → boots x ≡ false → isCommit (fed x (S .size i)) ≡ false → Same S s i s' i' → H s
+        → Effect H i (stepIs x s i a ops s' i')
+    read-idle x e b f q h =
+        idle (record {
+          done = ap (take ops) e ∙ take-all ops [] (omega arith);
+          image = q .image;
+          begins = rw b;
+          finished = rw f;
+          states = λ y r o. same-from H i s y v (r .returned ∙ q .state) h o;
+        })
+
     -- any call
     effect-by : (x : Act) → firstRefusal g (S .on s) (S .blocks s) (fed x (S .size i)) ≡ 0 → Allowed g S x s i a ops s' i' → (boots x ≡ false → H s)
         → Effect H i (stepIs x s i a ops s' i')
-    effect-by (read r) t c h =
-        idle (record {
-          done = take-all ops [] (omega arith);
-          image = c .same .image;
-          begins = refl;
-          finished = refl;
-          states = λ y r o. same-from H i s y v (r .returned ∙ c .same .state) (h refl) o;
-        })
+    effect-by (read r) t c h = read-idle (read r) refl refl refl (c .same) (h refl)
     effect-by (update u) t c h =
         idle (record {
           done = take-all ops [] (omega arith);
@@ -227,6 +233,7 @@ module _ (g : Geometry) (S : Store) where
               let f = update-from u (laterRefusal (stateOf S s i) (updates u (S .size i))) refl (h refl) t c (sym (ap (S .on) (r .returned)) ∙ o) in
               subst (λ (z : S .State). From H i s z) (sym (r .returned)) f;
         })
+    effect-by forecast t c h = read-idle forecast refl refl refl (c .same) (h refl)
     effect-by (format n torn) t c h =
         let os = S .formatOps (blocksOf g (S .size i)) in
         booted (record {

@@ -7,13 +7,13 @@ use native.Mathlib.Omega.{arith}
 use lib.Dec.{ltb, leb, eqb}
 use lib.ListN.{length, getD}
 use borrow.Author.Tests.{leb-true, leb-false, ltb-true, ltb-false}
-use Rattle.lists.proofs.Tests.{cases}
+use Rattle.lists.proofs.Tests.{cases, clash}
 use Rattle.chip.specs.Geometry.{Geometry, blocksOf}
 use Rattle.chip.specs.Power.{takesEffect}
 use Rattle.chip.specs.Erases.{erasesIn}
 use Rattle.tree.specs.Tree.{Table, find, found}
-use Rattle.promise.specs.Plain.{Answer, refuses, accepted, finds, lookedUp, Plain, when, UpdateCall, updates, reads, commits, mounts, lookingUp, numbersRefusal, laterRefusal, lastNumber, updated, enoughWrites}
-use Rattle.promise.specs.Calls.{means, numberIn, Store, stateOf, PassesFirst, Updates, LookUp, OpsTold, Format, Committing, Commit, Mount}
+use Rattle.promise.specs.Plain.{Answer, refuses, accepted, finds, lookedUp, Plain, when, UpdateCall, updates, reads, forecasts, commits, mounts, lookingUp, numbersRefusal, laterRefusal, noNumberLeft, updated, enoughWrites}
+use Rattle.promise.specs.Calls.{means, numberIn, Store, stateOf, PassesFirst, Updates, LookUp, OpsTold, Format, Proceeding, Committing, Commit, Forecast, Mount}
 use Rattle.promise.specs.Steps.{counts}
 use Rattle.promise.proofs.Promise.{apart, accepted-not, counts-not, counts-so, when-is}
 
@@ -27,14 +27,14 @@ module _ (g : Geometry) (S : Store) (s : S .State) (i : S .Image) (good : S .Goo
       = c .choice q b ∙ ap (λ o. cond (o || (eqb (suc n) (length (S .commitOps s i)) && eqb (getD torn 0 0) 0)) (means (S .present s i) (suc (S .number s))) (S .meaning i)) l in
       let z : suc (S .number s) ≡ S .number s = ap numberIn (sym r ∙ e ∙ m) in
       omega arith)
-      (λ l. accepted-not 10 (c .power q b .short (leb-false (length (S .commitOps s i)) n l) .0))
+      (λ l. accepted-not 10 (c .power (q .proceeds) b .short (leb-false (length (S .commitOps s i)) n l) .0))
 
   -- a commit that is accepted with updates pending has done all its operations
   all-done : (n : ℕ) (torn : List ℕ) (ops : ℕ) (s' : S .State) (i' : S .Image) → Committing g S n torn s i → S .able s i ≡ true → Commit g S n torn s i accepted ops s' i'
       → length (S .commitOps s i) ≤ n
   all-done n torn ops s' i' q b c =
       cases (leb (length (S .commitOps s i)) n)
-      (λ l. leb-true (length (S .commitOps s i)) n l) (λ l. absurd (accepted-not 10 (c .power q b .short (leb-false (length (S .commitOps s i)) n l) .0)))
+      (λ l. leb-true (length (S .commitOps s i)) n l) (λ l. absurd (accepted-not 10 (c .power (q .proceeds) b .short (leb-false (length (S .commitOps s i)) n l) .0)))
 
   -- one that erases a block which the next one, from a state that calls gave for the image it left, would erase too
   pub same-block : (n : ℕ) (torn : List ℕ) (ops : ℕ) (s' : S .State) (i' : S .Image) (b : ℕ) (t : S .State) → Committing g S n torn s i → S .able s i ≡ true
@@ -70,13 +70,13 @@ module _ (g : Geometry) (S : Store) (s : S .State) (i : S .Image) (good : S .Goo
   ten-by : (n k : ℕ) (torn : List ℕ) (ops : ℕ) (s' : S .State) (i' : S .Image) → numbersRefusal (S .pending s) (S .number s) (commits n (S .size i) (length torn)) ≡ k → enoughWrites ≤ n
       → PassesFirst g S (commits n (S .size i) (length torn)) s → Commit g S n torn s i (refuses 10) ops s' i' → ⊥
   ten-by n (suc k) torn ops s' i' e l t c =
-      let h = when-is 6 k (ltb 0 (S .pending s) && eqb (S .number s) lastNumber) e in
+      let h = when-is 6 k (noNumberLeft (S .pending s) (S .number s)) e in
       apart 10 (suc k) (λ z. omega arith) (c .last t k e)
   ten-by n zero torn ops s' i' e l t c =
       cases (ltb 0 (S .pending s))
-      (λ z. let q : Committing g S n torn s i = record { good = good; passes = t; numbers = e; pending = ltb-true 0 (S .pending s) z } in
+      (λ z. let q : Committing g S n torn s i = record { good = good; proceeds = record { passes = t; numbers = e; pending = ltb-true 0 (S .pending s) z } } in
       let bound = c .bound in
-      cases (S .able s i) (λ b. let few = c .few q b in accepted-not 10 (sym (c .power q b .enough (omega arith) .0))) (λ b. apart 10 6 (λ z. omega arith) (c .stuck q b)))
+      cases (S .able s i) (λ b. let few = c .few q b in accepted-not 10 (sym (c .power (q .proceeds) b .enough (omega arith) .0))) (λ b. apart 10 6 (λ z. omega arith) (c .stuck (q .proceeds) b)))
       (λ z. let y = ltb-false 0 (S .pending s) z in accepted-not 10 (sym (c .idle t (omega arith) .0)))
 
   pub early-ten : (n : ℕ) (torn : List ℕ) (ops : ℕ) (s' : S .State) (i' : S .Image) → enoughWrites ≤ n → PassesFirst g S (commits n (S .size i) (length torn)) s
@@ -92,6 +92,19 @@ module _ (g : Geometry) (S : Store) (s : S .State) (i : S .Image) (good : S .Goo
       let x : finds n ≡ finds a = c .done good q ∙ ap lookedUp e in
       let y : finds n ≡ finds b = d .done good r ∙ ap lookedUp f in
       h cc
+
+module _ (g : Geometry) (S : Store) (s : S .State) (i : S .Image) (ops : ℕ) (s' : S .State) (i' : S .Image) where
+  -- a forecast that is accepted with updates pending and foretells one operation less than the commit has
+  pub short-forecast : Proceeding g S (forecasts (S .size i)) s → suc ops ≡ length (S .commitOps s i) → Forecast g S s i accepted ops s' i' → ⊥
+  short-forecast q e c = cases (S .able s i) (λ b. let d = c .done q b .1 in omega arith) (λ b. accepted-not 6 (c .stuck q b))
+
+  -- one that gives 6 with nothing pending
+  pub idle-six : PassesFirst g S (forecasts (S .size i)) s → S .pending s ≡ 0 → Forecast g S s i (refuses 6) ops s' i' → ⊥
+  idle-six t z c = accepted-not 6 (sym (c .idle t z .0))
+
+  -- one that gives 10
+  pub cut-forecast : Forecast g S s i (refuses 10) ops s' i' → ⊥
+  cut-forecast c = clash (c .range) refl
 
 -- a mount that says 7, 8 or 9 of an image that has a meaning
 pub false-refusal : (g : Geometry) (S : Store) (n m : ℕ) (torn : List ℕ) (s : S .State) (i : S .Image) (ops : ℕ) (s' : S .State) (i' : S .Image) (K : Table) (G : ℕ)

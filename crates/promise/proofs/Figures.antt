@@ -11,7 +11,7 @@ use Rattle.chip.specs.Chip.{Op}
 use Rattle.chip.specs.Erases.{erasesIn}
 use Rattle.promise.specs.Plain.{Answer, accepted}
 use Rattle.promise.specs.Calls.{Store}
-use Rattle.promise.specs.Steps.{Act, read, update, format, commit, mount, isAccepted, boots, Step, Only, Hands, lastHands, Allowed, Runs}
+use Rattle.promise.specs.Steps.{Act, read, update, forecast, format, commit, mount, isAccepted, boots, Step, Only, Hands, lastHands, Allowed, Runs}
 use Rattle.promise.specs.Erases.{begins, sinceStart, doneBy, wholeErases, Unworn, StartsUnworn, FiguresTell, FiguresAny, FiguresFit}
 use Rattle.promise.proofs.Promise.{accepted-is}
 use Rattle.promise.proofs.Effects.{GoodAtHand, Effect, idle, worked, cut, booted, effect, good-first, good-next}
@@ -114,6 +114,7 @@ module _ (g : Geometry) (S : Store) where
   unworn-by : (x : Act) (s : S .State) (i : S .Image) (a : Answer) (ops : ℕ) (s' : S .State) (i' : S .Image) → boots x ≡ true → a ≡ accepted → Allowed g S x s i a ops s' i' → Unworn g S s'
   unworn-by (read r) s i a ops s' i' t e c = clash t refl
   unworn-by (update u) s i a ops s' i' t e c = clash t refl
+  unworn-by forecast s i a ops s' i' t e c = clash t refl
   unworn-by (format n torn) s i a ops s' i' t e c = c .zeros e
   unworn-by (commit n torn) s i a ops s' i' t e c = clash t refl
   unworn-by (mount n torn) s i a ops s' i' t e c = c .zeros e

@@ -8,9 +8,11 @@ pub mod Durable
 pub mod Effects
 pub mod Figures
 pub mod Wear
+pub mod Forecasts
 pub mod Proper
 pub mod Falls
 pub mod Sample
 pub mod Examples
 pub mod FigureExamples
 pub mod WearExamples
+pub mod ForecastExamples

@@ -14,6 +14,7 @@ use Rattle.promise.specs.Promise.{Course}
 use Rattle.promise.proofs.Promise.{Carried, one-call, started, agrees}
 
 module _ (g : Geometry) (S : Store) where
+  -- a list in two parts: what holds of the whole holds of each
   pub agrees-split : (xs ys : List (Step S)) (p : Plain) (i : S .Image) → Agrees g S p i (xs ++ ys)
       → Agrees g S p i xs × Agrees g S (lastPlain g S p i xs) (lastImage S i xs) ys
   agrees-split [] ys p i h = (tt, h)
@@ -23,6 +24,22 @@ module _ (g : Geometry) (S : Store) where
       → lastHistory g S p i (xs ++ ys) l ≡ lastHistory g S (lastPlain g S p i xs) (lastImage S i xs) ys (lastHistory g S p i xs l)
   history-split [] ys p i l = refl
   history-split (x ∷ xs) ys p i l = history-split xs ys (next g S p i x) (x .image) (nextHistory g S p i x l)
+
+  pub runs-split : (xs ys : List (Step S)) (H : S .State → Type 0) (i : S .Image) → Runs g S H i (xs ++ ys)
+      → Runs g S H i xs × Runs g S (lastHands S H xs) (lastImage S i xs) ys
+  runs-split [] ys H i r = (tt, r)
+  runs-split (x ∷ xs) ys H i r = let q = runs-split xs ys (Hands S H x) (x .image) (r .1) in ((r .0, q .0), q .1)
+
+  -- with more states at hand the same steps can be taken
+  pub wider-hands : (H J : S .State → Type 0) → ((s : S .State) → H s → J s) → (x : Step S) (s : S .State) → Hands S H x s → Hands S J x s
+  wider-hands H J f x s h = record { returned = h .returned; known = λ e. f (x .given) (h .known e) }
+
+  pub wider-runs : (xs : List (Step S)) (H J : S .State → Type 0) → ((s : S .State) → H s → J s) → (i : S .Image) → Runs g S H i xs → Runs g S J i xs
+  wider-runs [] H J f i r = tt
+  wider-runs (x ∷ xs) H J f i r = (
+    record { allowed = r .0 .allowed; lends = r .0 .lends; handed = λ b. f (x .given) (r .0 .handed b) },
+    wider-runs xs (Hands S H x) (Hands S J x) (wider-hands H J f x) (x .image) (r .1),
+  )
 
   pub lawful-split : (xs ys : List (Step S)) → AllLawful S (xs ++ ys) → AllLawful S xs × AllLawful S ys
   lawful-split [] ys h = (tt, h)

@@ -12,9 +12,9 @@ use Rattle.lists.proofs.Tests.{cases, clash}
 use Rattle.chip.specs.Geometry.{Geometry, blocksOf}
 use Rattle.chip.specs.Power.{takesEffect}
 use Rattle.tree.specs.Tree.{Table}
-use Rattle.promise.specs.Plain.{Answer, refuses, accepted, tells, Plain, orElse, when, ReadCall, UpdateCall, Call, reads, updates, formats, commits, mounts, isChipSize, isTornSize, hasBlocks, firstRefusal, numbersRefusal, laterRefusal, refusalOf, lastNumber, mayCut, denied, cut, passed, judge, verdict, leaf, resting, fresh, updated, committed, mounted, finished, off, cutOff, acceptedAnswer, answer, after, answerBy, afterBy, enoughWrites, enoughMarks}
-use Rattle.promise.specs.Calls.{means, treeIn, numberIn, Store, stateOf, Same, FirstTests, Reads, Updates, Format, Committing, Commit, Mount}
-use Rattle.promise.specs.Steps.{Act, read, update, format, commit, mount, fed, isTen, isAccepted, isFormat, boots, Step, Lends, one, other, Only, Hands, counts, SixIsLast, Unstuck, isCutFormat, isFinishedFormat, Uncut, Allowed, Takes, Runs, Started, Mounted, starts, Formatted, next, answerTo, Agrees, Mode, promised, unpromised, nextMode, AnswerIs, MeaningIs, AgreesAny}
+use Rattle.promise.specs.Plain.{Answer, refuses, accepted, tells, Plain, orElse, when, ReadCall, UpdateCall, Call, reads, updates, forecasts, formats, commits, mounts, isChipSize, isTornSize, hasBlocks, firstRefusal, numbersRefusal, laterRefusal, refusalOf, lastNumber, noNumberLeft, mayCut, denied, cut, passed, judge, verdict, leaf, resting, fresh, updated, committed, mounted, finished, off, cutOff, acceptedAnswer, answer, after, answerBy, afterBy, enoughWrites, enoughMarks}
+use Rattle.promise.specs.Calls.{means, treeIn, numberIn, Store, stateOf, Same, FirstTests, Reads, Updates, Format, Proceeding, Committing, Commit, Forecast, Mount}
+use Rattle.promise.specs.Steps.{Act, read, update, forecast, format, commit, mount, fed, isTen, isAccepted, isFormat, boots, Step, Lends, one, other, Only, Hands, counts, SixIsLast, Unstuck, isCutFormat, isFinishedFormat, Uncut, Allowed, Takes, Runs, Started, Mounted, starts, Formatted, next, answerTo, Agrees, Mode, promised, unpromised, nextMode, AnswerIs, MeaningIs, AgreesAny}
 
 -- ---- two answers that differ
 pub apart : (a b : ℕ) → (a ≡ b → ⊥) → refuses a ≡ refuses b → ⊥
@@ -55,6 +55,8 @@ first-same g (reads r i) true B C h = rw (h refl)
 first-same g (reads r i) false B C h = refl
 first-same g (updates u i) true B C h = rw (h refl)
 first-same g (updates u i) false B C h = refl
+first-same g (forecasts i) true B C h = rw (h refl)
+first-same g (forecasts i) false B C h = refl
 first-same g (formats a i t) b B C h = refl
 first-same g (commits a i t) true B C h = rw (h refl)
 first-same g (commits a i t) false B C h = refl
@@ -64,6 +66,7 @@ first-same g (mounts a i t) b B C h = refl
 first-boots : (g : Geometry) (x : Act) (image : ℕ) (b d : Bool) (B C : ℕ) → boots x ≡ true → firstRefusal g b B (fed x image) ≡ firstRefusal g d C (fed x image)
 first-boots g (read r) i b d B C h = clash h refl
 first-boots g (update u) i b d B C h = clash h refl
+first-boots g forecast i b d B C h = clash h refl
 first-boots g (format a t) i b d B C h = refl
 first-boots g (commit a t) i b d B C h = clash h refl
 first-boots g (mount a t) i b d B C h = refl
@@ -71,6 +74,7 @@ first-boots g (mount a t) i b d B C h = refl
 pub one-boots : (g : Geometry) (x : Act) (image : ℕ) (b : Bool) (B n : ℕ) → boots x ≡ true → firstRefusal g b B (fed x image) ≡ suc n → suc n ≡ 1
 one-boots g (read r) i b B n h e = clash h refl
 one-boots g (update u) i b B n h e = clash h refl
+one-boots g forecast i b B n h e = clash h refl
 one-boots g (format a t) i b B n h e = when-is 1 n (not (isChipSize g i && isTornSize g (length t))) e
 one-boots g (commit a t) i b B n h e = clash h refl
 one-boots g (mount a t) i b B n h e = when-is 1 n (not (isChipSize g i && isTornSize g (length t))) e
@@ -84,6 +88,7 @@ two-most false false = omega arith
 pub first-most : (g : Geometry) (x : Act) (image : ℕ) (b : Bool) (B : ℕ) → firstRefusal g b B (fed x image) ≤ 2
 first-most g (read r) i b B = two-most (not b) (not (isChipSize g i && hasBlocks g B i))
 first-most g (update u) i b B = two-most (not b) (not (isChipSize g i && hasBlocks g B i))
+first-most g forecast i b B = two-most (not b) (not (isChipSize g i && hasBlocks g B i))
 first-most g (format a t) i b B = two-most false (not (isChipSize g i && isTornSize g (length t)))
 first-most g (commit a t) i b B = two-most (not b) (not (isChipSize g i && (isTornSize g (length t) && hasBlocks g B i)))
 first-most g (mount a t) i b B = two-most false (not (isChipSize g i && isTornSize g (length t)))
@@ -117,6 +122,7 @@ module _ (g : Geometry) (S : Store) where
       → FirstTests g S (fed x (S .size i)) s i a s' i'
   first-of (read r) s i a ops s' i' c = c .first
   first-of (update u) s i a ops s' i' c = c .first
+  first-of forecast s i a ops s' i' c = c .first
   first-of (format n torn) s i a ops s' i' c = c .first
   first-of (commit n torn) s i a ops s' i' c = c .first
   first-of (mount n torn) s i a ops s' i' c = c .first
@@ -226,6 +232,31 @@ module _ (g : Geometry) (S : Store) (rooms : Bool) where
   off-inv q s' i' k o =
       record { image = record { is = k .is; room = k .room; sized = k .sized }; power = o; live = λ t. clash t refl }
 
+  -- ---- a commit or a forecast with updates pending and a number left has a plan: there is room, or it does not answer 6 before the last number
+  has-plan : (p : Plain) (s : S .State) (i : S .Image) (a : Answer) → Kept p i → 0 < S .pending s → when 6 (noNumberLeft (S .pending s) (S .number s)) ≡ 0
+      → (S .able s i ≡ false → a ≡ refuses 6) → (S .Room i → S .able s i ≡ true) → (rooms ≡ false → a ≡ refuses 6 → S .number s ≡ lastNumber) → S .able s i ≡ true
+  has-plan p s i a v z e stuck able y =
+      cases rooms (λ r. able (v .room r))
+      (λ r. cases (S .able s i) (λ b. b)
+      (λ b. let w : _≡_ {A = ℕ} 6 0 = (rw (lt-ltb 0 (S .pending s) z, eq-eqb (S .number s) lastNumber (y r (stuck b))) at e) in absurd (omega arith)))
+
+  -- ---- forecast: nothing is changed
+  forecast-by : (w : Bool) (s : S .State) (i : S .Image) (a : Answer) (ops : ℕ) (s' : S .State) (i' : S .Image) (k : ℕ) → Invariant (stateOf S s i) s i → S .Good s i
+      → firstRefusal g (S .on s) (S .blocks s) (forecasts (S .size i)) ≡ 0 → Forecast g S s i a ops s' i' → (rooms ≡ false → a ≡ refuses 6 → S .number s ≡ lastNumber)
+      → numbersRefusal (S .pending s) (S .number s) (forecasts (S .size i)) ≡ k → Conforms (stateOf S s i) (forecasts (S .size i)) w a s' i'
+  unfolding stateOf finished acceptedAnswer
+  forecast-by w s i a ops s' i' (suc k) v good t c y e =
+      let C = forecasts (S .size i) in
+      out-denied (stateOf S s i) s i C w a s' i' k v (refusal-later (stateOf S s i) C (suc k) t (rw e)) (c .last t k e) (c .same)
+  forecast-by w s i a ops s' i' zero v good t c y e =
+      let C = forecasts (S .size i) in
+      let r : a ≡ accepted
+      = cases (ltb 0 (S .pending s))
+      (λ z. let q : Proceeding g S C s = record { passes = t; numbers = e; pending = ltb-true 0 (S .pending s) z } in
+      c .done q (has-plan (stateOf S s i) s i a (v .image) (q .pending) e (c .stuck q) (c .able good q) y) .0)
+      (λ z. let h = ltb-false 0 (S .pending s) z in c .idle t (omega arith) .0) in
+      out-passed (stateOf S s i) C w a s' i' (refusal-later (stateOf S s i) C 0 t (rw e)) refl r (moved (stateOf S s i) s s' i i' (c .same) v)
+
   -- ---- commit
   module _ (n : ℕ) (torn : List ℕ) (s : S .State) (i : S .Image) (a : Answer) (ops : ℕ) (s' : S .State) (i' : S .Image) (v : Invariant (stateOf S s i) s i) (good : S .Good s i)
       (t : firstRefusal g (S .on s) (S .blocks s) (commits n (S .size i) (length torn)) ≡ 0) (c : Commit g S n torn s i a ops s' i') where
@@ -243,11 +274,11 @@ module _ (g : Geometry) (S : Store) (rooms : Bool) where
     unfolding stateOf finished acceptedAnswer committed
     commit-done q b l =
         let C = commits n (S .size i) (length torn) in
-        let e = q .numbers in
-        let r = c .power q b .enough l in
+        let e = q .proceeds .numbers in
+        let r = c .power (q .proceeds) b .enough l in
         let d = c .done q b l in
         out-passed (stateOf S s i) C (counts S i i') a s' i' (refusal-later (stateOf S s i) C 0 t (rw e)) (not-cut (stateOf S s i) C a (r .0)) (r .0)
-        (rw (lt-ltb 0 (S .pending s) (q .pending))
+        (rw (lt-ltb 0 (S .pending s) (q .proceeds .pending))
         (record {
           image = record {
             is = c .choice q b ∙ ap (λ o. cond (o || (eqb (suc n) (length (S .commitOps s i)) && eqb (getD torn 0 0) 0)) (means (S .present s i) (suc (S .number s))) (S .meaning i)) (le-leb (length (S .commitOps s i)) n l);
@@ -263,27 +294,19 @@ module _ (g : Geometry) (S : Store) (rooms : Bool) where
     unfolding stateOf cutOff committed
     commit-cut q b l =
         let C = commits n (S .size i) (length torn) in
-        let e = q .numbers in
-        let r = c .power q b .short l in
+        let e = q .proceeds .numbers in
+        let r = c .power (q .proceeds) b .short l in
         let few = c .few q b in
         let bound = c .bound in
         let o = c .cut q b l in
         let m : rooms ≡ true → S .Room i' = λ r. c .room q b (v .image .room r) in
         let z : (stateOf S s i) .blocks ≡ blocksOf g (S .size i') = v .image .sized ∙ ap (blocksOf g) (sym (c .first .sameSize)) in
         out-cut (stateOf S s i) C (counts S i i') a s' i' (refusal-later (stateOf S s i) C 0 t (rw e))
-        (rw (lt-ltb n (enoughWrites) (omega arith), lt-ltb 0 (S .pending s) (q .pending))) (r .0)
+        (rw (lt-ltb n (enoughWrites) (omega arith), lt-ltb 0 (S .pending s) (q .proceeds .pending))) (r .0)
         (either-or (takesEffect (getD torn 0 0) n (length (S .commitOps s i))) (S .meaning i') (means (S .present s i) (suc (S .number s))) (S .meaning i) (c .choice q b) _
         (λ h. rw (counts-so g S i i' (treeIn (S .meaning i)) (S .present s i) (S .number s) (v .image .is) h)
         (off-inv (committed (stateOf S s i)) s' i' (record { is = h; room = m; sized = z }) o))
         (λ h. rw (counts-not g S i i' h) (off-inv (stateOf S s i) s' i' (record { is = h ∙ v .image .is; room = m; sized = z }) o)))
-
-    -- a commit that does not answer 6 before the last number has a plan
-    unstuck : Committing g S n torn s i → (a ≡ refuses 6 → S .number s ≡ lastNumber) → S .able s i ≡ true
-    unstuck q y =
-        cases (S .able s i) (λ b. b)
-        (λ b. let e = q .numbers in
-        let w : _≡_ {A = ℕ} 6 0 = (rw (lt-ltb 0 (S .pending s) (q .pending), eq-eqb (S .number s) lastNumber (y (c .stuck q b))) at e) in
-        absurd (omega arith))
 
     commit-by : (rooms ≡ false → a ≡ refuses 6 → S .number s ≡ lastNumber) → (k : ℕ) → numbersRefusal (S .pending s) (S .number s) (commits n (S .size i) (length torn)) ≡ k
         → Conforms (stateOf S s i) (commits n (S .size i) (length torn)) (counts S i i') a s' i'
@@ -291,12 +314,12 @@ module _ (g : Geometry) (S : Store) (rooms : Bool) where
     commit-by y (suc k) e =
         let C = commits n (S .size i) (length torn) in
         let r = c .last t k e in
-        let h = when-is 6 k (ltb 0 (S .pending s) && eqb (S .number s) 4294967295) e in
+        let h = when-is 6 k (noNumberLeft (S .pending s) (S .number s)) e in
         out-denied (stateOf S s i) s i C (counts S i i') a s' i' k v (refusal-later (stateOf S s i) C (suc k) t (rw e)) r (c .quiet (suc k) r (λ z. omega arith) .1)
     commit-by y zero e =
         cases (ltb 0 (S .pending s))
-        (λ z. let q : Committing g S n torn s i = record { good = good; passes = t; numbers = e; pending = ltb-true 0 (S .pending s) z } in
-        let b = cases rooms (λ r. c .able q (v .image .room r)) (λ r. unstuck q (y r)) in
+        (λ z. let q : Committing g S n torn s i = record { good = good; proceeds = record { passes = t; numbers = e; pending = ltb-true 0 (S .pending s) z } } in
+        let b = has-plan (stateOf S s i) s i a (v .image) (q .proceeds .pending) e (c .stuck (q .proceeds)) (c .able q) y in
         cases (leb (length (S .commitOps s i)) n) (λ l. commit-done q b (leb-true (length (S .commitOps s i)) n l)) (λ l. commit-cut q b (leb-false (length (S .commitOps s i)) n l)))
         (λ z. let h = ltb-false 0 (S .pending s) z in commit-idle e (omega arith))
 
@@ -372,6 +395,9 @@ module _ (g : Geometry) (S : Store) (rooms : Bool) where
   step (update d) p s i a ops s' i' m v t c u y =
       on-live (λ q. Conforms q (updates d (S .size i)) (counts S i i') a s' i') p s i (v refl) (on-of (S .on s) _ t)
       (λ w good. update-by d (counts S i i') s i a s' i' (laterRefusal (stateOf S s i) (updates d (S .size i))) refl w good t c)
+  step forecast p s i a ops s' i' m v t c u y =
+      on-live (λ q. Conforms q (forecasts (S .size i)) (counts S i i') a s' i') p s i (v refl) (on-of (S .on s) _ t)
+      (λ w good. forecast-by (counts S i i') s i a ops s' i' (numbersRefusal (S .pending s) (S .number s) (forecasts (S .size i))) w good t c y refl)
   step (format n torn) p s i a ops s' i' m v t c u y = format-step n torn (counts S i i') p s i a ops s' i' t c u
   step (commit n torn) p s i a ops s' i' m v t c u y =
       on-live (λ q. Conforms q (commits n (S .size i) (length torn)) (counts S i i') a s' i') p s i (v refl) (on-of (S .on s) _ t)
@@ -507,6 +533,7 @@ module _ (g : Geometry) (S : Store) where
       → Allowed g S y (x .given) (x .lent) accepted (x .ops) (x .state) (x .left) → Lends S i x → Formatted g S (x .state) (x .image)
   format-by (read r) i x e t a c l = clash t refl
   format-by (update u) i x e t a c l = clash t refl
+  format-by forecast i x e t a c l = clash t refl
   format-by (format n torn) i x e t a c (one h f) =
       subst (Formatted g S (x .state)) (sym f) (record { allowance = n; torn = torn; before = x .given; was = x .lent; ops = x .ops; says = c })
   format-by (format n torn) i x e t a c (other r f) = absurd (⊎-elim (λ h. accepted-not 1 (sym a ∙ h)) (λ h. accepted-not 2 (sym a ∙ h)) r)
@@ -552,6 +579,7 @@ module _ (g : Geometry) (S : Store) where
       → refuses 10 ≡ answer g p (fed y (S .size (x .lent))) true
   cut-answer (read r) p x t c = clash t refl
   cut-answer (update u) p x t c = clash t refl
+  cut-answer forecast p x t c = clash t refl
   cut-answer (format n torn) p x t c = cut-format n torn p (x .given) (x .lent) (x .ops) (x .state) (x .left) c .same
   cut-answer (commit n torn) p x t c = clash t refl
   cut-answer (mount n torn) p x t c = clash t refl

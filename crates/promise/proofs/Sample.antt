@@ -15,9 +15,9 @@ use Rattle.chip.specs.declared.page.Mark.the-variants.{Valid, Obsolete}
 use Rattle.chip.specs.Chip.{Op, program, mark, erase}
 use Rattle.chip.specs.Erases.{erasesIn}
 use Rattle.tree.specs.Tree.{Table}
-use Rattle.promise.specs.Plain.{Answer, refuses, accepted, tells, Plain, orElse, when, ReadCall, UpdateCall, Call, reads, updates, formats, commits, mounts, isChipSize, isTornSize, hasBlocks, firstRefusal, laterRefusal, lastNumber, leaf, resting, fresh, updated, committed}
-use Rattle.promise.specs.Calls.{Meaning, invalid, means, treeIn, Store, isOneOf, tellsOr, acceptsOr, ProperRead, ProperUpdate, stateOf, Same, FirstTests, Reads, Updates, Format, Committing, Commit, Mount}
-use Rattle.promise.specs.Steps.{Act, read, update, format, commit, mount, boots, Step, one, Hands, Allowed, Runs}
+use Rattle.promise.specs.Plain.{Answer, refuses, accepted, tells, Plain, orElse, when, ReadCall, UpdateCall, Call, reads, updates, forecasts, formats, commits, mounts, isChipSize, isTornSize, hasBlocks, firstRefusal, treeRefusal, laterRefusal, noNumberLeft, leaf, resting, fresh, updated, committed}
+use Rattle.promise.specs.Calls.{Meaning, invalid, means, treeIn, Store, isOneOf, tellsOr, acceptsOr, ProperRead, ProperUpdate, stateOf, Same, FirstTests, Reads, Updates, Format, Proceeding, Commit, Forecast, Mount}
+use Rattle.promise.specs.Steps.{Act, read, update, forecast, format, commit, mount, boots, Step, one, Hands, Allowed, Runs}
 use Rattle.promise.proofs.Promise.{apart, accepted-not, when-is}
 use Rattle.promise.proofs.Proper.{apart-from}
 
@@ -127,11 +127,20 @@ emptied s =
 abbrev pub cutImage : ℕ → List ℕ → SampleState → SampleImage → SampleImage
 cutImage n torn s i = cond (eqb (suc n) 3 && eqb (getD torn 0 0) 0) (written s i) (voided true i)
 
+-- a commit or a forecast: with nothing pending nothing is done, without room it is refused with 6, else it comes out as o
+abbrev pub planned : SampleState → SampleImage → Outcome → Outcome
+planned s i o = cond (ltb 0 (s .pending)) (cond (i .roomy) o (out (refuses 6) 0 s i)) (out accepted 0 s i)
+
+-- a commit with updates pending and room, by its allowance
+abbrev pub commitWork : ℕ → List ℕ → SampleState → SampleImage → Outcome
+commitWork n torn s i = cond (leb 3 n) (out accepted 3 (emptied s) (written s i)) (out (refuses 10) n (down s) (cutImage n torn s i))
+
 abbrev pub commitDone : ℕ → List ℕ → SampleState → SampleImage → Outcome
-commitDone n torn s i =
-    cond (ltb 0 (s .pending))
-    (cond (i .roomy) (cond (leb 3 n) (out accepted 3 (emptied s) (written s i)) (out (refuses 10) n (down s) (cutImage n torn s i))) (out (refuses 6) 0 s i))
-    (out accepted 0 s i)
+commitDone n torn s i = planned s i (commitWork n torn s i)
+
+-- a forecast tells the number of the commit's operations
+abbrev pub forecastDone : SampleState → SampleImage → Outcome
+forecastDone s i = planned s i (out accepted (length (commitOpsOf s)) s i)
 
 abbrev pub opened : SampleImage → SampleState
 opened i = record { on = true; blocks = blocksOf small (i .size); number = i .number; pending = 0; buffer = []; erases = λ b. 0 }
@@ -152,6 +161,7 @@ formatDone n s i =
 abbrev pub act : Act → SampleState → SampleImage → Outcome
 act (read r) s i = call (reads r (i .size)) s i (out (r .answer (stateOf sample s i)) 0 s i)
 act (update u) s i = call (updates u (i .size)) s i (out accepted 0 (push u s) i)
+act forecast s i = call (forecasts (i .size)) s i (forecastDone s i)
 act (format n torn) s i = call (formats n (i .size) (length torn)) s i (formatDone n s i)
 act (commit n torn) s i = call (commits n (i .size) (length torn)) s i (commitDone n torn s i)
 act (mount n torn) s i = call (mounts n (i .size) (length torn)) s i (mountDone n s i)
@@ -280,15 +290,19 @@ cond-case : {A : Type 0} (P : A → Type 0) (b : Bool) (x y : A) → P x → P y
 cond-case P true x y h k = h
 cond-case P false x y h k = k
 
--- a fact of all four outcomes
+-- a fact of all outcomes of a commit or a forecast
+planned-cases : (P : Outcome → Type 0) (s : SampleState) (i : SampleImage) (o : Outcome) → P o → P (out (refuses 6) 0 s i) → P (out accepted 0 s i) → P (planned s i o)
+planned-cases P s i o a d c =
+    let z = out (refuses 6) 0 s i in
+    cond-case P (ltb 0 (s .pending)) (cond (i .roomy) o z) (out accepted 0 s i) (cond-case P (i .roomy) o z a d) c
+
+-- a fact of all four outcomes of a commit
 commit-cases : (P : Outcome → Type 0) (n : ℕ) (torn : List ℕ) (s : SampleState) (i : SampleImage)
     → P (out accepted 3 (emptied s) (written s i)) → P (out (refuses 10) n (down s) (cutImage n torn s i)) → P (out (refuses 6) 0 s i) → P (out accepted 0 s i) → P (commitDone n torn s i)
 commit-cases P n torn s i a b d c =
     let x = out accepted 3 (emptied s) (written s i) in
     let y = out (refuses 10) n (down s) (cutImage n torn s i) in
-    let z = out (refuses 6) 0 s i in
-    cond-case P (ltb 0 (s .pending)) (cond (i .roomy) (cond (leb 3 n) x y) z) (out accepted 0 s i)
-    (cond-case P (i .roomy) (cond (leb 3 n) x y) z (cond-case P (leb 3 n) x y a b) d) c
+    planned-cases P s i (cond (leb 3 n) x y) (cond-case P (leb 3 n) x y a b) d c
 
 cut-size : (b : Bool) (s : SampleState) (i : SampleImage) → cond b (written s i) (voided true i) .size ≡ i .size
 cut-size true s i = refl
@@ -320,27 +334,38 @@ commit-rests b n m true true e h =
 quiet-ten : (n k : ℕ) (s s' : SampleState) (i i' : SampleImage) → refuses 10 ≡ refuses k → (k ≡ 10 → ⊥) → (n ≡ 0) × Same sample s i s' i'
 quiet-ten n k s s' i i' e f = let q : _≡_ {A = ℕ} 10 k = cc in absurd (f (sym q))
 
--- the outcome of a commit that has something to do
-commit-is : (n : ℕ) (torn : List ℕ) (s : SampleState) (i : SampleImage) → Committing small sample n torn s i
-    → act (commit n torn) s i ≡ cond (i .roomy) (cond (leb 3 n) (out accepted 3 (emptied s) (written s i)) (out (refuses 10) n (down s) (cutImage n torn s i))) (out (refuses 6) 0 s i)
+-- the refusal for want of a number
+six-later : (b : Bool) (m : ℕ) → orElse (when 6 b) 0 ≡ suc m → NotFirst (suc m)
+six-later b m e = or-is (when 6 b) 0 m NotFirst (λ k q. later-when 5 k b ((λ z. omega arith), (λ z. omega arith)) q) (λ k q. absurd (omega arith)) e
+
+six-range : (b : Bool) (ns : List ℕ) (k : ℕ) → orElse (when 6 b) 0 ≡ suc k → isOneOf (suc k) (2 ∷ 1 ∷ 6 ∷ ns) ≡ true
+six-range b ns k e =
+    or-is (when 6 b) 0 k (λ m. isOneOf m (2 ∷ 1 ∷ 6 ∷ ns) ≡ true)
+    (λ m q. subst (λ y. isOneOf y (2 ∷ 1 ∷ 6 ∷ ns) ≡ true) (sym (when-is 6 m b q)) refl) (λ m q. absurd (omega arith)) e
+
+-- the outcome of a commit or a forecast that has something to do
+planned-is : (c : Call) (s : SampleState) (i : SampleImage) (o : Outcome) → treeRefusal (stateOf sample s i) c ≡ 0 → Proceeding small sample c s
+    → call c s i (planned s i o) ≡ cond (i .roomy) o (out (refuses 6) 0 s i)
 unfolding stateOf
-commit-is n torn s i q =
+planned-is c s i o l q =
     let t = q .passes in
     let e = q .numbers in
     let z = q .pending in
-    rw (t, e, lt-ltb 0 (s .pending) z)
+    rw (t, e, l, lt-ltb 0 (s .pending) z)
 
-commit-able : (n : ℕ) (torn : List ℕ) (s : SampleState) (i : SampleImage) → Committing small sample n torn s i → i .roomy ≡ true
-    → act (commit n torn) s i ≡ cond (leb 3 n) (out accepted 3 (emptied s) (written s i)) (out (refuses 10) n (down s) (cutImage n torn s i))
-commit-able n torn s i q b = commit-is n torn s i q ∙ rw b
+-- the operations of a commit with updates pending
+three-ops : (s : SampleState) → 0 < s .pending → length (commitOpsOf s) ≡ 3
+three-ops s z = rw (lt-ltb 0 (s .pending) z)
 
-three-ops : (n : ℕ) (torn : List ℕ) (s : SampleState) (i : SampleImage) → Committing small sample n torn s i → length (commitOpsOf s) ≡ 3
-three-ops n torn s i q = rw (lt-ltb 0 (s .pending) (q .pending))
+-- the outcome of a commit that has something to do, with room; and with an allowance enough
+commit-able : (n : ℕ) (torn : List ℕ) (s : SampleState) (i : SampleImage) → Proceeding small sample (commits n (i .size) (length torn)) s → i .roomy ≡ true
+    → act (commit n torn) s i ≡ commitWork n torn s i
+commit-able n torn s i q b = planned-is (commits n (i .size) (length torn)) s i (commitWork n torn s i) refl q ∙ rw b
 
-commit-finished : (n : ℕ) (torn : List ℕ) (s : SampleState) (i : SampleImage) → Committing small sample n torn s i → i .roomy ≡ true → length (commitOpsOf s) ≤ n
+commit-finished : (n : ℕ) (torn : List ℕ) (s : SampleState) (i : SampleImage) → Proceeding small sample (commits n (i .size) (length torn)) s → i .roomy ≡ true → length (commitOpsOf s) ≤ n
     → act (commit n torn) s i ≡ out accepted 3 (emptied s) (written s i)
 commit-finished n torn s i q b h =
-    let j : 3 ≤ n = (rw (three-ops n torn s i q) at h) in
+    let j : 3 ≤ n = (rw (three-ops s (q .pending)) at h) in
     commit-able n torn s i q b ∙ rw (le-leb 3 n j)
 
 commit-ok : (n : ℕ) (torn : List ℕ) (s : SampleState) (i : SampleImage)
@@ -349,18 +374,16 @@ unfolding stateOf committed
 commit-ok n torn s i =
     let o = commitDone n torn s i in
     let c = commits n (i .size) (length torn) in
-    let six = ltb 0 (s .pending) && eqb (s .number) lastNumber in
+    let six = noNumberLeft (s .pending) (s .number) in
     let f = firstRefusal small (s .on) (s .blocks) c in
     let l = orElse (when 6 six) 0 in
     record {
-      first = first-ok c s i o
-          (λ m e. or-is (when 6 six) 0 m NotFirst (λ k q. later-when 5 k six ((λ z. omega arith), (λ z. omega arith)) q) (λ k q. absurd (omega arith)) e)
+      first = first-ok c s i o (six-later six)
           (commit-cases (λ x. (m : ℕ) → x .answer ≡ refuses m → NotFirst m) n torn s i not-later (λ m. far 10 m (omega arith)) (λ m. far 6 m (omega arith)) not-later)
           (commit-cases (λ x. x .image .size ≡ i .size) n torn s i refl (cut-size (eqb (suc n) 3 && eqb (getD torn 0 0) 0) s i) refl refl);
       range = sieve-case (λ x. acceptsOr (2 ∷ 1 ∷ 6 ∷ 10 ∷ []) (x .answer) ≡ true) f l s i o
           (two-one (not (s .on)) (not (isChipSize small (i .size) && (isTornSize small (length torn) && hasBlocks small (s .blocks) (i .size)))) (6 ∷ 10 ∷ []))
-          (λ k z e. or-is (when 6 six) 0 k (λ m. isOneOf m (2 ∷ 1 ∷ 6 ∷ 10 ∷ []) ≡ true)
-          (λ m q. subst (λ y. isOneOf y (2 ∷ 1 ∷ 6 ∷ 10 ∷ []) ≡ true) (sym (when-is 6 m six q)) refl) (λ m q. absurd (omega arith)) e)
+          (λ k z. six-range six (10 ∷ []) k)
           (λ z e. commit-cases (λ x. acceptsOr (2 ∷ 1 ∷ 6 ∷ 10 ∷ []) (x .answer) ≡ true) n torn s i refl refl refl refl);
       quiet = sieve-case (λ x. (k : ℕ) → x .answer ≡ refuses k → (k ≡ 10 → ⊥) → (x .ops ≡ 0) × Same sample s i (x .state) (x .image)) f l s i o
           (λ k e m q d. (refl, same)) (λ k z e m q d. (refl, same))
@@ -370,21 +393,49 @@ commit-ok n torn s i =
       idle = λ t z. rw (t, le-ltb 0 (s .pending) (omega arith)) (refl, refl, same);
       none = λ z. rw (le-ltb 0 (s .pending) (omega arith));
       bound = omega arith;
-      stuck = λ q b. ap (λ x. x .answer) (commit-is n torn s i q) ∙ rw b;
+      stuck = λ q b. ap (λ x. x .answer) (planned-is c s i (commitWork n torn s i) refl q) ∙ rw b;
       able = λ q r. r;
-      few = λ q b. let e = three-ops n torn s i q in omega arith;
-      power = λ q b. rw (commit-able n torn s i q b, three-ops n torn s i q)
+      few = λ q b. let e = three-ops s (q .proceeds .pending) in omega arith;
+      power = λ q b. rw (commit-able n torn s i q b, three-ops s (q .pending))
           (record { enough = λ h. rw (le-leb 3 n h) (refl, refl); short = λ h. rw (lt-leb 3 n h) (refl, refl) });
-      choice = λ q b. rw (commit-able n torn s i q b, three-ops n torn s i q)
+      choice = λ q b. rw (commit-able n torn s i (q .proceeds) b, three-ops s (q .proceeds .pending))
           (cases (leb 3 n) (λ u. rw u) (λ u. rw u (cut-means (eqb (suc n) 3 && eqb (getD torn 0 0) 0) s i)));
-      room = λ q b r. rw (commit-able n torn s i q b) (cases (leb 3 n) (λ u. rw u r) (λ u. rw u (cut-room (eqb (suc n) 3 && eqb (getD torn 0 0) 0) s i r)));
-      done = λ q b h. rw (commit-finished n torn s i q b h) (refl, (refl, refl));
+      room = λ q b r. rw (commit-able n torn s i (q .proceeds) b) (cases (leb 3 n) (λ u. rw u r) (λ u. rw u (cut-room (eqb (suc n) 3 && eqb (getD torn 0 0) 0) s i r)));
+      done = λ q b h. rw (commit-finished n torn s i (q .proceeds) b h) (refl, (refl, refl));
       once = λ q b x. commit-once x (s .number) (ltb 0 (s .pending));
-      adds = λ q b h x k. rw (commit-finished n torn s i q b h);
-      leavesFree = λ q b h. rw (commit-finished n torn s i q b h, b) (omega arith);
+      adds = λ q b h x k. rw (commit-finished n torn s i (q .proceeds) b h);
+      leavesFree = λ q b h. rw (commit-finished n torn s i (q .proceeds) b h, b) (omega arith);
       rests = λ q b h x z t good.
-          commit-rests x (s .number) (t .number) (ltb 0 (s .pending)) (ltb 0 (t .pending)) (good .1 ∙ ap (λ y. y .image .number) (commit-finished n torn s i q b h)) z;
-      cut = λ q b h. let j : n < 3 = (rw (three-ops n torn s i q) at h) in rw (commit-able n torn s i q b, lt-leb 3 n j);
+          commit-rests x (s .number) (t .number) (ltb 0 (s .pending)) (ltb 0 (t .pending)) (good .1 ∙ ap (λ y. y .image .number) (commit-finished n torn s i (q .proceeds) b h)) z;
+      cut = λ q b h. let j : n < 3 = (rw (three-ops s (q .proceeds .pending)) at h) in rw (commit-able n torn s i (q .proceeds) b, lt-leb 3 n j);
+    }
+
+-- ---- forecast
+forecast-ok : (s : SampleState) (i : SampleImage) → Forecast small sample s i (act forecast s i .answer) (act forecast s i .ops) (act forecast s i .state) (act forecast s i .image)
+unfolding stateOf
+forecast-ok s i =
+    let w = out accepted (length (commitOpsOf s)) s i in
+    let o = forecastDone s i in
+    let c = forecasts (i .size) in
+    let six = noNumberLeft (s .pending) (s .number) in
+    let f = firstRefusal small (s .on) (s .blocks) c in
+    let l = orElse (when 6 six) 0 in
+    record {
+      first = first-ok c s i o (six-later six)
+          (planned-cases (λ x. (m : ℕ) → x .answer ≡ refuses m → NotFirst m) s i w not-later (λ m. far 6 m (omega arith)) not-later)
+          (planned-cases (λ x. x .image .size ≡ i .size) s i w refl refl refl);
+      range = sieve-case (λ x. acceptsOr (2 ∷ 1 ∷ 6 ∷ []) (x .answer) ≡ true) f l s i o
+          (two-one (not (s .on)) (not (isChipSize small (i .size) && hasBlocks small (s .blocks) (i .size))) (6 ∷ [])) (λ k z. six-range six [] k)
+          (λ z e. planned-cases (λ x. acceptsOr (2 ∷ 1 ∷ 6 ∷ []) (x .answer) ≡ true) s i w refl refl refl);
+      same = sieve-case (λ x. Same sample s i (x .state) (x .image)) f l s i o (λ k e. same) (λ k z e. same)
+          (λ z e. planned-cases (λ x. Same sample s i (x .state) (x .image)) s i w same same same);
+      quiet = sieve-case (λ x. (k : ℕ) → x .answer ≡ refuses k → x .ops ≡ 0) f l s i o (λ k e m q. refl) (λ k z e m q. refl)
+          (λ z e. planned-cases (λ x. (k : ℕ) → x .answer ≡ refuses k → x .ops ≡ 0) s i w (λ k q. absurd (accepted-not k q)) (λ k q. refl) (λ k q. refl));
+      last = λ t k e. rw (t, e);
+      idle = λ t z. rw (t, le-ltb 0 (s .pending) (omega arith)) (refl, refl);
+      stuck = λ q b. ap (λ x. x .answer) (planned-is c s i w refl q) ∙ rw b;
+      able = λ good q r. r;
+      done = λ q b. rw (planned-is c s i w refl q, b) (refl, refl);
     }
 
 -- ---- mount
@@ -518,6 +569,7 @@ format-ok n torn s i =
 abbrev pub Proper : Act → Type 0
 Proper (read r) = ProperRead r
 Proper (update u) = ProperUpdate u
+Proper forecast = Unit {0}
 Proper (format n torn) = Unit {0}
 Proper (commit n torn) = Unit {0}
 Proper (mount n torn) = Unit {0}
@@ -525,6 +577,7 @@ Proper (mount n torn) = Unit {0}
 pub allowed : (x : Act) → Proper x → (s : SampleState) (i : SampleImage) → Allowed small sample x s i (act x s i .answer) (act x s i .ops) (act x s i .state) (act x s i .image)
 allowed (read r) w s i = read-ok r w s i
 allowed (update u) w s i = update-ok u w s i
+allowed forecast w s i = forecast-ok s i
 allowed (format n torn) w s i = format-ok n torn s i
 allowed (commit n torn) w s i = commit-ok n torn s i
 allowed (mount n torn) w s i = mount-ok n torn s i

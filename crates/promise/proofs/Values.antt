@@ -11,9 +11,9 @@ use Rattle.lists.proofs.Tests.{cases, clash}
 use Rattle.chip.specs.Geometry.{Geometry, blocksOf}
 use Rattle.tree.specs.Tree.{Table, find}
 use Rattle.tree.specs.Step6.{top}
-use Rattle.promise.specs.Plain.{Plain, orElse, when, UpdateCall, Call, reads, updates, formats, commits, mounts, isChipSize, isTornSize, firstRefusal, numbersRefusal, laterRefusal, refusalOf, mayCut, cut, passed, judge, verdict, leaf, resting, updated, committed, finished, off, cutOff, after, afterBy}
+use Rattle.promise.specs.Plain.{Plain, orElse, when, UpdateCall, Call, reads, updates, forecasts, formats, commits, mounts, isChipSize, isTornSize, firstRefusal, numbersRefusal, laterRefusal, refusalOf, mayCut, cut, passed, judge, verdict, leaf, resting, updated, committed, finished, off, cutOff, after, afterBy}
 use Rattle.promise.specs.Calls.{Store}
-use Rattle.promise.specs.Steps.{Act, read, update, format, commit, mount, fed, isTen, Step, counts, starts, next, lastPlain}
+use Rattle.promise.specs.Steps.{Act, read, update, forecast, format, commit, mount, fed, isTen, Step, counts, starts, next, lastPlain}
 use Rattle.promise.specs.History.{TreeOf, afterSaid, Lawful, LawfulAct, valueOf, Silent, History, begun, flushed, dropped, historyAfter, nextHistory, lastHistory, AllLawful}
 use Rattle.promise.proofs.Promise.{on-of}
 use Rattle.promise.proofs.Trees.{leaf-tree}
@@ -42,6 +42,7 @@ pub record Tells (p : Plain) (l : History) : Type 0 where
 abbrev LawfulCall : Call → Type 0
 LawfulCall (reads r image) = Unit {0}
 LawfulCall (updates u image) = Lawful u
+LawfulCall (forecasts image) = Unit {0}
 LawfulCall (formats a image torn) = Unit {0}
 LawfulCall (commits a image torn) = Unit {0}
 LawfulCall (mounts a image torn) = Unit {0}
@@ -105,6 +106,7 @@ tells-finished g w p (reads r image) l e k h = h
 tells-finished g w p (updates u image) l e k h =
     let b = or-zero (firstRefusal g (p .on) (p .blocks) (updates u image)) (laterRefusal p (updates u image)) e in
     tells-updated u p l k (or-zero (numbersRefusal (p .pending) (p .number) (updates u image)) (u .refusal (p .blocks) (p .present)) (b .1) .1) h
+tells-finished g w p (forecasts image) l e k h = h
 tells-finished g w p (formats a image torn) l e k h =
     let b = or-zero (firstRefusal g (p .on) (p .blocks) (formats a image torn)) 0 e in
     tells-resting (leaf (blocksOf g image)) 1 (blocksOf g image) (leaf-tree (blocksOf g image) (ltb-true 0 (blocksOf g image) (chip-of (ltb 0 (blocksOf g image)) (isTornSize g torn) (b .0))))
@@ -120,6 +122,7 @@ tells-cut : (g : Geometry) (w : Bool) (p : Plain) (c : Call) (l : History) → r
 unfolding cutOff
 tells-cut g w p (reads r image) l e h = h
 tells-cut g w p (updates u image) l e h = h
+tells-cut g w p (forecasts image) l e h = h
 tells-cut g w p (formats a image torn) l e h = tells-off p l h
 tells-cut g true p (commits a image torn) l e h =
     let b = or-zero (firstRefusal g (p .on) (p .blocks) (commits a image torn)) (laterRefusal p (commits a image torn)) e in
@@ -141,6 +144,7 @@ tells-after g w p c l ten k h = tells-by g w (mayCut p c && ten) p c l (refusalO
 lawful-fed : (x : Act) (image : ℕ) → LawfulAct x → LawfulCall (fed x image)
 lawful-fed (read r) image h = tt
 lawful-fed (update u) image h = h
+lawful-fed forecast image h = tt
 lawful-fed (format n torn) image h = tt
 lawful-fed (commit n torn) image h = tt
 lawful-fed (mount n torn) image h = tt

@@ -15,7 +15,7 @@ use Rattle.chip.specs.Chip.{Op}
 use Rattle.chip.specs.Erases.{erasesIn}
 use Rattle.promise.specs.Plain.{Answer, isCommit, isCut, cuts, firstRefusal}
 use Rattle.promise.specs.Calls.{Store}
-use Rattle.promise.specs.Steps.{Act, read, update, format, commit, mount, fed, isTen, isAccepted, isFormat, boots, Step, Only, Hands, lastHands, lastImage, feed, feeds, isCutFormat, isFinishedFormat, Uncut, NoFormat, Allowed, Takes, Runs}
+use Rattle.promise.specs.Steps.{Act, read, update, forecast, format, commit, mount, fed, isTen, isAccepted, isFormat, boots, Step, Only, Hands, lastHands, lastImage, feed, feeds, isCutFormat, isFinishedFormat, Uncut, NoFormat, Allowed, Takes, Runs}
 use Rattle.promise.specs.Erases.{operationsOf, doneBy, wholeErases}
 use Rattle.promise.specs.Wear.{isFinishedCommit, finishedCommits, NoneCut, Unbroken, Erased, OnceEach, ErasesPay, ErasesFew, LeavesFree}
 use Rattle.promise.proofs.Effects.{GoodAtHand, Worked, Booted, Effect, idle, worked, cut, booted, effect, good-first, good-next, erases-first}
@@ -33,6 +33,7 @@ module _ (g : Geometry) (S : Store) where
       × ((t : S .State) → S .Good t i → (take ops (operationsOf g S x s i) ≡ []) × (i' ≡ i))
   boot-mounts (read r) s i a ops s' i' e p c u f = clash e refl
   boot-mounts (update d) s i a ops s' i' e p c u f = clash e refl
+  boot-mounts forecast s i a ops s' i' e p c u f = clash e refl
   boot-mounts (format n torn) s i a ops s' i' e p c u f =
       let os = S .formatOps (blocksOf g (S .size i)) in
       cases (leb (length os) n)

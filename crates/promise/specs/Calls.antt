@@ -11,7 +11,7 @@ use Rattle.chip.specs.Power.{takesEffect}
 use Rattle.chip.specs.Chip.{Op}
 use Rattle.chip.specs.Erases.{erasesIn}
 use Rattle.tree.specs.Tree.{Table}
-use Rattle.promise.specs.Plain.{Answer, refuses, accepted, tells, Plain, ReadCall, UpdateCall, Call, reads, updates, formats, commits, mounts, lookingUp, insertion, deletion, firstRefusal, numbersRefusal, laterRefusal, leaf, resting, fresh, updated, committed, enoughWrites, enoughMarks}
+use Rattle.promise.specs.Plain.{Answer, refuses, accepted, tells, Plain, ReadCall, UpdateCall, Call, reads, updates, forecasts, formats, commits, mounts, lookingUp, insertion, deletion, firstRefusal, numbersRefusal, laterRefusal, leaf, resting, fresh, updated, committed, enoughWrites, enoughMarks}
 
 -- what the steps read from an image: 7, 8 or 9, or its tree and its greatest standing number
 pub data Meaning : Type 0 where
@@ -161,12 +161,16 @@ module _ (g : Geometry) (S : Store) where
     pub zeros : a ≡ accepted → (b : ℕ) → S .erases s' b ≡ 0
     pub cut : PassesFirst (formats allowance (S .size i) (length torn)) s → allowance < length (S .formatOps (blocksOf g (S .size i))) → S .on s' ≡ false
 
-  -- a commit that the first tests pass, with updates pending and a number left, on a state that calls gave
+  -- a commit or a forecast that the first tests pass, with updates pending and a number left, on any state
+  pub record Proceeding (c : Call) (s : S .State) : Type 0 where
+    pub passes : PassesFirst c s
+    pub numbers : PassesNumbers S c s
+    pub pending : 0 < S .pending s
+
+  -- such a commit on a state that calls gave
   pub record Committing (allowance : ℕ) (torn : List ℕ) (s : S .State) (i : S .Image) : Type 0 where
     pub good : S .Good s i
-    pub passes : PassesFirst (commits allowance (S .size i) (length torn)) s
-    pub numbers : PassesNumbers S (commits allowance (S .size i) (length torn)) s
-    pub pending : 0 < S .pending s
+    pub proceeds : Proceeding (commits allowance (S .size i) (length torn)) s
 
   pub record Commit (allowance : ℕ) (torn : List ℕ) (s : S .State) (i : S .Image) (a : Answer) (ops : ℕ) (s' : S .State) (i' : S .Image) : Type 0 where
     pub first : FirstTests (commits allowance (S .size i) (length torn)) s i a s' i'
@@ -180,11 +184,12 @@ module _ (g : Geometry) (S : Store) where
     pub idle : PassesFirst (commits allowance (S .size i) (length torn)) s → S .pending s ≡ 0 → (a ≡ accepted) × (ops ≡ 0) × Same S s i s' i'
     pub none : S .pending s ≡ 0 → length (S .commitOps s i) ≡ 0
     pub bound : S .most ≤ enoughWrites
-    -- no places: 6, and by `quiet` nothing is changed; where the image has room there are places
-    pub stuck : Committing allowance torn s i → S .able s i ≡ false → a ≡ refuses 6
+    -- no places: 6, and by `quiet` nothing is changed, on any state and any image; where the image has room there are places
+    pub stuck : Proceeding (commits allowance (S .size i) (length torn)) s → S .able s i ≡ false → a ≡ refuses 6
     pub able : Committing allowance torn s i → S .Room i → S .able s i ≡ true
     pub few : Committing allowance torn s i → S .able s i ≡ true → length (S .commitOps s i) ≤ S .most
-    pub power : Committing allowance torn s i → S .able s i ≡ true → OpsTold (length (S .commitOps s i)) allowance a ops
+    -- places: accepted where the allowance is enough for its operations, else 10, on any state and any image
+    pub power : Proceeding (commits allowance (S .size i) (length torn)) s → S .able s i ≡ true → OpsTold (length (S .commitOps s i)) allowance a ops
     -- the image means P and G + 1 where the commit takes effect, else what it meant
     pub choice : Committing allowance torn s i → S .able s i ≡ true
         → S .meaning i' ≡ cond (takesEffect (getD torn 0 0) allowance (length (S .commitOps s i))) (means (S .present s i) (suc (S .number s))) (S .meaning i)
@@ -200,6 +205,20 @@ module _ (g : Geometry) (S : Store) where
     pub rests : Committing allowance torn s i → S .able s i ≡ true → length (S .commitOps s i) ≤ allowance → (b : ℕ) → 0 < erasesIn b (S .commitOps s i)
         → (t : S .State) → S .Good t i' → erasesIn b (S .commitOps t i') ≡ 0
     pub cut : Committing allowance torn s i → S .able s i ≡ true → allowance < length (S .commitOps s i) → S .on s' ≡ false
+
+  -- ---- forecast: state and image are read only, and it gives no state back: s' is s. It is refused as a commit is, save 10, and tells how many
+  -- operations a commit made now would do
+  pub record Forecast (s : S .State) (i : S .Image) (a : Answer) (ops : ℕ) (s' : S .State) (i' : S .Image) : Type 0 where
+    pub first : FirstTests (forecasts (S .size i)) s i a s' i'
+    pub range : acceptsOr (2 ∷ 1 ∷ 6 ∷ []) a ≡ true
+    pub same : Same S s i s' i'
+    pub quiet : (n : ℕ) → a ≡ refuses n → ops ≡ 0
+    -- the last number, nothing pending, and with updates pending no places or places: on any state and any image
+    pub last : PassesFirst (forecasts (S .size i)) s → (n : ℕ) → numbersRefusal (S .pending s) (S .number s) (forecasts (S .size i)) ≡ suc n → a ≡ refuses (suc n)
+    pub idle : PassesFirst (forecasts (S .size i)) s → S .pending s ≡ 0 → (a ≡ accepted) × (ops ≡ 0)
+    pub stuck : Proceeding (forecasts (S .size i)) s → S .able s i ≡ false → a ≡ refuses 6
+    pub able : S .Good s i → Proceeding (forecasts (S .size i)) s → S .Room i → S .able s i ≡ true
+    pub done : Proceeding (forecasts (S .size i)) s → S .able s i ≡ true → (a ≡ accepted) × (ops ≡ length (S .commitOps s i))
 
   -- mount reads the image alone
   pub record Mount (allowance : ℕ) (torn : List ℕ) (s : S .State) (i : S .Image) (a : Answer) (ops : ℕ) (s' : S .State) (i' : S .Image) : Type 0 where

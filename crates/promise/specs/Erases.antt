@@ -11,7 +11,7 @@ use Rattle.chip.specs.Chip.{Op}
 use Rattle.chip.specs.Erases.{erasesIn}
 use Rattle.tree.specs.Tree.{Table}
 use Rattle.promise.specs.Calls.{Store}
-use Rattle.promise.specs.Steps.{Act, read, update, format, commit, mount, isAccepted, boots, Step, Only, lastHands, Allowed, Runs}
+use Rattle.promise.specs.Steps.{Act, read, update, forecast, format, commit, mount, isAccepted, boots, Step, Only, lastHands, Allowed, Runs}
 use Rattle.promise.specs.Promise.{Course}
 
 module _ (S : Store) where
@@ -29,6 +29,7 @@ module _ (g : Geometry) (S : Store) where
   abbrev pub operationsOf : Act → S .State → S .Image → List Op
   operationsOf (read r) s i = []
   operationsOf (update u) s i = []
+  operationsOf forecast s i = []
   operationsOf (format n torn) s i = S .formatOps (blocksOf g (S .size i))
   operationsOf (commit n torn) s i = S .commitOps s i
   operationsOf (mount n torn) s i = S .mountOps i

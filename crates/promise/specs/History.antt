@@ -8,9 +8,9 @@ use Rattle.chip.specs.Geometry.{Geometry, blocksOf}
 use Rattle.tree.specs.Tree.{Table, Found, absent, found, find, rootLevel}
 use Rattle.tree.specs.Tree as T
 use Rattle.tree.specs.Step6.{top, Tree}
-use Rattle.promise.specs.Plain.{Plain, UpdateCall, Said, nothing, holds, gone, Call, reads, updates, formats, commits, mounts, Verdict, denied, cut, passed, verdict, leaf}
+use Rattle.promise.specs.Plain.{Plain, UpdateCall, Said, nothing, holds, gone, Call, reads, updates, forecasts, formats, commits, mounts, Verdict, denied, cut, passed, verdict, leaf}
 use Rattle.promise.specs.Calls.{Store}
-use Rattle.promise.specs.Steps.{Act, read, update, format, commit, mount, Step, fed, isTen, counts, next}
+use Rattle.promise.specs.Steps.{Act, read, update, forecast, format, commit, mount, Step, fed, isTen, counts, next}
 
 -- a tree of a chip with B blocks
 pub record TreeOf (B : ℕ) (t : Table) : Type 0 where
@@ -33,6 +33,7 @@ pub record Lawful (u : UpdateCall) : Type 0 where
 abbrev pub LawfulAct : Act → Type 0
 LawfulAct (read r) = Unit {0}
 LawfulAct (update u) = Lawful u
+LawfulAct forecast = Unit {0}
 LawfulAct (format n torn) = Unit {0}
 LawfulAct (commit n torn) = Unit {0}
 LawfulAct (mount n torn) = Unit {0}
@@ -67,11 +68,13 @@ abbrev pub historyAfter : Geometry → Verdict → Bool → Call → History →
 historyAfter g (denied n) w c l = l
 historyAfter g passed w (reads r image) l = l
 historyAfter g passed w (updates u image) l = record { base = l .base; kept = l .kept; pending = u ∷ l .pending }
+historyAfter g passed w (forecasts image) l = l
 historyAfter g passed w (formats a image torn) l = begun (leaf (blocksOf g image))
 historyAfter g passed w (commits a image torn) l = flushed l
 historyAfter g passed w (mounts a image torn) l = dropped l
 historyAfter g cut w (reads r image) l = l
 historyAfter g cut w (updates u image) l = l
+historyAfter g cut w (forecasts image) l = l
 historyAfter g cut w (formats a image torn) l = dropped l
 historyAfter g cut w (commits a image torn) l = cond w (flushed l) (dropped l)
 historyAfter g cut w (mounts a image torn) l = dropped l

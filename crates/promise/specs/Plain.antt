@@ -74,10 +74,11 @@ pub record UpdateCall : Type 0 where
   pub step : ℕ → Table → Table
   pub says : ℕ → Said
 
--- a write goes by its own rule: format, commit, mount
+-- a forecast is a read that is refused as a commit is; a write goes by its own rule: format, commit, mount
 pub data Call : Type 0 where
   reads : ReadCall → (image : ℕ) → Call
   updates : UpdateCall → (image : ℕ) → Call
+  forecasts : (image : ℕ) → Call
   formats : (allowance image torn : ℕ) → Call
   commits : (allowance image torn : ℕ) → Call
   mounts : (allowance image torn : ℕ) → Call
@@ -138,6 +139,7 @@ admission g on B image = orElse (when 2 (not on)) (when 1 (not (isChipSize g ima
 abbrev pub firstRefusal : Geometry → Bool → ℕ → Call → ℕ
 firstRefusal g on B (reads r image) = admission g on B image
 firstRefusal g on B (updates u image) = admission g on B image
+firstRefusal g on B (forecasts image) = admission g on B image
 firstRefusal g on B (formats a image torn) = when 1 (not (isChipSize g image && isTornSize g torn))
 firstRefusal g on B (commits a image torn) = orElse (when 2 (not on)) (when 1 (not (isChipSize g image && (isTornSize g torn && hasBlocks g B image))))
 firstRefusal g on B (mounts a image torn) = when 1 (not (isChipSize g image && isTornSize g torn))
@@ -146,18 +148,24 @@ firstRefusal g on B (mounts a image torn) = when 1 (not (isChipSize g image && i
 abbrev pub lastNumber : ℕ
 lastNumber = 4294967295
 
--- 3 when 16 are pending; 6 when pending is above 0 and G is 4,294,967,295: these read the numbers of the state alone
+-- pending is above 0 and G is 4,294,967,295: no number is left for a commit
+abbrev pub noNumberLeft : (pending number : ℕ) → Bool
+noNumberLeft pending G = ltb 0 pending && eqb G lastNumber
+
+-- 3 when 16 are pending; 6 when no number is left: these read the numbers of the state alone
 abbrev pub numbersRefusal : (pending number : ℕ) → Call → ℕ
 numbersRefusal pending G (reads r image) = 0
 numbersRefusal pending G (updates u image) = when 3 (leb 16 pending)
+numbersRefusal pending G (forecasts image) = when 6 (noNumberLeft pending G)
 numbersRefusal pending G (formats a image torn) = 0
-numbersRefusal pending G (commits a image torn) = when 6 (ltb 0 pending && eqb G lastNumber)
+numbersRefusal pending G (commits a image torn) = when 6 (noNumberLeft pending G)
 numbersRefusal pending G (mounts a image torn) = 0
 
 -- 4 and 5, read on P
 abbrev pub treeRefusal : Plain → Call → ℕ
 treeRefusal p (reads r image) = 0
 treeRefusal p (updates u image) = u .refusal (p .blocks) (p .present)
+treeRefusal p (forecasts image) = 0
 treeRefusal p (formats a image torn) = 0
 treeRefusal p (commits a image torn) = 0
 treeRefusal p (mounts a image torn) = 0
@@ -179,6 +187,7 @@ enoughMarks = 255
 abbrev pub mayCut : Plain → Call → Bool
 mayCut p (reads r image) = false
 mayCut p (updates u image) = false
+mayCut p (forecasts image) = false
 mayCut p (formats a image torn) = ltb a enoughWrites
 mayCut p (commits a image torn) = ltb a enoughWrites && ltb 0 (p .pending)
 mayCut p (mounts a image torn) = ltb a enoughMarks
@@ -225,6 +234,7 @@ mounted p = resting (p .kept) (p .number) (p .blocks)
 unfoldable pub finished : Geometry → Plain → Call → Plain
 finished g p (reads r image) = p
 finished g p (updates u image) = updated (u .step (p .blocks) (p .present)) p
+finished g p (forecasts image) = p
 finished g p (formats a image torn) = fresh (blocksOf g image)
 finished g p (commits a image torn) = cond (ltb 0 (p .pending)) (committed p) p
 finished g p (mounts a image torn) = mounted p
@@ -238,6 +248,7 @@ off p = record { kept = p .kept; present = p .present; pending = p .pending; num
 unfoldable pub cutOff : Bool → Plain → Call → Plain
 cutOff counts p (reads r image) = p
 cutOff counts p (updates u image) = p
+cutOff counts p (forecasts image) = p
 cutOff counts p (formats a image torn) = off p
 cutOff counts p (commits a image torn) = cond counts (off (committed p)) (off p)
 cutOff counts p (mounts a image torn) = off p
@@ -245,6 +256,7 @@ cutOff counts p (mounts a image torn) = off p
 unfoldable pub acceptedAnswer : Plain → Call → Answer
 acceptedAnswer p (reads r image) = r .answer p
 acceptedAnswer p (updates u image) = accepted
+acceptedAnswer p (forecasts image) = accepted
 acceptedAnswer p (formats a image torn) = accepted
 acceptedAnswer p (commits a image torn) = accepted
 acceptedAnswer p (mounts a image torn) = accepted
@@ -274,6 +286,7 @@ pub record Fed : Type 0 where
 abbrev pub isCommit : Call → Bool
 isCommit (reads r image) = false
 isCommit (updates u image) = false
+isCommit (forecasts image) = false
 isCommit (formats a image torn) = false
 isCommit (commits a image torn) = true
 isCommit (mounts a image torn) = false

@@ -53,7 +53,7 @@ module _ (g : Geometry) (S : Store) where
   PromiseAny = (K : Table) (G : ℕ) (s : S .State) (i : S .Image) (xs : List (Step S)) → Started g S K G s i → Runs g S (Only S s) i xs
       → AgreesAny g S (promised (starts g S K G i)) i xs
 
-  -- from any mounted chip, room or not: the same, as long as no commit answers 6 before the last number
+  -- from any mounted chip, room or not: the same, as long as no commit or forecast answers 6 before the last number
   abbrev pub PromiseForeign : Type 0
   PromiseForeign = (K : Table) (G : ℕ) (s : S .State) (i : S .Image) (xs : List (Step S)) → Mounted g S K G s i → Runs g S (Only S s) i xs → Uncut S xs → Unstuck S xs
       → Agrees g S (starts g S K G i) i xs

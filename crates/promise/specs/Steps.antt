@@ -8,13 +8,14 @@ use lib.Dec.{eqb}
 use lib.ListN.{length}
 use Rattle.chip.specs.Geometry.{Geometry, blocksOf}
 use Rattle.tree.specs.Tree.{Table}
-use Rattle.promise.specs.Plain.{Answer, refuses, accepted, tells, Plain, ReadCall, UpdateCall, Call, reads, updates, formats, commits, mounts, lookingUp, insertion, deletion, lastNumber, resting, fresh, answer, after, Fed, Compared, isCut}
-use Rattle.promise.specs.Calls.{Meaning, means, numberIn, Store, stateOf, Reads, Updates, Format, Commit, Mount}
+use Rattle.promise.specs.Plain.{Answer, refuses, accepted, tells, Plain, ReadCall, UpdateCall, Call, reads, updates, forecasts, formats, commits, mounts, lookingUp, insertion, deletion, lastNumber, resting, fresh, answer, after, Fed, Compared, isCut}
+use Rattle.promise.specs.Calls.{Meaning, means, numberIn, Store, stateOf, Reads, Updates, Forecast, Format, Commit, Mount}
 
 -- a call with its numbers and its torn slice
 pub data Act : Type 0 where
   read : ReadCall → Act
   update : UpdateCall → Act
+  forecast : Act
   format : (allowance : ℕ) (torn : List ℕ) → Act
   commit : (allowance : ℕ) (torn : List ℕ) → Act
   mount : (allowance : ℕ) (torn : List ℕ) → Act
@@ -32,6 +33,7 @@ lookUp k = read (lookingUp k)
 abbrev pub fed : Act → ℕ → Call
 fed (read r) image = reads r image
 fed (update u) image = updates u image
+fed forecast image = forecasts image
 fed (format a torn) image = formats a image (length torn)
 fed (commit a torn) image = commits a image (length torn)
 fed (mount a torn) image = mounts a image (length torn)
@@ -49,6 +51,7 @@ isAccepted (tells vs) = false
 abbrev pub isFormat : Act → Bool
 isFormat (read r) = false
 isFormat (update u) = false
+isFormat forecast = false
 isFormat (format a torn) = true
 isFormat (commit a torn) = false
 isFormat (mount a torn) = false
@@ -57,13 +60,14 @@ isFormat (mount a torn) = false
 abbrev pub boots : Act → Bool
 boots (read r) = false
 boots (update u) = false
+boots forecast = false
 boots (format a torn) = true
 boots (commit a torn) = false
 boots (mount a torn) = true
 
 module _ (S : Store) where
-  -- one call: the state given and the image lent to it, what it left of that, the answer, the operations told, the state returned; and the one image after
-  -- the call
+  -- one call: the state given and the image lent to it, what it left of that, the answer, the operations told (by a forecast: foretold), the state returned;
+  -- and the one image after the call
   pub record Step : Type 0 where
     pub act : Act
     pub given : S .State
@@ -117,10 +121,11 @@ module _ (S : Store) where
   abbrev pub seen : Step → Answer × Meaning
   seen x = (x .answer, S .meaning (x .image))
 
-  -- ---- no commit of the list is stuck: where it answers 6 the number is the last
+  -- ---- no commit or forecast of the list is stuck: where it answers 6 the number is the last
   abbrev pub SixIsLast : Act → S .State → Answer → Type 0
   SixIsLast (read r) s a = Unit {0}
   SixIsLast (update u) s a = Unit {0}
+  SixIsLast forecast s a = a ≡ refuses 6 → S .number s ≡ lastNumber
   SixIsLast (format n torn) s a = Unit {0}
   SixIsLast (commit n torn) s a = a ≡ refuses 6 → S .number s ≡ lastNumber
   SixIsLast (mount n torn) s a = Unit {0}
@@ -158,6 +163,7 @@ module _ (g : Geometry) (S : Store) where
   abbrev pub Allowed : Act → S .State → S .Image → Answer → ℕ → S .State → S .Image → Type 0
   Allowed (read r) s i a ops s' i' = Reads g S r s i a s' i'
   Allowed (update u) s i a ops s' i' = Updates g S u s i a s' i'
+  Allowed forecast s i a ops s' i' = Forecast g S s i a ops s' i'
   Allowed (format allowance torn) s i a ops s' i' = Format g S allowance torn s i a ops s' i'
   Allowed (commit allowance torn) s i a ops s' i' = Commit g S allowance torn s i a ops s' i'
   Allowed (mount allowance torn) s i a ops s' i' = Mount g S allowance torn s i a ops s' i'

@@ -2,11 +2,10 @@
 use mathlib.Core.Path.{_≡_, refl, sym, ap, subst, _∙_}
 use mathlib.Core.Bool.{Bool, true, false, cond}
 use mathlib.Core.List.{List, foldl}
-use Prim.Native.Nat.{ℕ, suc, _+_, _*_, _^_, _≤_, _<_}
+use Prim.Native.Nat.{ℕ, suc, _+_, _*_, _≤_, _<_}
 use native.Mathlib.Omega.{arith}
 use lib.Dec.{ltb}
-use lib.ListN.{length, getD, length-map}
-use lib.Seq.{take-all}
+use lib.ListN.{length, getD}
 use borrow.Author.Tests.{ltb-false, ltb-true}
 use Rattle.lists.specs.Lists.{count, tab}
 use Rattle.lists.proofs.Alls.{All-map}
@@ -14,14 +13,12 @@ use Rattle.lists.proofs.Flats.{tab-same, getD-tab}
 use Rattle.lists.proofs.Tests.{cases}
 use Rattle.chip.specs.declared.progress.Progress.{Progress}
 use Rattle.chip.specs.Geometry.{small, blocksOf}
-use Rattle.chip.specs.Power.{isGone, takesEffect}
-use Rattle.chip.specs.Counts.{countsOf}
+use Rattle.chip.specs.Power.{takesEffect}
 use Rattle.chip.specs.Page.{Page, isFree}
-use Rattle.chip.specs.Chip.{Op, Machine, kindOf, kindsOf, pagesOf}
-use Rattle.chip.specs.Erases.{erasesIn}
-use Rattle.chip.specs.RunCode.{atStart}
+use Rattle.chip.specs.Chip.{Machine, pagesOf}
+use Rattle.chip.specs.Erases.{erasesIn, figuresAfter}
+use Rattle.chip.specs.RunCode.{atStart, Ran}
 use Rattle.chip.proofs.EraseLaws.{figure-grows}
-use Rattle.chip.proofs.Runs.{run-gone, ran-told}
 use Rattle.pages.specs.declared.unit.Unit as U
 use Rattle.views.specs.Groups.{present}
 use Rattle.views.specs.Stored.{Stores}
@@ -30,25 +27,27 @@ use Rattle.views.specs.Table.{Node, events, fresh, turn}
 use Rattle.views.proofs.Meanings.{Kept, nodeIn, kept-node}
 use Rattle.tree.specs.Tree.{Table, next}
 use Rattle.tree.specs.Step6.{step6}
-use Rattle.log.specs.Plan.{newsOf, nodeAt, opsOf, spareBlocks}
+use Rattle.log.specs.Plan.{Plan, isEmpty, newsOf, nodeAt, opsOf, spareBlocks}
 use Rattle.log.specs.Policy.{planOf}
 use Rattle.log.proofs.EraseLaws.{commit-erases, erased-none, erased-on}
 use Rattle.log.proofs.AdmissibleLaws.{Safe, imageAfter, nodeAfter}
 use Rattle.log.proofs.PolicyLaws.{rests-next}
 use Rattle.promise.specs.Image.{viewsOf, bySix, imageMeaning}
 use Rattle.promise.specs.Calls as P
-use Rattle.commits.specs.ExecuteCode.{Executed}
 use Rattle.store.specs.declared.state.State.{State}
 use Rattle.store.specs.FreshCode.{committedState}
-use Rattle.store.specs.State.{limitOf, nodesOf, unitsOf, presentOf, Good, Room, commitOps}
-use Rattle.store.specs.Contracts.{thePlan, theOps, toldOf}
+use Rattle.store.specs.State.{limitOf, nodesOf, paged, unitsOf, presentOf, Good, Room, commitOps}
+use Rattle.store.specs.Contracts.{thePlan, theOps}
 use Rattle.store.proofs.BegunViews.{map-tab}
 use Rattle.store.proofs.Begun.{Settled}
-use Rattle.store.proofs.CommitGood.{good-chip, good-kept, good-long, good-present, good-room, ops-none, ops-some, room-by}
+use Rattle.store.proofs.PlanRead.{paged-none, paged-some}
+use Rattle.store.proofs.CommitGood.{good-chip, good-kept, good-long, good-plan, good-present, good-room, ops-none, ops-some, room-by}
 
--- ---- with an allowance for all of them, all are told
-pub all-told : (n : ℕ) (os : List Op) → length os ≤ n → toldOf n os ≡ countsOf (kindsOf os)
-all-told n os h = ap countsOf (take-all n (kindsOf os) (omega (arith, length-map os kindOf)))
+-- the plan q done as far as the power goes; the lists with the pages of the plan noted; and the figures with its erases counted
+pub record Executed (limit G : ℕ) (tb : List Node) (q : Plan) (torn : List ℕ) (p : Progress) (before after lens slots worn worn' : List ℕ) (reached : Progress) : Type 0 where
+  pub ran : Ran small torn (opsOf small G q) p reached before after
+  pub lists : (n : ℕ) → n < limit → Stores lens slots n (foldl (turn n) (nodeAt tb n) (events limit (newsOf small G q)) .pages)
+  pub figures : worn' ≡ figuresAfter (opsOf small G q) worn
 
 -- ---- what the operations of the next commit are made of
 same-nodes : {tb nx : List Node} {G H : ℕ} → Views.means tb G ≡ Views.means nx H → tb ≡ nx
@@ -58,10 +57,10 @@ same-number : {tb nx : List Node} {G H : ℕ} → Views.means tb G ≡ Views.mea
 same-number e = cc
 
 same-ops : {B C : ℕ} {ps qs : List Page} {tb nx : List Node} {G H : ℕ} (us : List U.Unit) → B ≡ C → ps ≡ qs → tb ≡ nx → G ≡ H
-    → opsOf small G (planOf small (8 * B) B ps tb G us) ≡ opsOf small H (planOf small (8 * C) C qs nx H us)
+    → opsOf small G (paged (planOf small (8 * B) B ps tb G us)) ≡ opsOf small H (paged (planOf small (8 * C) C qs nx H us))
 same-ops {B = B} {C = C} {ps = ps} {qs = qs} {tb = tb} {nx = nx} {G = G} us b p t g =
-    ap (λ (x : ℕ). opsOf small G (planOf small (8 * x) x ps tb G us)) b ∙ ap (λ (x : List Page). opsOf small G (planOf small (8 * C) C x tb G us)) p
-    ∙ ap (λ (x : List Node). opsOf small G (planOf small (8 * C) C qs x G us)) t ∙ ap (λ (x : ℕ). opsOf small x (planOf small (8 * C) C qs nx x us)) g
+    ap (λ (x : ℕ). opsOf small G (paged (planOf small (8 * x) x ps tb G us))) b ∙ ap (λ (x : List Page). opsOf small G (paged (planOf small (8 * C) C x tb G us))) p
+    ∙ ap (λ (x : List Node). opsOf small G (paged (planOf small (8 * C) C qs x G us))) t ∙ ap (λ (x : ℕ). opsOf small x (paged (planOf small (8 * C) C qs nx x us))) g
 
 module _ (n : ℕ) (torn : List ℕ) (s : State) (i i' lens slots erases : List ℕ) (reached : Progress) (g : Good small s i)
     (x : Executed (limitOf s) (s .commit) (nodesOf small s i) (thePlan s i) torn (atStart n) i i' lens slots (s .erases) erases reached) where
@@ -71,15 +70,9 @@ module _ (n : ℕ) (torn : List ℕ) (s : State) (i i' lens slots erases : List 
   abbrev tb : List Node
   tb = nodesOf small s i
 
-  -- ---- the power and the pages
-  pub after-pages : pagesOf small i' ≡ imageAfter small torn ps (s .commit) (thePlan s i) n
+  -- ---- the pages
+  after-pages : pagesOf small i' ≡ imageAfter small torn ps (s .commit) (thePlan s i) n
   after-pages = ap (λ (m : Machine). m .pages) (x .ran .is)
-
-  pub after-gone : isGone (reached .left) ≡ ltb n (length (theOps s i))
-  after-gone = ap (λ (m : Machine). isGone (m .power)) (x .ran .is) ∙ run-gone small torn n ps (theOps s i)
-
-  pub after-told : n < 2 ^ 32 → reached .done ≡ toldOf n (theOps s i)
-  after-told low = ran-told small torn n (theOps s i) reached i i' low (x .ran)
 
   after-blocks : s .blocks ≡ blocksOf small (length i')
   after-blocks = g .blocks ∙ ap (blocksOf small) (sym (x .ran .size))
@@ -169,17 +162,23 @@ module _ (n : ℕ) (torn : List ℕ) (s : State) (i i' lens slots erases : List 
       next-means : (t : State) → Good small t i' → Views.means (nodesOf small t i') (t .commit) ≡ Views.means nextNodes (suc (s .commit))
       next-means t h = sym (h .means) ∙ ap (λ (B : ℕ). Views.meaning small (8 * B) (pagesOf small i')) (next-blocks t h) ∙ finished .is
 
+      abbrev nextPlan : State → Plan
+      nextPlan t = planOf small (limitOf s) (s .blocks) (imageAfter small torn ps (s .commit) (thePlan s i) n) nextNodes (suc (s .commit)) (unitsOf t)
+
       next-ops : (t : State) → Good small t i'
-          → theOps t i' ≡ opsOf small (suc (s .commit)) (planOf small (limitOf s) (s .blocks) (imageAfter small torn ps (s .commit) (thePlan s i) n) nextNodes (suc (s .commit)) (unitsOf t))
+          → theOps t i' ≡ opsOf small (suc (s .commit)) (paged (nextPlan t))
       next-ops t h =
           let m = next-means t h in
-          same-ops (unitsOf t) (next-blocks t h) after-pages (same-nodes m) (same-number m)
+          ap (opsOf small (t .commit)) (good-plan t i' h) ∙ same-ops (unitsOf t) (next-blocks t h) after-pages (same-nodes m) (same-number m)
 
       -- and with updates pending it erases no block that the commit erased
       next-rests : (b : ℕ) → 0 < erasesIn b (theOps s i) → (t : State) → Good small t i' → erasesIn b (theOps t i') ≡ 0
       next-rests b e t h =
           ap (erasesIn b) (next-ops t h)
-          ∙ rests-next small (limitOf s) (s .blocks) (spareBlocks small (s .blocks)) torn ps tb (s .commit) (unitsOf s) (thePlan s i) sf n enough (unitsOf t) b e
+          ∙ cases (isEmpty (nextPlan t .written))
+          (λ y. ap (λ (q : Plan). erasesIn b (opsOf small (suc (s .commit)) q)) (paged-none (nextPlan t) y))
+          (λ y. ap (λ (q : Plan). erasesIn b (opsOf small (suc (s .commit)) q)) (paged-some (nextPlan t) y)
+          ∙ rests-next small (limitOf s) (s .blocks) (spareBlocks small (s .blocks)) torn ps tb (s .commit) (unitsOf s) (thePlan s i) sf n enough (unitsOf t) b e)
 
       pub after-rests : (b : ℕ) → 0 < erasesIn b (theOps s i) → (t : State) → Good small t i' → erasesIn b (commitOps small t i') ≡ 0
       after-rests b e t h =

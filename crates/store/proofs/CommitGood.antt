@@ -4,9 +4,9 @@ use mathlib.Core.List.{[], List, reverse-reverse}
 use Prim.Native.Nat.{ℕ, _+_, _*_, _≤_, _<_}
 use native.Mathlib.Omega.{arith}
 use lib.Dec.{eqb}
-use lib.ListN.{length, getD, length-reverse}
+use lib.ListN.{length, getD, length-reverse, replicate}
 use lib.Seq.{length-take-le}
-use borrow.Author.Tests.{eq-eqb, ne-eqb}
+use borrow.Author.Tests.{eq-eqb, le-leb, ne-eqb}
 use Rattle.lists.specs.Lists.{all, part, tab}
 use Rattle.lists.proofs.Flats.{tab-same, getD-tab, tab-all}
 use Rattle.lists.proofs.Parts.{length-part}
@@ -17,7 +17,7 @@ use Rattle.chip.proofs.ImageLaws.{length-pages}
 use Rattle.chip.proofs.Sizes.{chip-size}
 use Rattle.pages.specs.declared.unit.Unit as U
 use Rattle.pages.specs.Steps.{liveFrom}
-use Rattle.views.specs.Nodes.{View}
+use Rattle.views.specs.Nodes.{View, untouched}
 use Rattle.views.specs.Groups.{present}
 use Rattle.views.specs.Table as Views
 use Rattle.views.specs.Table.{Node, fresh, isWhole}
@@ -25,19 +25,24 @@ use Rattle.views.specs.Stored.{storedList, nodeView, Stores}
 use Rattle.views.proofs.Meanings.{Kept}
 use Rattle.tree.specs.Shown.{shown}
 use Rattle.views.proofs.NodeViews.{buffer-good}
-use Rattle.log.specs.Plan.{nodeAt, spareBlocks}
+use Rattle.log.specs.Plan.{headBlock, nodeAt, spareBlocks}
+use Rattle.log.specs.Admissible.{contentsOf, unusedBlocks}
+use Rattle.log.specs.Policy.{decide, planOf, usedBlocks}
 use Rattle.log.proofs.MountLaws.{image-sized}
 use Rattle.log.proofs.PlanBlocks.{has-room, room-has}
 use Rattle.log.proofs.PlanBlocks as Log
 use Rattle.log.proofs.AssignedChoice.{Committable}
-use Rattle.log.proofs.PlanKept.{Buffer, ready}
+use Rattle.log.proofs.ContentsLaws.{SameContents, decide-same, plan-by-same, same-pages}
+use Rattle.log.proofs.PlanKept.{Buffer, chip-small, ready, wide-small}
 use Rattle.commits.specs.ExecuteCode.{Plannable}
 use Rattle.store.specs.declared.state.State.{State}
 use Rattle.store.specs.AdmitCode.{ChipOf}
-use Rattle.store.specs.State.{limitOf, nodeFrom, nodesOf, unitsOf, presentOf, Good, RoomIn, Room, commitOps}
+use Rattle.store.specs.State.{contentsAt, limitOf, nodeFrom, nodesOf, paged, planAt, unitsOf, presentOf, Good, RoomIn, Room, commitOps}
 use Rattle.store.specs.Contracts.{theOps}
 use Rattle.store.proofs.BegunViews.{image-bytes}
 use Rattle.store.proofs.UpdateLaws.{units-many}
+use Rattle.store.proofs.CommitPlan.{plan-some}
+use Rattle.store.proofs.PlanRead.{paged-is}
 
 -- ---- room, as the definition tests it and as the laws of the plan have it
 module _ (i : List ℕ) (B : ℕ) (nodes : List Node) (G : ℕ) (blocks : B ≡ blocksOf small (length i))
@@ -150,6 +155,38 @@ module _ (s : State) (i : List ℕ) (g : Good small s i) where
         valid = bu .valid;
         whole = bu .whole;
       }
+
+  -- ---- the plan: over P, what may be written is the nodes of K with the buffer
+  good-contents : SameContents (limitOf s) (contentsAt small s i) (contentsOf (nodeAt tb) us)
+  good-contents =
+      record {
+        after = λ n l. ap (λ (t : List View). getD t n untouched) good-present
+            ∙ getD-tab (λ n. present n (nodeAt tb n .now) us) 0 (limitOf s) n untouched l
+            ∙ ap (λ (m : ℕ). present m (nodeAt tb m .now) us) (let e : 0 + n ≡ n = omega arith in e);
+        buffered = λ n l. refl;
+        listed = λ n l. same-pages (nodeAt tb n .pages) (nodeAt tb n .pages) refl;
+      }
+
+  -- the plan is the policy's, or nothing where that has no page
+  pub good-plan : planAt small s i ≡ paged (planOf small (limitOf s) (s .blocks) ps tb (s .commit) us)
+  unfolding planAt
+  good-plan =
+      let N = contentsAt small s i in
+      let M = contentsOf (nodeAt tb) us in
+      rw (le-leb (s .count) 960 good-few)
+      (ap paged (plan-by-same small (limitOf s) (s .blocks) ps tb (s .commit) N M
+      (decide small (limitOf s) (s .blocks) ps tb (s .commit) N) (decide small (limitOf s) (s .blocks) ps tb (s .commit) M) good-contents
+      (decide-same small (limitOf s) (spareBlocks small (s .blocks)) ps (headBlock small ps) (unusedBlocks small (s .blocks) ps tb (s .commit)) (usedBlocks small (s .blocks) ps tb (s .commit)) N M good-contents)))
+
+  -- with updates pending and a number left it is the policy's
+  pub plan-good : ((j : ℕ) → getD i j 0 < 256) → 0 < s .pending → s .commit < 4294967295
+      → planAt small s i ≡ planOf small (limitOf s) (s .blocks) ps tb (s .commit) us
+  plan-good b h n =
+      let torn : List ℕ = replicate 528 0 in
+      good-plan
+      ∙ paged-is (planOf small (limitOf s) (s .blocks) ps tb (s .commit) us)
+      (plan-some small (limitOf s) (s .blocks) torn (chip-small (s .blocks) torn refl) ps tb (s .commit) us
+      (good-ready b h n) (good-buffer h .pending) (wide-small (s .blocks) (good-chip .least)))
 
 -- none with nothing pending, else those of the plan
 pub ops-none : (s : State) (i : List ℕ) → s .pending ≡ 0 → commitOps small s i ≡ []

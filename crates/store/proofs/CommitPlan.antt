@@ -1,4 +1,4 @@
--- The plan of a commit: what it costs, and that it is stuck or has a page. Assumes nothing.
+-- The plan of a commit is stuck or has a page. Assumes nothing.
 use mathlib.Core.Path.{_≡_, refl, sym, ap, subst, _∙_}
 use mathlib.Core.Logic.{_⊎_, inl, inr, ⊎-elim}
 use mathlib.Core.Bool.{Bool, false}
@@ -19,19 +19,13 @@ use Rattle.views.specs.Groups.{own}
 use Rattle.views.specs.Table.{Node, fresh, meaning, means}
 use Rattle.views.proofs.Meanings.{kept-node, nodeIn}
 use Rattle.log.specs.Commit.{Sheet}
-use Rattle.log.specs.Plan.{Plan, newsOf, nodeAt, opsOf, spareBlocks, stuck, isEmpty}
+use Rattle.log.specs.Plan.{Plan, nodeAt, spareBlocks, stuck, isEmpty}
 use Rattle.log.specs.Admissible.{Admissible, Assigned, Assignment, Target, contentsOf, inPage, planFrom, unwritten, writtenOf}
 use Rattle.log.specs.Policy.{Decision, decide, planOf, planBy}
 use Rattle.log.proofs.AssignedChoice.{Chip, Committable}
-use Rattle.log.proofs.CommitBuilt.{length-new}
-use Rattle.log.proofs.KindLaws.{length-ops}
 use Rattle.log.proofs.PlanNodes.{nil-short, some-own}
 use Rattle.log.proofs.AdmissibleLaws.{Safe, imageAfter, nodeAfter, admissible-same, plan-same, written-count}
 use Rattle.log.proofs.PolicyLaws.{Decided, by-plan, decided, fits, no-plan}
-
--- an erase for each block, three operations for each page
-pub length-plan : (g : Geometry) (c : ℕ) (q : Plan) → length (opsOf g c q) ≡ length (q .erased) + 3 * length (q .written)
-length-plan g c q = length-ops (q .erased) (newsOf g c q) ∙ omega (arith, length-new g (suc c) (length (q .written)) 0 (q .written))
 
 -- ---- with a unit there is something to write, so a plan that is not stuck has a page
 page-some : (ts : List Sheet) → 0 < length ts → isEmpty ts ≡ false

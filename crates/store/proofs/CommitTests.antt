@@ -7,7 +7,9 @@ use lib.Dec.{ltb, leb, eqb}
 use borrow.Author.Tests.{eq-eqb, ne-eqb, eqb-true, lt-ltb, le-ltb, le-leb, lt-leb}
 use Rattle.chip.specs.Geometry.{small}
 use Rattle.promise.specs.Plain.{refuses, accepted, admission, commits, firstRefusal, hasBlocks, isChipSize, isTornSize, lastNumber, orElse, when}
-use Rattle.store.specs.AdmitCode.{ChipOf, updateTests, commitTests, answerFor}
+use Rattle.store.specs.declared.admit.Beginning.the-variants.{Plans}
+use Rattle.store.specs.declared.state.Numbers.{Numbers}
+use Rattle.store.specs.AdmitCode.{CommitBegins, plans, ChipOf, updateTests, commitTests, answerFor}
 use Rattle.store.proofs.AdmitLaws.{admission-chip}
 
 -- ---- of an update, where x is what the tests 2 and 1 give
@@ -117,3 +119,17 @@ commits-past on B p G n len torn u e =
     let w = or-none (firstRefusal small on B (commits 0 len torn)) (when 6 (ltb 0 p && eqb G lastNumber)) e in
     let q = parts-passed on (isChipSize small len) (isTornSize small torn) (hasBlocks small B len) (w .0) in
     record { first = w .0; chip = admission-chip on B len (q .1); slice = eqb-true torn 528 (q .0); number = λ h. six-none p G (w .1) h u }
+
+-- ---- a commit or a forecast that goes on to its plan
+pub record Planning (m : Numbers) (n len torn : ℕ) : Type 0 where
+  pub first : firstRefusal small (m .on) (m .blocks) (commits n len torn) ≡ 0
+  pub chip : ChipOf (m .blocks) len
+  pub slice : torn ≡ 528
+  pub pending : 0 < m .pending
+  pub number : m .commit < lastNumber
+  pub fits : m .count ≤ 960
+
+pub planning : (m : Numbers) (n len torn : ℕ) → m .commit < 4294967296 → CommitBegins m len torn Plans → Planning m n len torn
+planning m n len torn u (plans e p k) =
+    let w = commits-past (m .on) (m .blocks) (m .pending) (m .commit) n len torn u e in
+    record { first = w .first; chip = w .chip; slice = w .slice; pending = p; number = w .number p; fits = k }

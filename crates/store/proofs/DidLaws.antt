@@ -14,7 +14,6 @@ use Rattle.chip.specs.Counts.{total}
 use Rattle.chip.specs.Chip.{Op, kindOf, kindsOf}
 use Rattle.chip.proofs.CountLaws.{told-sum}
 use Rattle.promise.specs.Plain.{formats, mounts, firstRefusal}
-use Rattle.promise.specs.Calls as P
 use Rattle.promise.specs.Calls.{means}
 use Rattle.promise.specs.Image.{imageMeaning}
 use Rattle.promise.specs.Steps.{format, mount, commit}
@@ -22,7 +21,7 @@ use Rattle.promise.specs.Erases.{operationsOf}
 use Rattle.tree.specs.Tree.{Table}
 use Rattle.store.specs.declared.state.State.{State}
 use Rattle.store.specs.declared.state.Wrote.{Wrote}
-use Rattle.store.specs.Contracts.{index, toldOf, Formats, Mounts, Commits}
+use Rattle.store.specs.Contracts.{index, toldOf, Proceeds, Formats, Mounts, Commits}
 use Rattle.store.specs.Did.{Did}
 use Rattle.store.proofs.CommitGood.{ops-some}
 
@@ -47,7 +46,7 @@ module _ (n : ℕ) (torn : List ℕ) (s : State) (i : List ℕ) (r : Wrote) (i' 
       → Did (operationsOf small (index small) (mount n torn) s i) n torn i (total (r .ops)) i'
   mount-did f z K G e = record { whole = first-told n _ (r .ops) (f .kinds z K G e); bytes = f .bytes z K G e }
 
-  pub commit-did : Commits n torn s i r i' → P.Committing small (index small) n torn s i
+  pub commit-did : Commits n torn s i r i' → Proceeds n torn s i
       → Did (operationsOf small (index small) (commit n torn) s i) n torn i (total (r .ops)) i'
   commit-did f c =
       subst (λ (os : List Op). Did os n torn i (total (r .ops)) i') (sym (ops-some s i (c .pending)))

@@ -18,15 +18,17 @@ use Rattle.promise.specs.History.{TreeOf, LawfulAct}
 use Rattle.promise.specs.Promise as P
 use Rattle.promise.specs.Erases as E
 use Rattle.promise.specs.Wear as W
+use Rattle.promise.specs.Forecasts as N
 use Rattle.promise.proofs.Promise.{format-starts, mount-mounts}
 use Rattle.promise.proofs.Trees.{insert-lawful, delete-lawful}
 use Rattle.promise.proofs.Claims as L
 use Rattle.promise.proofs.Durable as D
 use Rattle.promise.proofs.Figures as F
 use Rattle.promise.proofs.Wear.{once-each, erases-pay, erases-few, leaves-free}
+use Rattle.promise.proofs.Forecasts.{forecast-holds, forecast-now, read-still, refused-still, still-out}
 use Rattle.store.specs.declared.state.State.{State}
 use Rattle.store.specs.declared.step.Call.{Call}
-use Rattle.store.specs.declared.step.Call.the-variants.{Format, Insert, Delete, LookUp, Commit, Mount}
+use Rattle.store.specs.declared.step.Call.the-variants.{Format, Insert, Delete, LookUp, Forecast, Commit, Mount}
 use Rattle.store.specs.declared.step.Stepped.{Stepped}
 use Rattle.store.specs.Answers.{answerOf}
 use Rattle.store.specs.State.{Room}
@@ -72,6 +74,7 @@ index-lawful (Format n) torn h = tt
 index-lawful (Insert k v) torn h = insert-lawful k v h
 index-lawful (Delete k) torn h = delete-lawful k h
 index-lawful (LookUp k) torn h = tt
+index-lawful Forecast torn h = tt
 index-lawful (Commit n) torn h = tt
 index-lawful (Mount n) torn h = tt
 
@@ -147,3 +150,19 @@ index-erases-few = erases-few small (index small)
 
 pub index-leaves-free : W.LeavesFree small (index small)
 index-leaves-free = leaves-free small (index small)
+
+-- ---- what a commit would cost: a forecast put before a commit tells what that does; and it changes nothing
+pub index-forecast : N.ForecastHolds small (index small)
+index-forecast = forecast-holds small (index small)
+
+pub index-forecast-now : N.ForecastNow small (index small)
+index-forecast-now = forecast-now small (index small)
+
+pub index-read-still : N.ReadStill small (index small)
+index-read-still = read-still small (index small)
+
+pub index-refused-still : N.RefusedStill small (index small)
+index-refused-still = refused-still small (index small)
+
+pub index-still-out : N.StillOut small (index small)
+index-still-out = still-out small (index small)

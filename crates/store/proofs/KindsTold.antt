@@ -3,32 +3,38 @@
 use mathlib.Core.Path.{_≡_, refl, sym, ap, _∙_}
 use mathlib.Core.Bool.{true, false, not, _&&_}
 use mathlib.Core.List.{List}
-use Prim.Native.Nat.{ℕ, zero, suc, _*_, _≤_}
+use Prim.Native.Nat.{ℕ, zero, suc, _*_, _≤_, _<_}
 use native.Mathlib.Omega.{arith}
-use lib.Dec.{leb}
-use lib.ListN.{length}
-use borrow.Author.Tests.{leb-true, leb-false}
+use lib.Dec.{leb, ltb}
+use lib.ListN.{length, length-map}
+use lib.Seq.{take-all}
+use borrow.Author.Tests.{leb-true, leb-false, ltb-true, ltb-false}
 use Rattle.lists.proofs.Tests.{cases}
 use Rattle.chip.specs.declared.progress.Counts.{Counts}
 use Rattle.chip.specs.Geometry.{small, blocksOf}
-use Rattle.chip.specs.Counts.{nothing, total}
-use Rattle.chip.specs.Chip.{pagesOf}
+use Rattle.chip.specs.Counts.{countsOf, nothing, total}
+use Rattle.chip.specs.Chip.{Op, kindOf, kindsOf, pagesOf}
 use Rattle.chip.proofs.CountLaws.{total-nothing}
 use Rattle.log.specs.Format.{formatOps}
 use Rattle.log.proofs.KindLaws.{format-kinds, mount-kinds, commit-kinds}
-use Rattle.promise.specs.Plain.{refuses, accepted, formats, mounts, firstRefusal, isChipSize, isTornSize}
+use Rattle.promise.specs.Plain.{refuses, accepted, commits, formats, mounts, firstRefusal, isChipSize, isTornSize, noNumberLeft, numbersRefusal}
 use Rattle.promise.specs.Plain as Plain
 use Rattle.promise.specs.Calls as P
 use Rattle.promise.specs.Calls.{Meaning, invalid, means}
 use Rattle.promise.specs.Image.{imageMeaning}
-use Rattle.promise.proofs.Promise.{accepted-not, when-is}
+use Rattle.promise.specs.Steps.{commit}
+use Rattle.promise.proofs.Promise.{accepted-not, first-most, when-is}
 use Rattle.store.specs.declared.state.State.{State}
 use Rattle.store.specs.declared.state.Wrote.{Wrote}
 use Rattle.store.specs.Answers.{answerOf}
 use Rattle.store.specs.State.{commitOps}
-use Rattle.store.specs.Contracts.{index, thePlan, theOps, Formats, Mounts, Commits}
+use Rattle.store.specs.Contracts.{index, thePlan, theOps, toldOf, Proceeds, Formats, Mounts, Commits}
 use Rattle.store.proofs.CommitGood.{ops-some}
-use Rattle.store.proofs.CommitDone.{all-told}
+use Rattle.store.proofs.EndedTests.{other}
+
+-- with an allowance for all operations, all are told
+pub all-told : (n : ℕ) (os : List Op) → length os ≤ n → toldOf n os ≡ countsOf (kindsOf os)
+all-told n os h = ap countsOf (take-all n (kindsOf os) (omega (arith, length-map os kindOf)))
 
 module _ (n : ℕ) (torn : List ℕ) (s : State) (i : List ℕ) (r : Wrote) (i' : List ℕ) where
   -- an accepted call passed the first tests
@@ -85,18 +91,53 @@ module _ (n : ℕ) (torn : List ℕ) (s : State) (i : List ℕ) (r : Wrote) (i' 
   pub commit-refused : Commits n torn s i r i' → (k : ℕ) → answerOf (r .answer) ≡ refuses k → (k ≡ 10 → ⊥) → r .ops ≡ nothing
   commit-refused f k a d = total-nothing (r .ops) (f .says .quiet k a d .0)
 
-  -- with updates pending: a data program and two marks for each page of the plan, and its erases
-  pub commit-told : Commits n torn s i r i' → P.Committing small (index small) n torn s i → answerOf (r .answer) ≡ accepted
+  -- on any state: accepted or cut, it passed its tests
+  abbrev call : Plain.Call
+  call = commits n (length i) (length torn)
+
+  tested : Commits n torn s i r i' → (x y : ℕ) → firstRefusal small (s .on) (s .blocks) call ≡ x → numbersRefusal (s .pending) (s .commit) call ≡ y
+      → ((k : ℕ) → k ≤ 6 → answerOf (r .answer) ≡ refuses k → ⊥) → (firstRefusal small (s .on) (s .blocks) call ≡ 0) × (numbersRefusal (s .pending) (s .commit) call ≡ 0)
+  tested f (suc x) y e l d =
+      let w = first-most small (commit n torn) (length i) (s .on) (s .blocks) in
+      absurd (d (suc x) (omega arith) (f .says .first .refused x e .0))
+  tested f zero (suc y) e l d =
+      let w = when-is 6 y (noNumberLeft (s .pending) (s .commit)) l in
+      absurd (d (suc y) (omega arith) (f .says .last e y l))
+  tested f zero zero e l d = (e, l)
+
+  -- finished with updates pending: a data program and two marks for each page of the plan, and its erases
+  pub commit-told : Commits n torn s i r i' → 0 < s .pending → answerOf (r .answer) ≡ accepted
       → r .ops ≡ record { programs = length (thePlan s i .written); marks = 2 * length (thePlan s i .written); erases = length (thePlan s i .erased) }
-  commit-told f c a =
+  commit-told f h a =
       f .kinds c
       ∙ all-told n (theOps s i) enough
       ∙ commit-kinds small (s .commit) (thePlan s i)
     where
+      c : Proceeds n torn s i
+      c = let t = tested f _ _ refl refl (λ k l q. accepted-not k (sym a ∙ q)) in record { passes = t .0; numbers = t .1; pending = h }
+
       able : index small .able s i ≡ true
       able = cases (index small .able s i) (λ t. t) (λ t. absurd (accepted-not 6 (sym a ∙ f .says .stuck c t)))
 
       enough : length (theOps s i) ≤ n
       enough =
           let p : length (commitOps small s i) ≤ n = powered (length (commitOps small s i)) (f .says .power c able) a in
-          omega (arith, p, ap length (ops-some s i (c .pending)))
+          omega (arith, p, ap length (ops-some s i h))
+
+  -- cut: the counts add up to the allowance
+  pub commit-spent : Commits n torn s i r i' → answerOf (r .answer) ≡ refuses 10 → total (r .ops) ≡ n
+  commit-spent f a =
+      cases (ltb 0 (s .pending))
+      (λ t. let c : Proceeds n torn s i = record { passes = z .0; numbers = z .1; pending = ltb-true 0 (s .pending) t } in
+      cases (index small .able s i)
+      (λ b. cases (leb (length (commitOps small s i)) n)
+      (λ l. absurd (accepted-not 10 (sym (f .says .power c b .enough (leb-true (length (commitOps small s i)) n l) .0) ∙ a)))
+      (λ l. f .says .power c b .short (leb-false (length (commitOps small s i)) n l) .1))
+      (λ b. absurd (apart 6 (omega arith) (f .says .stuck c b))))
+      (λ t. absurd (accepted-not 10 (sym (f .says .idle (z .0) (let h = ltb-false 0 (s .pending) t in omega arith) .0) ∙ a)))
+    where
+      apart : (k : ℕ) → k ≤ 6 → answerOf (r .answer) ≡ refuses k → ⊥
+      apart k l q = other 10 k (λ u. omega arith) (sym a ∙ q)
+
+      z : (firstRefusal small (s .on) (s .blocks) call ≡ 0) × (numbersRefusal (s .pending) (s .commit) call ≡ 0)
+      z = tested f _ _ refl refl apart

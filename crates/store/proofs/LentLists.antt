@@ -16,10 +16,11 @@ use Rattle.store.specs.declared.answer.Look.{Look}
 use Rattle.store.specs.declared.state.State.{State}
 use Rattle.store.specs.declared.state.UpdatedParts.{UpdatedParts}
 use Rattle.store.specs.declared.state.WroteParts.{WroteParts}
+use Rattle.store.specs.declared.answer.Forecast as F
 use Rattle.store.specs.declared.step.Call.{Call}
-use Rattle.store.specs.declared.step.Call.the-variants.{Format, Insert, Delete, LookUp, Commit, Mount}
+use Rattle.store.specs.declared.step.Call.the-variants.{Format, Insert, Delete, LookUp, Forecast, Commit, Mount}
 use Rattle.store.specs.State.{Good}
-use Rattle.store.specs.Contracts.{index, Formats, Mounts, Looks, Inserts, Deletes, Commits}
+use Rattle.store.specs.Contracts.{index, Formats, Mounts, Looks, Inserts, Deletes, Commits, Forecasts}
 use Rattle.store.specs.Parts.{joined, updatedWith, wroteWith}
 use Rattle.store.specs.Step.{answerIn}
 use Rattle.store.specs.Lent.{Parts, stateFrom, LentStep, Meets, lentStep, RunsLent}
@@ -69,6 +70,10 @@ module _ (p : Parts) (torn i : List ℕ) where
   pub look-up-step : (k : ℕ) (r : Look) → ((erases : List ℕ) → Looks k (joined (p .numbers) (p .buffer) (p .lens) (p .slots) erases) i r)
       → Meets (LookUp k) (stepTo p torn i i (LookUp k) (answerIn r) nothing p)
   look-up-step k r h = record { look = r; says = h (p .erases); is = refl; image = refl }
+
+  pub forecast-step : (r : F.Forecast) → ((erases : List ℕ) → Forecasts (joined (p .numbers) (p .buffer) (p .lens) (p .slots) erases) i r)
+      → Meets Forecast (stepTo p torn i i Forecast (r .answer) (r .ops) p)
+  forecast-step r h = record { says = h (p .erases); state = refl; image = refl }
 
 -- ---- a list
 pub lent-runs : (H : State → Type 0) (i : List ℕ) (xs : List LentStep) → RunsLent H i xs → Runs small (index small) H i (map lentStep xs)

@@ -1,4 +1,5 @@
 pub mod EndingLaws
+pub mod EndedTests
 pub mod SizeLaws
 pub mod AdmitLaws
 pub mod BegunViews
@@ -15,9 +16,12 @@ pub mod UpdateTests
 pub mod UpdateLaws
 pub mod CommitTests
 pub mod CommitPlan
+pub mod PlanRead
 pub mod CommitGood
+pub mod GoodPlan
 pub mod CommitDone
 pub mod CommitState
+pub mod ForecastState
 pub mod Starred
 pub mod StepLaws
 pub mod IndexPromise
@@ -25,4 +29,5 @@ pub mod PartLaws
 pub mod LentLists
 pub mod RunsToLaws
 pub mod KindsTold
+pub mod Foretold
 pub mod DidLaws

@@ -4,7 +4,8 @@ use mathlib.Core.List.{List, [], _∷_, _++_, map}
 use Prim.Native.Nat.{ℕ}
 use Rattle.chip.specs.Geometry.{small}
 use Rattle.promise.specs.Plain.{Answer}
-use Rattle.promise.specs.Steps.{Act, Step, one, Only, Hands, Allowed, Takes, Runs, lastHands, lastImage}
+use Rattle.promise.specs.Steps.{Act, Step, one, Only, Hands, Allowed, Runs, lastHands, lastImage}
+use Rattle.promise.proofs.Lists.{wider-hands, wider-runs}
 use Rattle.store.specs.declared.state.State.{State}
 use Rattle.store.specs.declared.step.Call.{Call}
 use Rattle.store.specs.Contracts.{index}
@@ -15,21 +16,10 @@ use Rattle.store.specs.RunsTo.{RunsTo}
 abbrev Steps : Type 0
 Steps = List (Step (index small))
 
--- with more states at hand the same steps can be taken
-wider-takes : (H J : State → Type 0) → ((s : State) → H s → J s) → (i : List ℕ) (x : Step (index small)) → Takes small (index small) H i x → Takes small (index small) J i x
-wider-takes H J f i x t = record { allowed = t .allowed; lends = t .lends; handed = λ b. f (x .given) (t .handed b) }
-
-wider-hands : (H J : State → Type 0) → ((s : State) → H s → J s) → (x : Step (index small)) (s : State) → Hands (index small) H x s → Hands (index small) J x s
-wider-hands H J f x s h = record { returned = h .returned; known = λ e. f (x .given) (h .known e) }
-
-wider-runs : (xs : Steps) (H J : State → Type 0) → ((s : State) → H s → J s) → (i : List ℕ) → Runs small (index small) H i xs → Runs small (index small) J i xs
-wider-runs [] H J f i h = tt
-wider-runs (x ∷ xs) H J f i h =
-    (wider-takes H J f i x (h .0), wider-runs xs (Hands (index small) H x) (Hands (index small) J x) (wider-hands H J f x) (x .image) (h .1))
-
+-- with more states at hand there are more at the end
 wider-last : (xs : Steps) (H J : State → Type 0) → ((s : State) → H s → J s) → (t : State) → lastHands (index small) H xs t → lastHands (index small) J xs t
 wider-last [] H J f t h = f t h
-wider-last (x ∷ xs) H J f t h = wider-last xs (Hands (index small) H x) (Hands (index small) J x) (wider-hands H J f x) t h
+wider-last (x ∷ xs) H J f t h = wider-last xs (Hands (index small) H x) (Hands (index small) J x) (wider-hands small (index small) H J f x) t h
 
 runs-append : (xs ys : Steps) (H : State → Type 0) (i : List ℕ) → Runs small (index small) H i xs
     → Runs small (index small) (lastHands (index small) H xs) (lastImage (index small) i xs) ys → Runs small (index small) H i (xs ++ ys)
@@ -80,7 +70,7 @@ module _ (torn : List ℕ) where
             ∙ sym (map-append (λ (c : Call). actOf c torn) cs ds);
         runs =
             runs-append (a .steps) (b .steps) (Only (index small) s) i (a .runs)
-            (subst (λ (k : List ℕ). Runs small (index small) H k (b .steps)) (sym (a .image)) (wider-runs (b .steps) (Only (index small) t) H f j (b .runs)));
+            (subst (λ (k : List ℕ). Runs small (index small) H k (b .steps)) (sym (a .image)) (wider-runs small (index small) (b .steps) (Only (index small) t) H f j (b .runs)));
         state =
             subst (λ (J : State → Type 0). J s') (sym (hands-append (a .steps) (b .steps) (Only (index small) s)))
             (wider-last (b .steps) (Only (index small) t) H f s' (b .state));

@@ -10,15 +10,16 @@ use Rattle.promise.specs.Steps as P
 use Rattle.promise.specs.Steps.{Allowed}
 use Rattle.store.specs.declared.answer.Look as L
 use Rattle.store.specs.declared.answer.Look.the-variants.{Found, Absent, Off, Size}
+use Rattle.store.specs.declared.answer.Forecast as F
 use Rattle.store.specs.declared.state.State.{State}
 use Rattle.store.specs.declared.state.Wrote.{Wrote}
 use Rattle.store.specs.declared.state.Updated.{Updated}
 use Rattle.store.specs.declared.step.Call.{Call}
-use Rattle.store.specs.declared.step.Call.the-variants.{Format, Insert, Delete, LookUp, Commit, Mount}
+use Rattle.store.specs.declared.step.Call.the-variants.{Format, Insert, Delete, LookUp, Forecast, Commit, Mount}
 use Rattle.store.specs.declared.step.Stepped.{Stepped}
 use Rattle.store.specs.Answers.{answerOf, lookOf}
-use Rattle.store.specs.Contracts.{index, Formats, Mounts, Commits, Looks, Inserts, Deletes}
-use Rattle.store.specs.Step.{actOf, ofWrote, ofUpdated, answerIn, ofLook, StepsBy}
+use Rattle.store.specs.Contracts.{index, Formats, Mounts, Commits, Forecasts, Looks, Inserts, Deletes}
+use Rattle.store.specs.Step.{actOf, ofWrote, ofUpdated, answerIn, ofLook, ofForecast, StepsBy}
 
 -- the answer of a look up is one of the promise's
 pub look-answer : (l : L.Look) → answerOf (answerIn l) ≡ lookOf l
@@ -44,6 +45,9 @@ step-allowed (Delete k) torn s i r i' h = same-image (λ (x : List ℕ). Allowed
 step-allowed (LookUp k) torn s i r i' h =
     same-image (λ (x : List ℕ). AllowedBy (LookUp k) torn s i r x) i i' (h .image)
     (subst (λ (y : Stepped). AllowedBy (LookUp k) torn s i y i) (sym (h .is)) (look-allowed k s i (h .look) (h .says)))
+step-allowed Forecast torn s i r i' h =
+    same-image (λ (x : List ℕ). AllowedBy Forecast torn s i r x) i i' (h .image)
+    (subst (λ (t : State). C.Forecast small (index small) s i (answerOf (r .answer)) (total (r .ops)) t i) (sym (h .state)) (h .says .says))
 step-allowed (Commit n) torn s i r i' h = h .says
 step-allowed (Mount n) torn s i r i' h = h .says
 
@@ -70,3 +74,6 @@ module _ (call : Call) (torn : List ℕ) (s : State) (i : List ℕ) (r : Stepped
 
   pub step-look : (k : ℕ) → call ≡ LookUp k → (l : L.Look) → r ≡ ofLook l s → Looks k s i l → StepsBy call torn s i r i
   step-look k e l q h = by (LookUp k) e (ofLook l s) q i (record { look = l; says = h; is = refl; image = refl })
+
+  pub step-forecast : call ≡ Forecast → (f : F.Forecast) → r ≡ ofForecast f s → Forecasts s i f → StepsBy call torn s i r i
+  step-forecast e f q h = by Forecast e (ofForecast f s) q i (record { says = h; state = refl; image = refl })

@@ -7,6 +7,12 @@ use Rattle.chip.specs.Geometry.{Geometry, small, blocksOf}
 use Rattle.promise.specs.Plain.{Answer, refuses, accepted, orElse, when, admission, commits, firstRefusal, numbersRefusal, isTornSize}
 use Rattle.store.specs.declared.admit.Admission.{Admission}
 use Rattle.store.specs.declared.admit.Admission.the-variants.{Passes, Off, Size}
+use Rattle.store.specs.declared.admit.Beginning.{Beginning}
+use Rattle.store.specs.declared.admit.Beginning.the-variants.{Ends, Plans}
+use Rattle.store.specs.declared.answer.Answer as A
+use Rattle.store.specs.declared.answer.Answer.the-variants.{Accepted, Last}
+use Rattle.store.specs.declared.state.Numbers.{Numbers}
+use Rattle.store.specs.Answers.{answerOf}
 
 -- the number of the refusal, 0 for none
 abbrev pub admitNumber : Admission → ℕ
@@ -35,10 +41,21 @@ updateTests g on B pending len = orElse (admission g on B len) (when 3 (leb 16 p
 abbrev pub commitTests : Geometry → Bool → (B pending number len torn : ℕ) → ℕ
 commitTests g on B pending number len torn = orElse (firstRefusal g on B (commits 0 len torn)) (numbersRefusal pending number (commits 0 len torn))
 
+-- the same on the numbers of a state
+abbrev pub testsOf : Numbers → (len torn : ℕ) → ℕ
+testsOf n len torn = commitTests small (n .on) (n .blocks) (n .pending) (n .commit) len torn
+
 -- a refusal's number as an answer, 0 as accepted
 abbrev pub answerFor : ℕ → Answer
 answerFor zero = accepted
 answerFor (suc n) = refuses (suc n)
+
+-- how a commit or a forecast begins: refused, with nothing pending, with more units than the buffer holds, or past all these
+pub data CommitBegins (n : Numbers) (len torn : ℕ) : Beginning → Type 0 where
+  denied : (a : A.Answer) → 0 < testsOf n len torn → answerOf a ≡ answerFor (testsOf n len torn) → CommitBegins n len torn (Ends a)
+  idle : testsOf n len torn ≡ 0 → n .pending ≡ 0 → CommitBegins n len torn (Ends Accepted)
+  full : testsOf n len torn ≡ 0 → 0 < n .pending → 960 < n .count → CommitBegins n len torn (Ends Last)
+  plans : testsOf n len torn ≡ 0 → 0 < n .pending → n .count ≤ 960 → CommitBegins n len torn Plans
 
 -- of an image and a torn slice of these lengths
 pub record Sized (len slice b : ℕ) : Type 0 where

@@ -1,7 +1,7 @@
 -- What each call ensures: the records of the promise, read on the code's state and image, and what those leave out.
 use mathlib.Core.Path.{_≡_}
 use mathlib.Core.Bool.{not}
-use mathlib.Core.List.{List, [], _∷_, map}
+use mathlib.Core.List.{List, [], _∷_}
 use Prim.Native.Nat.{ℕ, _+_, _*_, _<_, _≤_, max}
 use lib.Dec.{leb}
 use lib.ListN.{length, take, getD, replicate}
@@ -11,7 +11,7 @@ use Rattle.chip.specs.Page.{isFree}
 use Rattle.chip.specs.declared.power.Power.the-variants.{Left}
 use Rattle.chip.specs.declared.progress.Counts.{Counts}
 use Rattle.chip.specs.Counts.{countsOf, total}
-use Rattle.chip.specs.Chip.{Op, Legal, erase, kindsOf, pagesOf, run}
+use Rattle.chip.specs.Chip.{Op, Legal, kindsOf, pagesOf, run}
 use Rattle.chip.specs.Erases.{figuresAfter}
 use Rattle.views.specs.Groups.{Distinct}
 use Rattle.views.specs.Table as Views
@@ -22,18 +22,18 @@ use Rattle.log.specs.Format.{formatOps, formattedBy}
 use Rattle.log.specs.Mount.{mountOps, mountedBy}
 use Rattle.log.specs.Commit.{groupsOf}
 use Rattle.log.specs.Plan.{Plan, nodeAt, opsOf, isEmpty}
-use Rattle.log.specs.Policy.{planOf}
-use Rattle.promise.specs.Plain.{UpdateCall, accepted, insertion, deletion, admission, formats, lookedUp, mounts, refuses, firstRefusal, orElse, when}
+use Rattle.promise.specs.Plain.{UpdateCall, accepted, insertion, deletion, admission, commits, forecasts, formats, lookedUp, mounts, refuses, firstRefusal, orElse, when}
 use Rattle.promise.specs.Calls as P
 use Rattle.promise.specs.Calls.{Store, means}
 use Rattle.promise.specs.Image.{imageMeaning}
 use Rattle.store.specs.declared.answer.Look.{Look}
 use Rattle.store.specs.declared.answer.Report.{Report}
+use Rattle.store.specs.declared.answer.Forecast.{Forecast}
 use Rattle.store.specs.declared.state.State.{State}
 use Rattle.store.specs.declared.state.Wrote.{Wrote}
 use Rattle.store.specs.declared.state.Updated.{Updated}
 use Rattle.store.specs.Answers.{answerOf, lookOf, pagesTold, reportRefusal, freeTold, firstTold, erasesTold}
-use Rattle.store.specs.State.{turnedOff, limitOf, nodesOf, unitsOf, presentOf, Good, Room, commitOps}
+use Rattle.store.specs.State.{turnedOff, limitOf, presentOf, Good, Room, planAt, commitOps}
 
 -- the store that the promise is about: the code's state, an image as its bytes
 abbrev pub index : Geometry → Store
@@ -56,7 +56,7 @@ index g =
       most = 389;
       Good = Good g;
       Room = Room g;
-      able = λ s i. not (isEmpty (planOf g (limitOf s) (s .blocks) (pagesOf g i) (nodesOf g s i) (s .commit) (unitsOf s) .written));
+      able = λ s i. not (isEmpty (planAt g s i .written));
     }
 
 -- of a list of operations, by kind, those that an allowance of n does whole
@@ -135,33 +135,41 @@ pub record Reports (b : ℕ) (s : State) (i : List ℕ) (r : Report) : Type 0 wh
   pub first : reportRefusal r ≡ 0 → firstTold r ≡ first isFree (blockPages small b i)
   pub erases : reportRefusal r ≡ 0 → erasesTold r ≡ getD (s .erases) b 0
 
--- ---- commit
+-- ---- commit and forecast
 -- the plan of a commit, and its operations
 abbrev pub thePlan : State → List ℕ → Plan
-thePlan s i = planOf small (limitOf s) (s .blocks) (pagesOf small i) (nodesOf small s i) (s .commit) (unitsOf s)
+thePlan s i = planAt small s i
 
 abbrev pub theOps : State → List ℕ → List Op
 theOps s i = opsOf small (s .commit) (thePlan s i)
 
--- commit: the records of the promise; and of every commit on a good state, with room or without
+-- a commit that its tests pass, with updates pending, on any state and any image
+abbrev pub Proceeds : ℕ → List ℕ → State → List ℕ → Type 0
+Proceeds allowance torn s i = P.Proceeding small (index small) (commits allowance (length i) (length torn)) s
+
+-- commit: the records of the promise
 pub record Commits (allowance : ℕ) (torn : List ℕ) (s : State) (i : List ℕ) (r : Wrote) (i' : List ℕ) : Type 0 where
   pub says : P.Commit small (index small) allowance torn s i (answerOf (r .answer)) (total (r .ops)) (r .state) i'
-  -- the operations told by kind are the first of the plan's
-  pub kinds : P.Committing small (index small) allowance torn s i → r .ops ≡ toldOf allowance (theOps s i)
-  -- on any state and any image: with 10 the counts add up to the allowance, and finished there are two marks for each data program
-  pub spent : answerOf (r .answer) ≡ refuses 10 → total (r .ops) ≡ allowance
-  pub twice : answerOf (r .answer) ≡ accepted → r .ops .marks ≡ 2 * r .ops .programs
-  -- finished, each figure has grown by the erases of its block among the plan's operations
-  pub figures : P.Committing small (index small) allowance torn s i → answerOf (r .answer) ≡ accepted → r .state .erases ≡ figuresAfter (theOps s i) (s .erases)
-  -- on any state and any image, with updates pending: finished, by erases of some blocks, as many as are told
-  pub erased : answerOf (r .answer) ≡ accepted → 0 < s .pending → (bs : List ℕ) × (length bs ≡ r .ops .erases) × (r .state .erases ≡ figuresAfter (map erase bs) (s .erases))
+  -- on any state and any image: the operations told by kind are the first of the plan's
+  pub kinds : Proceeds allowance torn s i → r .ops ≡ toldOf allowance (theOps s i)
   -- the image's pages are those of a run of the plan's operations
-  pub bytes : P.Committing small (index small) allowance torn s i → pagesOf small i' ≡ run small torn (record { power = Left allowance; pages = pagesOf small i }) (theOps s i) .pages
-  -- a program only where the data is all 255
+  pub bytes : Proceeds allowance torn s i → pagesOf small i' ≡ run small torn (record { power = Left allowance; pages = pagesOf small i }) (theOps s i) .pages
+  -- finished, each figure has grown by the erases of its block among them
+  pub figures : Proceeds allowance torn s i → answerOf (r .answer) ≡ accepted → r .state .erases ≡ figuresAfter (theOps s i) (s .erases)
+  -- on a good state, with room or without: a program only where the data is all 255
   pub legal : P.Committing small (index small) allowance torn s i → Legal small (pagesOf small i) (theOps s i)
   -- the units of one node stand in one page
   pub once : P.Committing small (index small) allowance torn s i → Distinct (groupsOf (thePlan s i .written))
-  -- the cost is known from the plan: an erase for each block, and three operations a page
-  pub cost : P.Committing small (index small) allowance torn s i → length (theOps s i) ≡ length (thePlan s i .erased) + 3 * length (thePlan s i .written)
   pub off : answerOf (r .answer) ≡ refuses 10 → r .state ≡ turnedOff s
   pub bounds : KeepsBounds s (r .state)
+
+-- forecast: the record of the promise; by kind, all operations of the plan; on any state and any image
+pub record Forecasts (s : State) (i : List ℕ) (r : Forecast) : Type 0 where
+  pub says : P.Forecast small (index small) s i (answerOf (r .answer)) (total (r .ops)) s i
+  pub kinds : P.Proceeding small (index small) (forecasts (length i)) s → r .ops ≡ countsOf (kindsOf (theOps s i))
+
+-- what a forecast r says of a commit w with an allowance of n on the same state and image: with the sum of its counts, or more, the commit answers as the forecast did
+-- and tells the same counts; with less it is cut and tells the allowance
+pub record Foretells (n : ℕ) (r : Forecast) (w : Wrote) : Type 0 where
+  pub enough : total (r .ops) ≤ n → (answerOf (w .answer) ≡ answerOf (r .answer)) × (w .ops ≡ r .ops)
+  pub short : n < total (r .ops) → (answerOf (w .answer) ≡ refuses 10) × (total (w .ops) ≡ n)

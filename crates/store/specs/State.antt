@@ -3,7 +3,7 @@ use mathlib.Core.Path.{_≡_}
 use mathlib.Core.Bool.{true, false, cond}
 use mathlib.Core.List.{List, [], _∷_, map, reverse}
 use Prim.Native.Nat.{ℕ, _*_, _≤_, _<_}
-use lib.Dec.{eqb}
+use lib.Dec.{eqb, leb}
 use lib.ListN.{length, getD, replicate}
 use Rattle.lists.specs.Lists.{All, all, tab}
 use Rattle.chip.specs.Geometry.{Geometry, blocksOf}
@@ -13,7 +13,8 @@ use Rattle.pages.specs.declared.unit.Decoded.{Decoded}
 use Rattle.pages.specs.declared.unit.Decoded.the-variants as D
 use Rattle.pages.specs.Units.{decodes, Valid}
 use Rattle.pages.specs.Steps.{liveFrom, ordered, stand, steps}
-use Rattle.views.specs.Nodes.{Entry}
+use Rattle.views.specs.Nodes.{Entry, untouched}
+use Rattle.views.specs.Groups.{own}
 use Rattle.views.specs.Table as Views
 use Rattle.views.specs.Table.{Node, isWhole}
 use Rattle.views.specs.Stored.{storedList, listView}
@@ -21,8 +22,9 @@ use Rattle.tree.specs.Tree as T
 use Rattle.tree.specs.Tree.{Table, entriesAt, rootLevel}
 use Rattle.tree.specs.Step6.{top, step6, Tree}
 use Rattle.tree.specs.Shown.{shown}
-use Rattle.log.specs.Plan.{hasRoom, spareBlocks, opsOf}
-use Rattle.log.specs.Policy.{planOf}
+use Rattle.log.specs.Plan.{Plan, hasRoom, isEmpty, nodeAt, opsOf, spareBlocks, stuck}
+use Rattle.log.specs.Admissible.{Contents}
+use Rattle.log.specs.Policy.{decide, planBy}
 use Rattle.promise.specs.Image.{viewsOf}
 use Rattle.store.specs.declared.state.State.{State}
 
@@ -122,8 +124,28 @@ RoomIn g image (Views.means nodes G) =
 unfoldable pub Room : Geometry → List ℕ → Type 0
 Room g image = RoomIn g image (Views.meaning g (8 * blocksOf g (length image)) (pagesOf g image))
 
+-- ---- the plan of a commit, on any state and any image
+-- what may be written of each node: the node as P has it, or its units in the buffer; and the pages of its list
+abbrev pub contentsAt : Geometry → State → List ℕ → Contents
+contentsAt g s image =
+    record {
+      after = λ (n : ℕ). getD (presentOf g s image) n untouched;
+      buffered = λ (n : ℕ). own n (unitsOf s);
+      listed = λ (n : ℕ). nodeAt (nodesOf g s image) n .pages;
+    }
+
+-- a plan without a page does nothing
+abbrev pub paged : Plan → Plan
+paged q = cond (isEmpty (q .written)) stuck q
+
+-- the plan of the policy over these; nothing where the buffer claims more units than it holds
+unfoldable pub planAt : Geometry → State → List ℕ → Plan
+planAt g s image =
+    cond (leb (s .count) 960)
+    (paged (planBy g (limitOf s) (s .blocks) (pagesOf g image) (nodesOf g s image) (s .commit) (contentsAt g s image)
+    (decide g (limitOf s) (s .blocks) (pagesOf g image) (nodesOf g s image) (s .commit) (contentsAt g s image))))
+    stuck
+
 -- the operations of a commit: none with nothing pending, else those of its plan
 unfoldable pub commitOps : Geometry → State → List ℕ → List Op
-commitOps g s image =
-    cond (eqb (s .pending) 0) []
-    (opsOf g (s .commit) (planOf g (limitOf s) (s .blocks) (pagesOf g image) (nodesOf g s image) (s .commit) (unitsOf s)))
+commitOps g s image = cond (eqb (s .pending) 0) [] (opsOf g (s .commit) (planAt g s image))

@@ -10,13 +10,14 @@ use Rattle.store.specs.declared.answer.Answer as A
 use Rattle.store.specs.declared.answer.Answer.the-variants as Answer
 use Rattle.store.specs.declared.answer.Look.{Look}
 use Rattle.store.specs.declared.answer.Look.the-variants as Look
+use Rattle.store.specs.declared.answer.Forecast as F
 use Rattle.store.specs.declared.state.State.{State}
 use Rattle.store.specs.declared.state.Wrote.{Wrote}
 use Rattle.store.specs.declared.state.Updated.{Updated}
 use Rattle.store.specs.declared.step.Call.{Call}
-use Rattle.store.specs.declared.step.Call.the-variants.{Format, Insert, Delete, LookUp, Commit, Mount}
+use Rattle.store.specs.declared.step.Call.the-variants.{Format, Insert, Delete, LookUp, Forecast, Commit, Mount}
 use Rattle.store.specs.declared.step.Stepped.{Stepped}
-use Rattle.store.specs.Contracts.{Formats, Mounts, Commits, Looks, Inserts, Deletes}
+use Rattle.store.specs.Contracts.{Formats, Mounts, Commits, Forecasts, Looks, Inserts, Deletes}
 
 -- a call with its numbers and its torn slice
 abbrev pub actOf : Call → List ℕ → Act
@@ -24,6 +25,7 @@ actOf (Format n) torn = P.format n torn
 actOf (Insert k v) torn = P.insert k v
 actOf (Delete k) torn = P.delete k
 actOf (LookUp k) torn = P.lookUp k
+actOf Forecast torn = P.forecast
 actOf (Commit n) torn = P.commit n torn
 actOf (Mount n) torn = P.mount n torn
 
@@ -33,10 +35,11 @@ KeyBits (Format n) = Unit {0}
 KeyBits (Insert k v) = k < top
 KeyBits (Delete k) = k < top
 KeyBits (LookUp k) = k < top
+KeyBits Forecast = Unit {0}
 KeyBits (Commit n) = Unit {0}
 KeyBits (Mount n) = Unit {0}
 
--- what the calls give back, in one form; insert, delete and look up do no operation, and look up gives the state back
+-- what the calls give back, in one form; insert, delete and look up do no operation, and look up and forecast give the state back
 abbrev pub ofWrote : Wrote → Stepped
 ofWrote w = record { answer = w .answer; ops = w .ops; state = w .state }
 
@@ -51,6 +54,9 @@ answerIn Look.Size = Answer.Size
 
 abbrev pub ofLook : Look → State → Stepped
 ofLook r s = record { answer = answerIn r; ops = nothing; state = s }
+
+abbrev pub ofForecast : F.Forecast → State → Stepped
+ofForecast r s = record { answer = r .answer; ops = r .ops; state = s }
 
 -- ---- what a call of each kind ensures: its whole contract
 abbrev pub wroteIn : Stepped → Wrote
@@ -69,10 +75,17 @@ pub record LookSteps (k : ℕ) (s : State) (i : List ℕ) (r : Stepped) (i' : Li
   pub is : r ≡ ofLook look s
   pub image : i' ≡ i
 
+-- and so does a forecast
+pub record ForecastSteps (s : State) (i : List ℕ) (r : Stepped) (i' : List ℕ) : Type 0 where
+  pub says : Forecasts s i (record { answer = r .answer; ops = r .ops })
+  pub state : r .state ≡ s
+  pub image : i' ≡ i
+
 abbrev pub StepsBy : Call → (torn : List ℕ) → State → (image : List ℕ) → Stepped → (left : List ℕ) → Type 0
 StepsBy (Format n) torn s i r i' = Formats n torn s i (wroteIn r) i'
 StepsBy (Insert k v) torn s i r i' = UpdateSteps (Inserts k v s i) i r i'
 StepsBy (Delete k) torn s i r i' = UpdateSteps (Deletes k s i) i r i'
 StepsBy (LookUp k) torn s i r i' = LookSteps k s i r i'
+StepsBy Forecast torn s i r i' = ForecastSteps s i r i'
 StepsBy (Commit n) torn s i r i' = Commits n torn s i (wroteIn r) i'
 StepsBy (Mount n) torn s i r i' = Mounts n torn s i (wroteIn r) i'

@@ -1,10 +1,12 @@
 // The tests that come first in every call: 2 off, and 1 size.
 ghost use mathlib.Core.Path.{_≡_};
 ghost use Rattle.chip.specs.Geometry.{small};
-ghost use Rattle.store.specs.AdmitCode.{Admitted, Sized, updateTests, commitTests, answerFor};
+ghost use Rattle.store.specs.AdmitCode.{Admitted, Sized, updateTests, commitTests, answerFor, CommitBegins};
 ghost use Rattle.store.specs.Answers.{answerOf};
+use crate::answer;
 use crate::answer::Answer;
 use crate::state::Numbers;
+use crate::state::UNITS;
 use chip::geometry;
 use chip::geometry::PAGE;
 
@@ -19,6 +21,12 @@ pub enum Admission {
     Passes,
     Off,
     Size,
+}
+
+// How a commit or a forecast begins: it ends with this answer, or goes on to its plan.
+pub enum Beginning {
+    Ends(Answer),
+    Plans,
 }
 
 // The tests 2 and 1 of a call that is lent an image alone, on the state's `on` and `blocks` and the image's length.
@@ -57,7 +65,7 @@ pub fn update_tests(numbers: Numbers, len: usize) -> Answer
 }
 
 // The tests 2, 1 and 6 of a commit: accepted where all pass.
-pub fn commit_tests(numbers: Numbers, len: usize, torn: usize) -> Answer
+fn commit_tests(numbers: Numbers, len: usize, torn: usize) -> Answer
     ensures { λ r. ⌜ answerOf r ≡ answerFor (commitTests small (numbers .on) (numbers .blocks) (numbers .pending) (numbers .commit) len torn) ⌝ }
 {
     match admit(numbers.on, numbers.blocks, len) {
@@ -77,6 +85,23 @@ pub fn commit_tests(numbers: Numbers, len: usize, torn: usize) -> Answer
             }
         }
     }
+}
+
+// A commit, or a forecast of one, goes on to its plan where its tests pass, updates are pending and the buffer holds its units.
+pub fn commit_begins(numbers: Numbers, len: usize, torn: usize) -> Beginning
+    ensures { λ r. ⌜ CommitBegins numbers len torn r ⌝ }
+{
+    let answer = commit_tests(numbers, len, torn);
+    if answer::number(answer) > 0 {
+        return Beginning::Ends(answer);
+    }
+    if numbers.pending == 0 {
+        return Beginning::Ends(Answer::Accepted);
+    }
+    if numbers.count > UNITS {
+        return Beginning::Ends(Answer::Last);
+    }
+    Beginning::Plans
 }
 
 // The blocks of an image that a format or a mount is lent with a torn slice; 0 where one of them has a wrong size.

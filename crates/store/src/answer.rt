@@ -1,6 +1,7 @@
 // What the calls answer. The definitions of Answers give each answer the number that it has in the requirement.
 ghost use mathlib.Core.Path.{_≡_};
 ghost use Rattle.store.specs.Answers.{refusalNumber};
+use chip::progress::Counts;
 
 // Accepted, or the value that a look up found, or why a call is refused, by the number of the refusal from 1 to 10.
 pub enum Answer {
@@ -33,6 +34,12 @@ pub enum Report {
     Off,
     Size,
     Absent,
+}
+
+// What a forecast answers: what a commit made now, with power enough, would, and the operations that it would tell by kind.
+pub struct Forecast {
+    pub answer: Answer,
+    pub ops: Counts,
 }
 
 // The number of a refusal, 0 for none.

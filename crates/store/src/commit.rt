@@ -1,14 +1,11 @@
 // Commit: the pending updates written as commit G + 1. 2; 1; 6 when updates are pending and G is the last number; 10.
-ghost use mathlib.Core.Path.{_≡_};
-ghost use Prim.Native.Nat.{_<_, _≤_};
 ghost use lib.ListN.{length};
-ghost use Rattle.chip.specs.Geometry.{small};
-ghost use Rattle.promise.specs.Plain.{firstRefusal, commits};
-ghost use Rattle.store.specs.AdmitCode.{ChipOf};
+ghost use Rattle.store.specs.declared.admit.Beginning.the-variants.{Plans};
+ghost use Rattle.store.specs.AdmitCode.{CommitBegins};
 ghost use Rattle.store.specs.Contracts.{Commits};
 ghost use Rattle.store.specs.Parts.{joined, wroteWith};
 use crate::admit;
-use crate::answer;
+use crate::admit::Beginning;
 use crate::answer::Answer;
 use crate::ending;
 use crate::state;
@@ -19,9 +16,6 @@ use crate::state::WroteParts;
 use chip::progress;
 use commits::execute;
 use plan::make::Basis;
-
-// The most units that the buffer holds.
-const UNITS: usize = 960;
 
 // A commit on a state that the tests pass: its plan executed, with power for `allowance` operations. The node table and the erases
 // are changed where the commit is finished. `all` and `each` show the proof that the slots are 1024 and the figures 32.
@@ -35,9 +29,7 @@ fn commit_pending(
     torn: &[u8],
     allowance: u32,
 ) -> WroteParts
-    requires { ⌜ (firstRefusal small (numbers .on) (numbers .blocks) (commits allowance (length (now image)) (length (now torn))) ≡ 0)
-        × ChipOf (numbers .blocks) (length (now image)) × (length (now torn) ≡ 528) × (0 < numbers .pending) × (numbers .commit < 4294967295)
-        × (numbers .count ≤ 960) ⌝ }
+    requires { ⌜ CommitBegins numbers (length (now image)) (length (now torn)) Plans ⌝ }
     ensures { λ r. ⌜ Commits allowance (now (torn .entry)) (joined numbers (now (buffer .entry)) (now (lens .entry)) (now (slots .entry)) (now (erases .entry)))
         (now (image .entry)) (wroteWith r (now (buffer .entry)) (now (lens .exit)) (now (slots .exit)) (now (erases .exit))) (now (image .exit)) ⌝ }
 {
@@ -89,17 +81,19 @@ pub fn commit_lent(
     ensures { λ r. ⌜ Commits allowance (now (torn .entry)) (joined numbers (now (buffer .entry)) (now (lens .entry)) (now (slots .entry)) (now (erases .entry)))
         (now (image .entry)) (wroteWith r (now (buffer .entry)) (now (lens .exit)) (now (slots .exit)) (now (erases .exit))) (now (image .exit)) ⌝ }
 {
-    let answer = admit::commit_tests(numbers, image.len(), torn.len());
-    if answer::number(answer) > 0 {
-        return ending::quiet(numbers, answer);
+    match admit::commit_begins(numbers, image.len(), torn.len()) {
+        Beginning::Ends(answer) => ending::quiet(numbers, answer),
+        Beginning::Plans => commit_pending(
+            numbers,
+            lens,
+            slots,
+            erases,
+            buffer,
+            image,
+            torn,
+            allowance,
+        ),
     }
-    if numbers.pending == 0 {
-        return ending::quiet(numbers, Answer::Accepted);
-    }
-    if numbers.count > UNITS {
-        return ending::quiet(numbers, Answer::Last);
-    }
-    commit_pending(numbers, lens, slots, erases, buffer, image, torn, allowance)
 }
 
 // Commit on a state by value.

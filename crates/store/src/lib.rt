@@ -5,6 +5,7 @@ mod check;
 pub mod commit;
 mod ending;
 pub mod find;
+pub mod forecast;
 pub mod format;
 pub mod mount;
 pub mod report;

@@ -5,6 +5,9 @@ ghost use Rattle.store.specs.Parts.{numbersOf, numbersOff, joined, updat
 use crate::answer::Answer;
 use chip::progress::Counts;
 
+// The most units that the buffer holds.
+pub const UNITS: usize = 960;
+
 // On or off, the number of blocks (B), the greatest commit number (G), the pending updates, the next node number, the units of the
 // reservation buffer with their count, the node table: for each node the length of its list and its pages, and for each block its erases
 // since the last finished mount or format.

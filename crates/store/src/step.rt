@@ -1,10 +1,12 @@
 // One call of any kind: what a list of calls is made of.
 ghost use mathlib.Core.Path.{_≡_};
-ghost use Rattle.store.specs.Step.{ofWrote, ofUpdated, ofLook, StepsBy};
+ghost use Rattle.store.specs.Step.{ofWrote, ofUpdated, ofLook, ofForecast, StepsBy};
 use crate::answer::Answer;
+use crate::answer::Forecast;
 use crate::answer::Look;
 use crate::commit;
 use crate::find;
+use crate::forecast;
 use crate::format;
 use crate::mount;
 use crate::state::State;
@@ -20,11 +22,12 @@ pub enum Call {
     Insert(u32, u32),
     Delete(u32),
     LookUp(u32),
+    Forecast,
     Commit(u32),
     Mount(u32),
 }
 
-// What a call gives back: the answer, the operations told, the state.
+// What a call gives back: the answer, the operations told (by a forecast: foretold), the state.
 pub struct Stepped {
     pub answer: Answer,
     pub ops: Counts,
@@ -65,6 +68,15 @@ fn looked(look: Look, state: State) -> Stepped
     Stepped { answer, ops, state }
 }
 
+// What a forecast gives back: the state is as it was.
+fn foreseen(forecast: Forecast, state: State) -> Stepped
+    ensures { λ r. ⌜ r ≡ ofForecast forecast state ⌝ }
+{
+    let answer = forecast.answer;
+    let ops = forecast.ops;
+    Stepped { answer, ops, state }
+}
+
 // A call on a lent image: what it ensures is its whole contract.
 pub fn step(state: State, image: &mut [u8], torn: &[u8], call: Call) -> Stepped
     ensures { λ r. ⌜ StepsBy call (now (torn .entry)) state (now (image .entry)) r (now (image .exit)) ⌝ }
@@ -74,6 +86,7 @@ pub fn step(state: State, image: &mut [u8], torn: &[u8], call: Call) -> Stepped
         Call::Insert(key, value) => updated(update::insert(state, image, key, value)),
         Call::Delete(key) => updated(update::delete(state, image, key)),
         Call::LookUp(key) => looked(find::look_up(state, image, key), state),
+        Call::Forecast => foreseen(forecast::forecast(state, image), state),
         Call::Commit(allowance) => wrote(commit::commit(state, image, torn, allowance)),
         Call::Mount(allowance) => wrote(mount::mount(state, image, torn, allowance)),
     }

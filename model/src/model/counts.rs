@@ -38,6 +38,11 @@ impl Counts {
         Counts { programs: self.programs + other.programs, marks: self.marks + other.marks, erases: self.erases + other.erases }
     }
 
+    /// Whether there are of each kind at most as many as of others.
+    pub fn within(self, other: Counts) -> bool {
+        self.programs <= other.programs && self.marks <= other.marks && self.erases <= other.erases
+    }
+
     /// The operations of all kinds; any three counts have a sum of 64 bits.
     pub fn sum(self) -> u64 {
         self.programs as u64 + self.marks as u64 + self.erases as u64

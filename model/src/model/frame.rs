@@ -11,6 +11,7 @@ pub enum Frame {
     Mount(u32),
     Report(u32),
     Show(u32),
+    Forecast,
     Blocks(u32),
     Length(u32),
     SetImage(u32, u8),
@@ -39,6 +40,7 @@ pub fn parse(line: &[u8]) -> Option<Frame> {
     let kind = hexadecimal(line.get(..2)?)?;
     let rest = &line[2..];
     match (kind, rest.len()) {
+        (0x09, 0) => Some(Frame::Forecast),
         (0x15, 0) => Some(Frame::Sum),
         (0x01, 16) => Some(Frame::Insert(hexadecimal(&rest[..8])?, hexadecimal(&rest[8..])?)),
         (0x12, 10) => Some(Frame::SetImage(hexadecimal(&rest[..8])?, hexadecimal(&rest[8..])? as u8)),
@@ -77,6 +79,7 @@ pub fn line(frame: &Frame) -> String {
         Frame::Mount(n) => format!("05{n:08X}"),
         Frame::Report(n) => format!("06{n:08X}"),
         Frame::Show(n) => format!("07{n:08X}"),
+        Frame::Forecast => "09".to_string(),
         Frame::Blocks(n) => format!("10{n:08X}"),
         Frame::Length(n) => format!("11{n:08X}"),
         Frame::SetImage(at, byte) => format!("12{at:08X}{byte:02X}"),

@@ -1,6 +1,7 @@
 //! The judge of a script of the probe: holds each line's reply and image to document 01 and to the protocol.
 mod calls;
 mod commit;
+mod forecast;
 mod legal;
 mod lend;
 mod ways;
@@ -13,6 +14,7 @@ use super::frame::{self, Frame};
 use super::image::{self, Meaning};
 use super::pays::Pays;
 use super::plain::{Call, Lengths, Plain};
+use forecast::Forecasts;
 use std::rc::Rc;
 
 /// Bytes of the probe's image buffer.
@@ -41,6 +43,8 @@ pub struct Judge {
     erases: Erases,
     /// The list that note 8 of document 02 is about, while there is one.
     pays: Option<Pays>,
+    /// What is foretold of a commit of the state: note 10 of document 02.
+    forecasts: Forecasts,
     /// Whether an open call gave the state, so that only on or off and B are known of it.
     wild: bool,
     /// Whether a finished format began the chip that the last call left, and only calls wrote it since.
@@ -76,6 +80,7 @@ impl Judge {
             ground: Rc::new(Err(image::NOTHING)),
             erases: Erases::none(0),
             pays: None,
+            forecasts: Forecasts::default(),
             wild: false,
             begun: false,
             left: None,
@@ -122,6 +127,7 @@ impl Judge {
             Frame::LookUp(key) => self.look_up(key, reply)?,
             Frame::Report(block) => self.report(block, reply)?,
             Frame::Show(page) => self.show(page, reply)?,
+            Frame::Forecast => self.forecast(reply)?,
             _ => expect(reply, &self.lend(frame))?,
         }
         if let Frame::SetImage(at, _) = frame {
@@ -168,8 +174,9 @@ impl Judge {
         self.sum = None;
     }
 
-    /// Notes that a call left the image lent as it is.
+    /// Notes that a call gave a state and left the image lent as it is.
     fn leave(&mut self) {
+        self.forecasts.end();
         self.left = None;
         self.differs = None;
     }
@@ -204,7 +211,8 @@ impl Judge {
 /// How many image bytes are compared after a frame's line.
 fn compared(frame: Frame) -> usize {
     match frame {
-        Frame::Format(_) | Frame::Mount(_) | Frame::Blocks(_) | Frame::Length(_) | Frame::Noise(_) => usize::MAX,
+        Frame::Format(_) | Frame::Mount(_) | Frame::Forecast => usize::MAX,
+        Frame::Blocks(_) | Frame::Length(_) | Frame::Noise(_) => usize::MAX,
         Frame::Insert(..) | Frame::Delete(_) => LOOK,
         _ => GLANCE,
     }

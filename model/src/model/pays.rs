@@ -86,6 +86,11 @@ impl Pays {
         self.hold(&figures.and(&self.last))
     }
 
+    /// The most erases that the next commit may have.
+    pub fn most_erases(&self) -> u64 {
+        self.blocks.iter().map(|block| block.next().most).sum()
+    }
+
     /// Holds note 8 and the figures to each other. Answers what is left of the figures.
     pub fn hold(&mut self, figures: &Erases) -> Result<Erases, String> {
         let mut left = Vec::new();

@@ -18,8 +18,9 @@ fn key(random: &mut Random, late: bool) -> u32 {
 
 /// A line for a store that is off: mostly a mount, at times with too little power.
 fn line_off(random: &mut Random) -> String {
-    match random.below(6) {
+    match random.below(7) {
         0 => "0300000001".into(),
+        2 => "09".into(),
         1 => "0400000010".into(),
         _ => format!("05{:08X}", if random.once_in(4) { random.below(3) } else { 255 }),
     }
@@ -33,7 +34,7 @@ fn line_on(random: &mut Random, key: u32) -> String {
         140..=189 => format!("03{key:08X}"),
         190..=192 => format!("05{:08X}", random.below(256)),
         193 => String::new(),
-        194 => "06".into(),
+        194 => ["06", "09"][random.index(2)].into(),
         195 => format!("03{key:07X}"),
         196 => "03abcdef01".into(),
         197 => format!("01{:08X}{:08X}0", key, 1),

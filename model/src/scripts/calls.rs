@@ -34,7 +34,7 @@ impl Keys {
     }
 }
 
-/// A call that changes nothing: a look up, a show, a block report, a checksum.
+/// A call that changes nothing: a look up, a show, a block report, a checksum, a forecast.
 pub fn read(random: &mut Random, writer: &mut Writer, keys: &mut Keys) {
     let blocks = (writer.probe().image().len() / 16896) as u64;
     match random.below(12) {
@@ -44,6 +44,7 @@ pub fn read(random: &mut Random, writer: &mut Writer, keys: &mut Keys) {
             writer.check();
             0
         }
+        3 => writer.forecast(),
         _ => writer.look_up(keys.pick(random)),
     };
 }
@@ -57,8 +58,11 @@ pub fn update(random: &mut Random, writer: &mut Writer, keys: &mut Keys) -> u32 
     }
 }
 
-/// A commit that is cut or has enough power, followed by a checksum at times.
+/// A commit that is cut or has enough power, at times after a forecast, followed by a checksum at times.
 fn commit(random: &mut Random, writer: &mut Writer) {
+    if random.once_in(4) {
+        writer.forecast();
+    }
     let allowance = match random.below(4) {
         0 => writer.allowance(random, 4),
         1 => 2000,

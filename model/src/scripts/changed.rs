@@ -67,7 +67,7 @@ fn blank(writer: &mut Writer, page: usize) {
 }
 
 /// The image changed, while the state stays as it is.
-fn change(random: &mut Random, writer: &mut Writer) {
+pub fn change(random: &mut Random, writer: &mut Writer) {
     let any = random.index(writer.probe().image().len());
     let Some((node, page)) = listed(random, writer) else { return };
     match random.below(24) {
@@ -86,8 +86,11 @@ fn change(random: &mut Random, writer: &mut Writer) {
     }
 }
 
-/// A commit with enough power or, in one of three cases, any.
+/// A commit with enough power or, in one of three cases, any; in half of the cases after a forecast.
 fn commit(random: &mut Random, writer: &mut Writer) {
+    if random.once_in(2) {
+        writer.forecast();
+    }
     let allowance = if random.once_in(3) { writer.allowance(random, 4) } else { 2000 };
     writer.commit(allowance);
     writer.check();

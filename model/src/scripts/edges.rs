@@ -47,7 +47,7 @@ pub fn full(random: &mut Random) -> Vec<Vec<u8>> {
     writer.lines()
 }
 
-/// 17 pending updates and more, of few keys with 0 and the greatest among them, then a commit or a mount.
+/// 17 pending updates and more, of few keys with 0 and the greatest among them, then a forecast and a commit or a mount.
 pub fn pending(random: &mut Random) -> Vec<Vec<u8>> {
     let mut writer = Writer::new();
     writer.lend([3, 4, 8, 32][random.index(4)]);
@@ -61,6 +61,7 @@ pub fn pending(random: &mut Random) -> Vec<Vec<u8>> {
                 _ => writer.insert(key, random.next() as u32),
             };
         }
+        writer.forecast();
         match random.below(3) {
             0 => writer.mount(255),
             _ => writer.commit(2000),

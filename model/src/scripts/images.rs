@@ -32,7 +32,7 @@ fn short(random: &mut Random, tries: usize, make: &dyn Fn(&mut Random, usize) ->
 }
 
 /// A valid image that no format began.
-fn valid_image(random: &mut Random) -> Vec<u8> {
+pub fn valid_image(random: &mut Random) -> Vec<u8> {
     loop {
         if let Some(image) = short(random, 2, &|random, n| Some(foreign::valid(random, n))) {
             return image;
@@ -54,7 +54,7 @@ fn damaged_image(random: &mut Random) -> Vec<u8> {
 
 /// An image of one leaf whose newest commit has pages that no list names, since a later page of it resets the leaf again;
 /// other pages are free or have a used mark alone.
-fn spent_image(random: &mut Random) -> Vec<u8> {
+pub fn spent_image(random: &mut Random) -> Vec<u8> {
     let blocks = 3 + random.index(4);
     let mut image = vec![255; blocks * BLOCK];
     let mut places: Vec<usize> = (0..blocks * PAGES).collect();
@@ -134,6 +134,7 @@ pub fn valid(random: &mut Random) -> Vec<Vec<u8>> {
         for _ in 0..random.below(16) {
             update(random, &mut writer, &mut keys);
         }
+        writer.forecast();
         writer.commit(2000);
         writer.check();
     }
@@ -166,6 +167,7 @@ pub fn steep(random: &mut Random) -> Vec<Vec<u8>> {
     }
     writer.mount(255);
     writer.insert(key, 7);
+    writer.forecast();
     writer.commit(2000);
     writer.check();
     look_round(random, &mut writer, &mut keys);
@@ -216,6 +218,7 @@ pub fn noise(random: &mut Random) -> Vec<Vec<u8>> {
         }
         writer.mount(255);
         update(random, &mut writer, &mut keys);
+        writer.forecast();
         writer.commit(2000);
         writer.check();
     }
@@ -242,6 +245,9 @@ pub fn last(random: &mut Random) -> Vec<Vec<u8>> {
         for _ in 0..random.below(18) {
             update(random, &mut writer, &mut keys);
         }
+        if random.once_in(2) {
+            writer.forecast();
+        }
         let allowance = if random.once_in(5) { writer.allowance(random, 4) } else { 2000 };
         writer.commit(allowance);
         writer.check();
@@ -254,7 +260,7 @@ pub fn last(random: &mut Random) -> Vec<Vec<u8>> {
 }
 
 /// The pages of the greatest commit given another number.
-fn renumber(writer: &mut Writer, number: u32) {
+pub fn renumber(writer: &mut Writer, number: u32) {
     let mut image = writer.probe().image().to_vec();
     let greatest = writer.probe().state().commit;
     for page in image.chunks_exact_mut(PAGE).filter(|page| is_live(page)) {

@@ -6,22 +6,22 @@ use crate::random::Random;
 
 /// A frame, which the changes below take apart.
 fn frame(random: &mut Random) -> Vec<u8> {
-    let kind = [0, 1, 2, 3, 4, 5, 6, 7, 0x10, 0x11, 0x12, 0x13, 0x14, 0x15, 0x16][random.index(15)];
+    let kind = [0, 1, 2, 3, 4, 5, 6, 7, 9, 0x10, 0x11, 0x12, 0x13, 0x14, 0x15, 0x16][random.index(16)];
     let number = random.below(60) as u32;
     match kind {
         1 => format!("01{number:08X}{:08X}", random.next() as u32),
         0x12 | 0x13 => format!("{kind:02X}{number:08X}{:02X}", random.byte()),
-        0x15 => "15".into(),
+        0x09 | 0x15 => format!("{kind:02X}"),
         _ => format!("{kind:02X}{number:08X}"),
     }
     .into_bytes()
 }
 
-/// A frame with a digit more or less, a byte that is no digit, another kind, or bytes that are no frame at all.
+/// A frame with a digit more or less, a byte that is no digit, another kind, a forecast with a number, or bytes that are no frame at all.
 fn broken(random: &mut Random) -> Vec<u8> {
     let mut line = frame(random);
     let at = random.index(line.len());
-    match random.below(9) {
+    match random.below(10) {
         0 => line.truncate(at),
         1 => line.push(b'0'),
         2 => line.insert(at, b'0'),
@@ -29,7 +29,8 @@ fn broken(random: &mut Random) -> Vec<u8> {
         4 => line[..2].copy_from_slice(format!("{:02X}", random.byte()).as_bytes()),
         5 => line.make_ascii_lowercase(),
         6 => line.clear(),
-        7 => line = (0..random.below(40)).map(|_| random.byte()).filter(|&b| b != 10).collect(),
+        7 => line = format!("09{:08X}", random.below(3)).into_bytes(),
+        8 => line = (0..random.below(40)).map(|_| random.byte()).filter(|&b| b != 10).collect(),
         _ => line = vec![b'0'; random.index(3000)],
     }
     line

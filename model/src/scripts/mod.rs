@@ -5,6 +5,7 @@ pub mod calls;
 pub mod changed;
 pub mod edges;
 pub mod erases;
+pub mod forecast;
 pub mod images;
 pub mod lines;
 pub mod pays;
@@ -21,7 +22,7 @@ pub struct Kind {
 }
 
 /// All kinds of scripts for the probe.
-pub const KINDS: [Kind; 13] = [
+pub const KINDS: [Kind; 14] = [
     Kind { name: "calls", make: calls::make },
     Kind { name: "valid", make: images::valid },
     Kind { name: "steep", make: images::steep },
@@ -35,6 +36,7 @@ pub const KINDS: [Kind; 13] = [
     Kind { name: "changed", make: changed::make },
     Kind { name: "erases", make: erases::make },
     Kind { name: "pays", make: pays::make },
+    Kind { name: "forecast", make: forecast::make },
 ];
 
 /// The kind with this name.

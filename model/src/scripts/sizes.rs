@@ -17,8 +17,9 @@ fn all_calls(random: &mut Random, writer: &mut Writer) {
             3 => writer.commit([2000, 0, 3][random.index(3)]),
             4 => writer.report(random.below(36) as u32),
             5 => writer.show(random.below(1400) as u32),
-            6 if random.once_in(4) => writer.mount(255),
-            7 if random.once_in(6) => writer.format(2000),
+            6 => writer.forecast(),
+            7 if random.once_in(4) => writer.mount(255),
+            8 if random.once_in(6) => writer.format(2000),
             _ => 0,
         };
     }

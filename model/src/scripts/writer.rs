@@ -109,6 +109,12 @@ impl Writer {
         }
     }
 
+    /// Forecast; returns the refusal.
+    pub fn forecast(&mut self) -> u32 {
+        let reply = self.say(b"09".to_vec());
+        u32::from_str_radix(&reply[..2], 16).unwrap_or(255)
+    }
+
     /// Show.
     pub fn show(&mut self, page: u32) -> u32 {
         self.single(7, page)

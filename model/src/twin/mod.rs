@@ -4,10 +4,12 @@
 pub mod chip;
 pub mod commit;
 pub mod find;
+pub mod forecast;
 pub mod format;
 pub mod ground;
 pub mod mount;
 pub mod plan;
+pub mod ready;
 pub mod report;
 pub mod show;
 pub mod standing;

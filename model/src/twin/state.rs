@@ -9,7 +9,7 @@ pub const BUFFER: usize = 960;
 
 /// On or off, B, G, the pending updates, the next node number, the reservation buffer with its count of units, the node table: for each
 /// node the length of its list and its pages; and for each block the erases done since the last finished mount or format.
-#[derive(Clone)]
+#[derive(Clone, PartialEq, Eq)]
 pub struct State {
     pub on: bool,
     pub blocks: usize,

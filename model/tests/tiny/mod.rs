@@ -1,5 +1,6 @@
 //! A tiny store behind the probe's protocol, for tests of the judge: a commit writes all nodes into one erased block.
 mod erases;
+mod forecast;
 
 use model::model::chip::{self, Operation, Power, BLOCK, OBSOLETE, PAGES, TORN, VALID};
 use model::model::counts::Counts;
@@ -71,11 +72,27 @@ pub enum Bug {
     EmptyCommitCounted,
     ErasesTurned,
     ErasesShort,
+    ForecastPageShort,
+    ForecastForgetsErases,
+    ForecastErasesFree,
+    ForecastSixOfNothing,
+    ForecastTen,
+    ForecastTellsRefused,
+    ForecastSizeBeforeOff,
+    ForecastTornSize,
+    ForecastDropsPending,
+    ForecastTurnsOff,
+    ForecastWrites,
+    ForecastTwice,
+    ForecastKept,
+    CommitOtherwise,
+    CommitWithLess,
+    CutWithSum,
 }
 
 impl Bug {
     /// All faults.
-    pub const FAULTS: [Bug; 57] = [
+    pub const FAULTS: [Bug; 73] = [
         Bug::EraseTwice,
         Bug::CommitToldHigh,
         Bug::CommitToldLow,
@@ -133,10 +150,27 @@ impl Bug {
         Bug::EmptyCommitCounted,
         Bug::ErasesTurned,
         Bug::ErasesShort,
+        Bug::ForecastPageShort,
+        Bug::ForecastForgetsErases,
+        Bug::ForecastErasesFree,
+        Bug::ForecastSixOfNothing,
+        Bug::ForecastTen,
+        Bug::ForecastTellsRefused,
+        Bug::ForecastSizeBeforeOff,
+        Bug::ForecastTornSize,
+        Bug::ForecastDropsPending,
+        Bug::ForecastTurnsOff,
+        Bug::ForecastWrites,
+        Bug::ForecastTwice,
+        Bug::ForecastKept,
+        Bug::CommitOtherwise,
+        Bug::CommitWithLess,
+        Bug::CutWithSum,
     ];
 }
 
 /// The store's state while it is on.
+#[derive(Clone)]
 struct State {
     tree: Tree,
     pending: u32,
@@ -155,6 +189,7 @@ fn all_erases(counts: Counts) -> Counts {
 }
 
 /// The tiny probe.
+#[derive(Clone)]
 pub struct Tiny {
     buffer: Vec<u8>,
     lent: usize,
@@ -163,6 +198,11 @@ pub struct Tiny {
     state: Option<State>,
     /// The erases of each block.
     erases: [u64; 32],
+    /// The forecasts since the last commit that were not refused, and the first answer of them.
+    forecasts: u32,
+    first: (u32, Counts),
+    /// The allowance of the commit under way.
+    allowance: u32,
     bug: Bug,
 }
 
@@ -170,7 +210,18 @@ impl Tiny {
     /// The probe's start, with a fault.
     pub fn new(bug: Bug) -> Tiny {
         let (buffer, torn) = (vec![255; 40 * BLOCK], vec![0x5A; 600]);
-        Tiny { buffer, lent: 3 * BLOCK, torn, torn_lent: TORN, state: None, erases: [0; 32], bug }
+        Tiny {
+            buffer,
+            lent: 3 * BLOCK,
+            torn,
+            torn_lent: TORN,
+            state: None,
+            erases: [0; 32],
+            forecasts: 0,
+            first: (0, Counts::NONE),
+            allowance: 0,
+            bug,
+        }
     }
 
     /// The image lent.
@@ -190,6 +241,7 @@ impl Tiny {
             Frame::Mount(allowance) => self.mount(allowance),
             Frame::Report(block) => self.report(block),
             Frame::Show(page) => self.show(page),
+            Frame::Forecast => self.forecast(),
             _ => self.lend(frame),
         }
     }
@@ -377,12 +429,14 @@ impl Tiny {
             return reply(6, Counts::NONE);
         };
         let number = state.number + 1 - self.is(Bug::SameNumber) as u32;
+        self.allowance = allowance;
         let torn = self.torn.clone();
         let allowed = if self.is(Bug::TenAt2000) { allowance.min(3) } else { allowance };
         let mut power = Power::new(allowed, &torn);
         self.write(&mut power, block, number, &pages);
         self.stray(&power, block);
         self.count(block, power.told());
+        self.forecasts = 0;
         self.told(&power, allowance, number)
     }
 
@@ -480,8 +534,9 @@ impl Tiny {
         let in_place = self.is(Bug::ProgramInPlace);
         let spare_byte = self.is(Bug::SpareByteOnCommit);
         let times = 1 + (self.is(Bug::EraseTwice) || self.is(Bug::HiddenEraseNotCounted)) as u32;
+        let erases_free = self.is(Bug::CutWithSum) && self.allowance < 2000;
         let image = &mut self.buffer[..self.lent];
-        let blank = (0..PAGES).all(|at| chip::free(chip::page(image, block * PAGES + at)));
+        let blank = !erases_free && (0..PAGES).all(|at| chip::free(chip::page(image, block * PAGES + at)));
         let torn_mark = in_place || (torn_page && image[block * BLOCK] == 255);
         if !blank && !torn_mark && !(0..times).all(|_| power.run(image, &Operation::Erase(block))) {
             return;
@@ -495,9 +550,17 @@ impl Tiny {
         if spare_byte {
             image[block * BLOCK + 512 + 9] = 3;
         }
-        for place in (0..image.len() / 528).filter(|place| place / PAGES != block) {
-            let page = chip::page(image, place);
-            if chip::mark(page, VALID) == 0 && image::live(page) && !power.run(image, &Operation::Mark(place, OBSOLETE)) {
+        self.spend(power, block);
+    }
+
+    /// Sets the obsolete mark of each live page of the other blocks.
+    fn spend(&mut self, power: &mut Power, block: usize) {
+        for place in (0..self.lent / 528).filter(|place| place / PAGES != block) {
+            let page = chip::page(self.image(), place);
+            if chip::mark(page, VALID) != 0 || !image::live(page) {
+                continue;
+            }
+            if self.leaves_mark(power) || !power.run(&mut self.buffer[..self.lent], &Operation::Mark(place, OBSOLETE)) {
                 return;
             }
         }

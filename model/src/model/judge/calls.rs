@@ -19,7 +19,10 @@ impl Judge {
         }
         match self.plain.call(call, self.lengths(), false, false) {
             Answer::Refused(refusal) => expect(reply, &two(refusal)),
-            _ => expect(reply, "00"),
+            _ => {
+                self.forecasts.end();
+                expect(reply, "00")
+            }
         }
     }
 
@@ -27,7 +30,10 @@ impl Judge {
     fn open_update(&mut self, call: Call, reply: &str) -> Result<(), String> {
         let other = if matches!(call, Call::Insert(..)) { NO_ROOM } else { ABSENT };
         let refusal = refusal_of(reply, &[(0, 0), (PENDING, 0), (other, 0)])?;
-        self.wild |= refusal == 0;
+        if refusal == 0 {
+            self.forecasts.end();
+            self.wild = true;
+        }
         Ok(())
     }
 

@@ -14,10 +14,10 @@ use std::rc::Rc;
 const THREE: usize = 24;
 
 /// A commit's allowance and reply: the refusal, 0 for none, and the three counts told.
-struct Told {
-    allowance: u32,
+pub(super) struct Told {
+    pub(super) allowance: u32,
     refusal: u32,
-    counts: Counts,
+    pub(super) counts: Counts,
 }
 
 impl Judge {
@@ -27,29 +27,40 @@ impl Judge {
             expect(reply, &told(refusal, Counts::NONE))?;
             return self.same(image, usize::MAX);
         }
-        let fixed = self.fixed();
-        if fixed && (self.plain.pending == 0 || (self.begun && self.plain.number == u32::MAX)) {
-            let refusal = if self.plain.pending == 0 { 0 } else { LAST_NUMBER };
+        if let Some(refusal) = self.quiet() {
             expect(reply, &told(refusal, Counts::NONE))?;
             return self.same(image, usize::MAX);
         }
         let told = self.told(allowance, reply, image)?;
-        match (fixed, self.begun) {
+        match told.refusal {
+            LAST_NUMBER => self.foretell(LAST_NUMBER, Counts::NONE)?,
+            refusal => self.as_foretold(&told, refusal == POWER)?,
+        }
+        match (self.fixed(), self.begun) {
             (true, true) => self.list_commit(&told, image),
             (true, false) => self.foreign_commit(&told, image),
             _ => self.open_commit(&told, image),
         }
     }
 
+    /// The answer of a commit that does no operation, 0 for none: with nothing pending, or 6 in a list.
+    pub(super) fn quiet(&mut self) -> Option<u32> {
+        if !self.fixed() {
+            return None;
+        }
+        let last = self.begun && self.plain.number == u32::MAX;
+        if self.plain.pending == 0 {
+            Some(0)
+        } else {
+            last.then_some(LAST_NUMBER)
+        }
+    }
+
     /// Reads the reply of a commit, finished, refused with 6 or cut: the sum of the counts is at most the allowance.
     fn told(&self, allowance: u32, reply: &str, image: &[u8]) -> Result<Told, String> {
-        let refusal = refusal_of(reply, &[(0, THREE), (LAST_NUMBER, THREE), (POWER, THREE)])?;
-        let counts = Counts::read(&reply.as_bytes()[2..]).ok_or("no three counts")?;
+        let (refusal, counts) = three(reply, &[0, LAST_NUMBER, POWER])?;
         if counts.sum() > allowance as u64 {
             return Err("more operations than the allowance".to_string());
-        }
-        if refusal == LAST_NUMBER && counts != Counts::NONE {
-            return Err("operations with refusal 6".to_string());
         }
         if image.len() != self.lent {
             return Err(format!("{} image bytes are lent, {} expected", image.len(), self.lent));
@@ -152,6 +163,17 @@ impl Judge {
         }
         self.meaning = meaning;
     }
+}
+
+/// The refusal of an open reply, one of those allowed, and its three counts; with 6 they are zeros.
+pub(super) fn three(reply: &str, refusals: &[u32]) -> Result<(u32, Counts), String> {
+    let allowed: Vec<(u32, usize)> = refusals.iter().map(|refusal| (*refusal, THREE)).collect();
+    let refusal = refusal_of(reply, &allowed)?;
+    let counts = Counts::read(&reply.as_bytes()[2..]).ok_or("no three counts")?;
+    if refusal == LAST_NUMBER && counts != Counts::NONE {
+        return Err("operations with refusal 6".to_string());
+    }
+    Ok((refusal, counts))
 }
 
 /// The sum of the counts told by a commit of a list: the allowance when cut, never with 2,000 or more; else at most 2,000.

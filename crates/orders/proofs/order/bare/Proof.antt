@@ -13,5 +13,8 @@ returns c = search (eq-eqb, ne-eqb, lt-ltb, le-ltb, needs)
 returns-2 : tie.Need-returns-2
 returns-2 c = search (eq-eqb, ne-eqb, lt-ltb, le-ltb, needs)
 
+returns-3 : tie.Need-returns-3
+returns-3 c = search (eq-eqb, ne-eqb, lt-ltb, le-ltb, needs)
+
 pub bare-spec : {M : Type 1} → statement M
-bare-spec = tie.close (tie.spec returns returns-2)
+bare-spec = tie.close (tie.spec returns returns-2 returns-3)

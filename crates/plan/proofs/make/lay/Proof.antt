@@ -39,7 +39,7 @@ returns c =
     let ps = pagesOf small (a .image .now) in
     let x = erases-are (a .blocks) head unused (a .pages + 1) (p .lay-places .result) (c .lay-erases .result) ps (a .ring .now) _ (k .pre .6) (l .reach) (e .0) in
     let enough = enough-places ps head (take unused (a .ring .now)) (a .pages) unused (k .pre .7) (k .pre .5) in
-    record { pages = refl; places = l .list; enough = enough; on = l .on; most = le-trans (e .1) (k .pre .3); erased = x .0; within = x .1 }
+    record { pages = refl; places = l .list; enough = enough; on = l .on; most = le-trans (e .1) (k .pre .3); many = e .2; erased = x .0; within = x .1 }
 
 pub lay-spec : {M : Type 1} → statement M
 lay-spec =

@@ -3,6 +3,7 @@ use mathlib.Core.List.{_++_}
 use Prim.Native.Nat.{_-_, _≤_}
 use native.Mathlib.Omega.{arith}
 use lib.ListN.{length, take, drop}
+use lib.Seq.{length-take-le}
 use Rattle.chip.specs.Geometry.{small}
 use Rattle.chip.specs.Chip.{pagesOf}
 use Rattle.plan.proofs.PlaceLaws.{take-at-all, erase-next, erase-done}
@@ -94,7 +95,7 @@ returns c =
     let l = c .before .loop in
     let k = c .before .before .before .before .before in
     let a = k .args in
-    (erase-done (pagesOf small (a .image .now)) (a .width) (a .ring .now) (k .pre .2) (k .pre .1) (l .j) (l .left) (take (l .n) (l .erased)) _ (c .loop-test .left) (l .inv .3), omega arith)
+    (erase-done (pagesOf small (a .image .now)) (a .width) (a .ring .now) (k .pre .2) (k .pre .1) (l .j) (l .left) (take (l .n) (l .erased)) _ (c .loop-test .left) (l .inv .3), omega arith, length-take-le (l .n) (l .erased) (omega arith))
 
 pub put-erased-spec : {M : Type 1} → statement M
 put-erased-spec =

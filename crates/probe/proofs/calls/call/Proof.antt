@@ -1,10 +1,11 @@
 use mathlib.Core.Path.{refl}
-use Rattle.probe.proofs.MakesLaws.{makes-format, makes-mount, makes-commit, makes-insert, makes-delete, makes-look, makes-report, makes-show}
+use Rattle.probe.proofs.MakesLaws.{makes-format, makes-mount, makes-commit, makes-insert, makes-delete, makes-look, makes-report, makes-show, makes-forecast}
 use borrow.Author.Needs.{needs}
 use Rattle.probe.proofs.calls.call.Statement.{statement}
 use Rattle.probe.proofs.calls.call.Tie as tie
 use Rattle.probe.proofs.calls.call.Reads as reads
 use Rattle.probe.proofs.calls.call.Lts as lts
+use Rattle.probe.proofs.calls.tell_forecast.Reads as tell-forecast-reads
 use Rattle.probe.proofs.calls.tell_look.Reads as tell-look-reads
 use Rattle.probe.proofs.calls.tell_report.Reads as tell-report-reads
 use Rattle.probe.proofs.calls.tell_shown.Reads as tell-shown-reads
@@ -12,6 +13,7 @@ use Rattle.probe.proofs.calls.tell_updated.Reads as tell-updated-reads
 use Rattle.probe.proofs.calls.tell_wrote.Reads as tell-wrote-reads
 use Rattle.store.proofs.commit.commit.Reads as commit-reads
 use Rattle.store.proofs.find.look_up.Reads as look-up-reads
+use Rattle.store.proofs.forecast.forecast.Reads as forecast-reads
 use Rattle.store.proofs.format.format.Reads as format-reads
 use Rattle.store.proofs.mount.mount.Reads as mount-reads
 use Rattle.store.proofs.report.block_report.Reads as block-report-reads
@@ -109,6 +111,15 @@ enum-known-call-8 c = search needs
 -- src/calls.rt:109:17
 tell-shown-requires : tie.Need-tell-shown-requires
 tell-shown-requires c κs = search needs
+
+enum-told : tie.Need-enum-told
+enum-told c = search needs
+
+forecast-requires : tie.Need-forecast-requires
+forecast-requires c κs = search needs
+
+tell-forecast-requires : tie.Need-tell-forecast-requires
+tell-forecast-requires c κs = search needs
 
 -- src/calls.rt:84:1
 same-length : tie.Need-same-length
@@ -243,6 +254,20 @@ returns-8 c =
     let a = k .before .before .before .before .before .args in
     makes-show (a .call) (a .torn .now) (a .state) (a .image .now) _ _ (k .call8 .given .1) refl
 
+same-length-17 : tie.Need-same-length-17
+same-length-17 c = search needs
+
+same-length-18 : tie.Need-same-length-18
+same-length-18 c = search needs
+
+returns-9 : tie.Need-returns-9
+returns-9 c =
+    let t = c .before .before in
+    let f = t .before .before in
+    let k = f .before .before in
+    let a = k .before .before .before .before .before .args in
+    makes-forecast (a .call) (a .torn .now) (a .state) (a .image .now) _ (k .enum-told .given .1) _ (t .tell-forecast .ensures) (f .forecast .ensures)
+
 pub call-spec : {M : Type 1} → statement M
 call-spec =
     tie.close
@@ -270,6 +295,9 @@ call-spec =
     tell-report-requires
     enum-known-call-8
     tell-shown-requires
+    enum-told
+    forecast-requires
+    tell-forecast-requires
     same-length
     same-length-2
     returns
@@ -293,4 +321,7 @@ call-spec =
     returns-7
     same-length-15
     same-length-16
-    returns-8)
+    returns-8
+    same-length-17
+    same-length-18
+    returns-9)

@@ -3,6 +3,7 @@ use Prim.Native.Nat.{ℕ, _<_}
 use native.Mathlib.Omega.{arith}
 use lib.ListN.{length, getD}
 use Rattle.store.specs.Parts.{joined}
+use Rattle.store.proofs.CommitTests.{Planning, planning}
 use Rattle.store.proofs.CommitState.{commit-stuck, commit-ended}
 use borrow.Author.Needs.{needs}
 use Rattle.store.proofs.commit.commit_pending.Statement.{statement}
@@ -22,6 +23,14 @@ bytes w j = omega (arith, w .slice-known .given j)
 low : (w : tie.After-slice-known) → w .before .args .allowance < 4294967296
 low w = search needs
 
+-- the tests pass
+past : (w : tie.After-slice-known)
+    → (let a = w .before .args in Planning (a .numbers) (a .allowance) (length (a .image .now)) (length (a .torn .now)))
+past w =
+    let a = w .before .args in
+    let h : a .numbers .commit < 4294967296 = search needs in
+    planning (a .numbers) (a .allowance) (length (a .image .now)) (length (a .torn .now)) h (w .before .pre)
+
 -- the length of the slots
 slots : (w : tie.After-all2) → length (w .before .before .before .before .before .before .before .before .args .slots .now) ≡ 1024
 slots w = search needs
@@ -35,8 +44,8 @@ begin-requires c κs = search needs
 
 execute-requires : tie.Need-execute-requires
 execute-requires c κs =
-    let p = c .before .before .before .before .before .before .before .before .before .before .before .before .before .before .before .before .pre in
-    (p .1 .size, p .1 .least, p .1 .most, p .5, p .2, p .4)
+    let p = past (c .before .before .before .before .before .before .before .before .before .before .before .before .before .before .before) in
+    (p .chip .size, p .chip .least, p .chip .most, p .fits, p .slice, p .number)
 
 quiet-requires : tie.Need-quiet-requires
 quiet-requires c κs = search needs
@@ -52,19 +61,19 @@ returns c =
     let q = f .before .before in
     let b = q .before .before .before .before .before in
     let w = b .before .before in
-    let t = w .before in
-    let a = t .args in
+    let g = past w in
+    let a = w .before .args in
     let s = joined (a .numbers) (a .buffer .now) (a .lens .now) (a .slots .now) (a .erases .now) in
     rw (c .quiet .ensures)
-    (commit-stuck (a .allowance) (a .torn .now) s (a .image .now) (t .pre .0) (t .pre .3) (t .pre .4) (t .pre .2) (slots q) (figured f) (bytes w) _ _ _ _
+    (commit-stuck (a .allowance) (a .torn .now) s (a .image .now) (g .first) (g .pending) (g .number) (g .slice) (g .fits) (slots q) (figured f) (bytes w) _ _ _ _
     (x .execute .result) (low w) (b .begin .result) (b .begin .ensures) (x .execute .ensures) (c .before .if1 .taken))
 
 add-n : tie.Need-add-n
 add-n c =
     let x = c .before .before .before .before .before in
     let q = x .before .before .before .before .before .before .before .before .before in
-    let t = q .before .before .before .before .before .before .before .before in
-    record { fits = omega (arith, t .pre .4) }
+    let g = past (q .before .before .before .before .before .before .before) in
+    record { fits = omega (arith, g .number) }
 
 ended-requires : tie.Need-ended-requires
 ended-requires c κs = search needs
@@ -81,10 +90,10 @@ returns-2 c =
     let q = f .before .before in
     let b = q .before .before .before .before .before in
     let w = b .before .before in
-    let t = w .before in
-    let a = t .args in
+    let g = past w in
+    let a = w .before .args in
     let s = joined (a .numbers) (a .buffer .now) (a .lens .now) (a .slots .now) (a .erases .now) in
-    commit-ended (a .allowance) (a .torn .now) s (a .image .now) (t .pre .0) (t .pre .3) (t .pre .4) (t .pre .2) (slots q) (figured f) (bytes w) _ _ _ _
+    commit-ended (a .allowance) (a .torn .now) s (a .image .now) (g .first) (g .pending) (g .number) (g .slice) (g .fits) (slots q) (figured f) (bytes w) _ _ _ _
     (x .execute .result) (low w) (b .begin .result) (b .begin .ensures) (x .execute .ensures) (l .if1 .left) (λ j. omega (arith, k .slice-known2 .given j)) _ (c .ended .ensures (a .buffer .now))
 
 pub commit-pending-spec : {M : Type 1} → statement M

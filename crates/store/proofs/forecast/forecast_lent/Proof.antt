@@ -1,0 +1,60 @@
+use mathlib.Core.Path.{subst}
+use Prim.Native.Nat.{_<_}
+use lib.ListN.{length}
+use Rattle.store.specs.declared.admit.Beginning.{Beginning}
+use Rattle.store.specs.AdmitCode.{CommitBegins}
+use Rattle.store.proofs.ForecastState.{forecast-ends}
+use borrow.Author.Needs.{needs}
+use Rattle.store.proofs.forecast.forecast_lent.Statement.{statement}
+use Rattle.store.proofs.forecast.forecast_lent.Tie as tie
+use Rattle.store.proofs.forecast.forecast_lent.Reads as reads
+use Rattle.store.proofs.forecast.forecast_lent.Lts as lts
+use Rattle.store.proofs.admit.commit_begins.Reads as commit-begins-reads
+use Rattle.store.proofs.forecast.forecast_pending.Reads as forecast-pending-reads
+use Rattle.store.proofs.forecast.quiet.Reads as quiet-reads
+
+-- the commit number has 32 bits
+low : (t : tie.Start) → t .args .numbers .commit < 4294967296
+low t = search needs
+
+commit-begins-requires : tie.Need-commit-begins-requires
+commit-begins-requires c κs = search needs
+
+enum-known-answer : tie.Need-enum-known-answer
+enum-known-answer c = search needs
+
+quiet-requires : tie.Need-quiet-requires
+quiet-requires c κs = search needs
+
+enum-told : tie.Need-enum-told
+enum-told c = search needs
+
+forecast-pending-requires : tie.Need-forecast-pending-requires
+forecast-pending-requires c κs =
+    let b = c .before .before in
+    let a = b .before .before .args in
+    subst (λ (r : Beginning). CommitBegins (a .numbers) (length (a .image .now)) 528 r) (c .enum-told .given .1) (b .commit-begins .ensures)
+
+returns : tie.Need-returns
+returns c erases =
+    let k = c .before .before in
+    let b = k .before .before in
+    let a = b .before .before .args in
+    rw (c .quiet .ensures)
+    (forecast-ends (a .numbers) (a .buffer .now) (a .lens .now) (a .slots .now) erases (a .image .now) _ (low (b .before .before))
+    (subst (λ (r : Beginning). CommitBegins (a .numbers) (length (a .image .now)) 528 r) (k .answer .given .1) (b .commit-begins .ensures)))
+
+returns-2 : tie.Need-returns-2
+returns-2 c = search needs
+
+pub forecast-lent-spec : {M : Type 1} → statement M
+forecast-lent-spec =
+    tie.close
+    (tie.spec
+    commit-begins-requires
+    enum-known-answer
+    quiet-requires
+    enum-told
+    forecast-pending-requires
+    returns
+    returns-2)

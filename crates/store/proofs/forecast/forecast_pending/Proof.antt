@@ -1,0 +1,54 @@
+use mathlib.Core.Path.{refl}
+use Prim.Native.Nat.{ℕ, _<_}
+use native.Mathlib.Omega.{arith}
+use lib.ListN.{length, getD}
+use Rattle.store.specs.Parts.{joined}
+use Rattle.store.proofs.CommitTests.{Planning, planning}
+use Rattle.store.proofs.ForecastState.{forecast-stuck, forecast-done}
+use borrow.Author.Needs.{needs}
+use Rattle.store.proofs.forecast.forecast_pending.Statement.{statement}
+use Rattle.store.proofs.forecast.forecast_pending.Tie as tie
+use Rattle.store.proofs.forecast.forecast_pending.Reads as reads
+use Rattle.store.proofs.forecast.forecast_pending.Lts as lts
+use Rattle.commits.proofs.forecast.forecast.Reads as forecast-reads
+use Rattle.store.proofs.forecast.quiet.Reads as quiet-reads
+
+-- the tests pass
+past : (t : tie.Start) → (let a = t .args in Planning (a .numbers) 0 (length (a .image .now)) 528)
+past t =
+    let a = t .args in
+    let h : a .numbers .commit < 4294967296 = search needs in
+    planning (a .numbers) 0 (length (a .image .now)) 528 h (t .pre)
+
+-- the image holds bytes
+bytes : (w : tie.After-shared-slice-known) → (j : ℕ) → getD (w .before .args .image .now) j 0 < 256
+bytes w j = omega (arith, w .shared-slice-known .given j)
+
+forecast-requires : tie.Need-forecast-requires
+forecast-requires c κs = let g = past (c .before) in (g .chip .size, g .chip .least, g .chip .most, g .fits)
+
+quiet-requires : tie.Need-quiet-requires
+quiet-requires c κs = search needs
+
+returns : tie.Need-returns
+returns c erases =
+    let f = c .before .before in
+    let w = f .before in
+    let g = past (w .before) in
+    let a = w .before .args in
+    let s = joined (a .numbers) (a .buffer .now) (a .lens .now) (a .slots .now) erases in
+    rw (c .quiet .ensures)
+    (forecast-stuck s (a .image .now) (g .first) (g .pending) (g .number) (g .fits) (bytes w) (f .forecast .result) (f .forecast .ensures) (c .before .if1 .taken))
+
+returns-2 : tie.Need-returns-2
+returns-2 c erases =
+    let l = c .before in
+    let f = l .before in
+    let w = f .before in
+    let g = past (w .before) in
+    let a = w .before .args in
+    let s = joined (a .numbers) (a .buffer .now) (a .lens .now) (a .slots .now) erases in
+    forecast-done s (a .image .now) (g .first) (g .pending) (g .number) (g .fits) (bytes w) (f .forecast .result) (f .forecast .ensures) (l .if1 .left) _ refl
+
+pub forecast-pending-spec : {M : Type 1} → statement M
+forecast-pending-spec = tie.close (tie.spec forecast-requires quiet-requires returns returns-2)
