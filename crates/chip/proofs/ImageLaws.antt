@@ -19,13 +19,14 @@ use Rattle.chip.specs.declared.power.Outcome.the-variants.{Whole, Torn, 
 use Rattle.chip.specs.declared.operation.Kind.the-variants as K
 use Rattle.chip.specs.declared.operation.Operation.{Operation}
 use Rattle.chip.specs.declared.progress.Progress.{Progress}
-use Rattle.chip.specs.Geometry.{Geometry, pageSize, blockSize}
+use Rattle.chip.specs.Geometry.{Geometry, Fits, pageSize, blockSize}
 use Rattle.chip.specs.Power.{outcome, choose, effect}
 use Rattle.chip.specs.Page.{Page, isFree, blank, tornPage}
 use Rattle.chip.specs.Chip.{pagesOf, inBlock, filled, Op, erase, kindOf, whole, tear, wholeBlock, tornBlock, step}
 use Rattle.chip.specs.RunCode.{progressed, Operated, Stepped}
 use Rattle.chip.proofs.CountLaws.{progressed-told}
 use Rattle.chip.proofs.PageLaws.{length-blank, length-torn}
+use Rattle.chip.proofs.Sizes.{blocks-pages}
 
 -- what an operation leaves, by its outcome: where something holds of all three results, it holds of the one
 pub effect-has : {A : Type 0} (P : A → Type 0) (o : Outcome) (w t s : A) → P w → P t → P s → P (choose o w t s)
@@ -80,6 +81,14 @@ module _ (g : Geometry) (xs : List ℕ) where
   pub page-at : (p : ℕ) → p < length xs / pageSize g → getD (pagesOf g xs) p [] ≡ part (p * pageSize g) (pageSize g) xs
   unfolding pagesOf
   page-at p h = cut-at (pageSize g) (length xs / pageSize g) p xs [] h
+
+  -- the pages of one block
+  pub block-cut : Fits g → length xs ≡ blockSize g → pagesOf g xs ≡ cut (pageSize g) (g .pages) xs
+  unfolding pagesOf
+  block-cut f h = ap (λ (n : ℕ). cut (pageSize g) n xs) (blocks-pages g f (length xs) 1 (omega (arith, h)) ∙ (let e : 1 * g .pages ≡ g .pages = omega arith in e))
+
+  pub block-length : Fits g → length xs ≡ blockSize g → length (pagesOf g xs) ≡ g .pages
+  block-length f h = ap length (block-cut f h) ∙ length-cut (pageSize g) (g .pages) xs
 
   module _ (n : ℕ) (en : length xs / pageSize g ≡ n) (lx : length xs ≡ n * pageSize g) where
     -- the pages say every byte

@@ -1,7 +1,7 @@
 -- Pages, byte by byte: free pages, blank and torn pages, sizes. Assumes nothing.
 use mathlib.Core.Path.{_≡_, refl, sym, ap, ap₂, _∙_}
 use mathlib.Core.Bool.{Bool, true, false, _&&_, not}
-use mathlib.Core.List.{List, _++_, map}
+use mathlib.Core.List.{List, _++_, map, append-assoc, append-nil}
 use Prim.Native.Nat.{ℕ, zero, suc, _+_, _-_, _≤_, _<_}
 use native.Mathlib.Numerals.{add-one}
 use native.Mathlib.Omega.{arith}
@@ -24,7 +24,7 @@ use lib.ListN.{
   List·getD-map,
   List·getD-append,
 }
-use lib.Seq.{drop-cons, drop-drop, length-take-le, getD-take, getD-drop, getD-append-add}
+use lib.Seq.{drop-cons, drop-drop, length-take-le, take-all, take-suc-set, getD-take, getD-drop, getD-append-add}
 use borrow.Author.Tests.{eq-eqb, ne-eqb, eqb-true}
 use Rattle.lists.specs.Lists.{all, part}
 use Rattle.lists.proofs.Alls.{all-replicate}
@@ -155,3 +155,17 @@ module _ (g : Geometry) where
   pub set-read : (m : Mark) (x : Page) → g .area + spareByte m < length x → isSet g m x ≡ eqb (getD x (g .area + spareByte m) 0) 0
   unfolding isSet
   set-read m x h = ap (λ (b : ℕ). eqb b 0) (getD-default x (g .area + spareByte m) 255 0 h)
+
+-- ---- the loop of blank_from
+-- one more byte made 255
+pub blank-turn : (n i : ℕ) (page whole : List ℕ) → length page ≡ n → i < n → take i page ++ replicate (n - i) 255 ≡ whole
+    → take (i + 1) (set page i 255) ++ replicate (n - (i + 1)) 255 ≡ whole
+blank-turn n i page whole l h e =
+    let s : n - i ≡ suc (n - (i + 1)) = omega arith in
+    rw (add-one, take-suc-set page i 255 (omega arith), append-assoc) (rw (s, add-one) at e)
+
+-- all made 255
+pub blank-end : (n i : ℕ) (page whole : List ℕ) → length page ≡ n → n ≤ i → take i page ++ replicate (n - i) 255 ≡ whole → page ≡ whole
+blank-end n i page whole l h e =
+    let z : n - i ≡ 0 = omega arith in
+    sym (ap₂ (λ (p : List ℕ) (m : ℕ). p ++ replicate m 255) (take-all i page (omega arith)) z ∙ append-nil page) ∙ e

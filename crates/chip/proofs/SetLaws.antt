@@ -2,7 +2,7 @@
 use mathlib.Core.Path.{_≡_, refl, sym, ap, ap₂, _∙_}
 use mathlib.Core.Bool.{Bool, true, false, cond}
 use mathlib.Core.List.{List, [], _∷_, _++_}
-use Prim.Native.Nat.{ℕ, zero, suc, _+_, _*_, _%_, _^_, _<_}
+use Prim.Native.Nat.{ℕ, zero, suc, _+_, _*_, _%_, _^_, _<_, _≤_}
 use native.Mathlib.Nat.{pow-suc, mul-assoc, zero-add, zero-mul}
 use native.Mathlib.Numerals.{add-one}
 use native.Mathlib.Omega.{arith}
@@ -13,6 +13,7 @@ use lib.ListN.{length, take, getD}
 use lib.Pow.{shl-exact}
 use lib.Seq.{take-suc, length-take-le}
 use Rattle.lists.specs.Lists.{bit, count, first}
+use Rattle.lists.proofs.Tests.{cases}
 use Rattle.chip.specs.SetCode.{setOf}
 
 bit-lt : (b : Bool) → bit b < 2
@@ -51,14 +52,22 @@ module _ {A : Type 0} (p : A → Bool) where
       ∙ ap₂ (λ (a b : ℕ). a + ones b) (digits-mod (setOf p xs) (bit-lt (p x))) (digits-div (setOf p xs) (bit-lt (p x)))
       ∙ ap (λ (n : ℕ). bit (p x) + n) (ones-set xs)
 
-  -- the trailing zeros lead to the first member
-  pub trailing-set : (xs : List A) → trailingZeros (length xs) (setOf p xs) ≡ first p xs
+  -- the trailing zeros of a set that is not empty, in m digits, lead to the first member
+  pub trailing-set : (m : ℕ) (xs : List A) → length xs ≤ m → (setOf p xs ≡ 0 → ⊥) → trailingZeros m (setOf p xs) ≡ first p xs
   unfolding setOf trailingZeros
-  trailing-set [] = refl
-  trailing-set (x ∷ xs) =
-      ap₂ (λ (a b : ℕ). under a (trailingZeros (length xs) b)) (digits-mod (setOf p xs) (bit-lt (p x))) (digits-div (setOf p xs) (bit-lt (p x)))
-      ∙ ap (λ (n : ℕ). under (bit (p x)) n) (trailing-set xs)
-      ∙ under-bit (p x) (first p xs)
+  trailing-set m [] l z = absurd (z refl)
+  trailing-set zero (x ∷ xs) l z = absurd (omega arith)
+  trailing-set (suc m) (x ∷ xs) l z =
+      ap₂ (λ (a b : ℕ). under a (trailingZeros m b)) (digits-mod (setOf p xs) (bit-lt (p x))) (digits-div (setOf p xs) (bit-lt (p x)))
+      ∙ under-bit (p x) (trailingZeros m (setOf p xs))
+      ∙ cases (p x) (λ t. rw t) (λ t. rw t (ap suc (trailing-set m xs (omega arith) (λ e. z (rw (t, e))))))
+
+  -- of an empty set there is none
+  pub first-none : (xs : List A) → setOf p xs ≡ 0 → first p xs ≡ length xs
+  unfolding setOf
+  first-none [] e = refl
+  first-none (x ∷ xs) e =
+      cases (p x) (λ t. absurd (omega (arith, ap bit t))) (λ t. rw t (ap suc (first-none xs (omega arith))))
 
   -- a turn of a loop over the elements that puts index i in, and one that does not
   module _ (xs : List A) (d : A) (i r : ℕ) (h : i < length xs) (e : r ≡ setOf p (take i xs)) where
@@ -72,11 +81,11 @@ module _ {A : Type 0} (p : A → Bool) where
         ∙ ap (setOf p) (sym (take-suc xs i d h))
         ∙ ap (λ (n : ℕ). setOf p (take n xs)) (sym (add-one i))
 
-    pub set-more : i < 32 → p (getD xs i d) ≡ true → bitOr r ((1 * 2 ^ i) % 2 ^ 32) ≡ setOf p (take (i + 1) xs)
+    pub set-more : i < 64 → p (getD xs i d) ≡ true → bitOr r ((1 * 2 ^ i) % 2 ^ 64) ≡ setOf p (take (i + 1) xs)
     set-more l t =
         let s = set-lt (take i xs) in
         let b : setOf p (take i xs) < 2 ^ i = (rw len at s) in
-        ap (bitOr r) (shl-exact 1 i 32 (omega arith) (omega arith))
+        ap (bitOr r) (shl-exact 1 i 64 (omega arith) (omega arith))
         ∙ or-shifted-r 1 i r (rw e b)
         ∙ ap (λ (b : Bool). bit b * 2 ^ i + r) (sym t)
         ∙ on-top

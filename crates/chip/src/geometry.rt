@@ -1,32 +1,44 @@
-// The small chip's numbers, and how many blocks an image has.
+// The geometry of a part, and how many blocks an image has.
 ghost use mathlib.Core.Path.{_≡_};
-ghost use Rattle.chip.specs.Geometry.{small, blocksOf};
+ghost use Rattle.chip.specs.Geometry.{Fits, blocksOf};
 
-// Bytes of a page's data area.
-pub const DATA: usize = 512;
+// Bytes of a page's data area and of its spare area, pages of a block, units that a page holds at most.
+pub struct Geometry {
+    pub area: usize,
+    pub spare: usize,
+    pub pages: usize,
+    pub units: usize,
+}
 
-// Bytes of a page, data area and spare area.
-pub const PAGE: usize = 528;
+// The small part: pages of 512 and 16 bytes, 32 pages a block, 42 units a page.
+pub const SMALL: Geometry = Geometry {
+    area: 512,
+    spare: 16,
+    pages: 32,
+    units: 42,
+};
 
-// Pages of a block.
-pub const PAGES: usize = 32;
+// Bytes of the largest data area, for arrays that hold one.
+pub const AREA: usize = 2048;
 
-// Bytes of a block.
-pub const BLOCK: usize = 16896;
+// Pages of the largest block.
+pub const BLOCK_PAGES: usize = 64;
 
-// Units that a page holds at most.
-pub const UNITS: usize = 42;
+// Pages of the largest chip: 32 blocks of the large part.
+pub const CHIP_PAGES: usize = 32 * BLOCK_PAGES;
 
 // The blocks of an image of `len` bytes; 0 where that is no chip.
-pub fn blocks_of(len: usize) -> usize
-    ensures { λ r. ⌜ r ≡ blocksOf small len ⌝ }
+pub fn blocks_of(geometry: Geometry, len: usize) -> usize
+    requires { ⌜ Fits geometry ⌝ }
+    ensures { λ r. ⌜ r ≡ blocksOf geometry len ⌝ }
 {
-    let blocks = len / BLOCK;
+    let block = geometry.pages * (geometry.area + geometry.spare);
+    let blocks = len / block;
     if blocks < 3 {
         return 0;
     }
     if 32 < blocks {
         return 0;
     }
-    if blocks * BLOCK == len { blocks } else { 0 }
+    if blocks * block == len { blocks } else { 0 }
 }

@@ -1,13 +1,14 @@
 // One page: programmed, marked, tested for being free. Each function gets the part of the image that is the page.
 ghost use mathlib.Core.Path.{_≡_};
-ghost use Prim.Native.Nat.{_+_, _≤_};
-ghost use lib.ListN.{length, take, drop, getD};
+ghost use mathlib.Core.List.{_++_};
+ghost use Prim.Native.Nat.{_+_, _-_, _≤_};
+ghost use lib.ListN.{length, take, drop, getD, replicate};
 ghost use Rattle.lists.specs.Lists.{part};
 ghost use Rattle.chip.specs.declared.operation.Kind.the-variants as K;
-ghost use Rattle.chip.specs.Geometry.{small};
+ghost use Rattle.chip.specs.Geometry.{Fits, pageSize};
 ghost use Rattle.chip.specs.Page.{isFree, isLive, marked, programmed, spareByte};
 ghost use Rattle.chip.specs.RunCode.{Operated};
-use crate::geometry::DATA;
+use crate::geometry::Geometry;
 use crate::operation;
 use crate::operation::Kind;
 use crate::operation::Operation;
@@ -34,12 +35,18 @@ fn spare_byte(mark: Mark) -> usize
 }
 
 // One mark made 0, or torn byte 0 where power runs out.
-pub fn set_mark(page: &mut [u8], mark: Mark, torn: &[u8], power: Power) -> Operation
-    requires { ⌜ (length (now page) ≡ 528) × (length (now torn) ≡ 528) ⌝ }
-    ensures { λ r. ⌜ Operated K.Mark power r (now (page .exit)) (marked small mark 0 (now (page .entry)))
-        (marked small mark (getD (now (torn .entry)) 0 0) (now (page .entry))) (now (page .entry)) ⌝ }
+pub fn set_mark(
+    geometry: Geometry,
+    page: &mut [u8],
+    mark: Mark,
+    torn: &[u8],
+    power: Power,
+) -> Operation
+    requires { ⌜ (length (now page) ≡ pageSize geometry) × (length (now torn) ≡ pageSize geometry) × Fits geometry ⌝ }
+    ensures { λ r. ⌜ Operated K.Mark power r (now (page .exit)) (marked geometry mark 0 (now (page .entry)))
+        (marked geometry mark (getD (now (torn .entry)) 0 0) (now (page .entry))) (now (page .entry)) ⌝ }
 {
-    let at = DATA + spare_byte(mark);
+    let at = geometry.area + spare_byte(mark);
     let told = operation::tell(Kind::Mark, power);
     match power::next(power) {
         Outcome::Whole => {
@@ -55,10 +62,16 @@ pub fn set_mark(page: &mut [u8], mark: Mark, torn: &[u8], power: Power) -> Opera
 }
 
 // The data area made `bytes`, or the first torn bytes where power runs out.
-pub fn program(page: &mut [u8], bytes: &[u8], torn: &[u8], power: Power) -> Operation
-    requires { ⌜ (length (now page) ≡ 528) × (length (now bytes) ≡ 512) × (length (now torn) ≡ 528) ⌝ }
-    ensures { λ r. ⌜ Operated K.Program power r (now (page .exit)) (programmed small (now (bytes .entry)) (now (page .entry)))
-        (programmed small (take 512 (now (torn .entry))) (now (page .entry))) (now (page .entry)) ⌝ }
+pub fn program(
+    geometry: Geometry,
+    page: &mut [u8],
+    bytes: &[u8],
+    torn: &[u8],
+    power: Power,
+) -> Operation
+    requires { ⌜ (length (now page) ≡ pageSize geometry) × (length (now bytes) ≡ geometry .area) × (length (now torn) ≡ pageSize geometry) ⌝ }
+    ensures { λ r. ⌜ Operated K.Program power r (now (page .exit)) (programmed geometry (now (bytes .entry)) (now (page .entry)))
+        (programmed geometry (take (geometry .area) (now (torn .entry))) (now (page .entry))) (now (page .entry)) ⌝ }
 {
     let told = operation::tell(Kind::Program, power);
     match power::next(power) {
@@ -67,10 +80,23 @@ pub fn program(page: &mut [u8], bytes: &[u8], torn: &[u8], power: Power) -> Oper
             told
         }
         Outcome::Torn => {
-            bytes::copy(&torn[0..DATA], page);
+            let area = geometry.area;
+            bytes::copy(&torn[0..area], page);
             told
         }
         Outcome::Nothing => told,
+    }
+}
+
+// Every byte from `at` on made 255.
+pub fn blank_from(page: &mut [u8], at: usize)
+    requires { ⌜ at ≤ length (now page) ⌝ }
+    ensures { λ _. ⌜ now (page .exit) ≡ take at (now (page .entry)) ++ replicate (length (now (page .entry)) - at) 255 ⌝ }
+{
+    let mut i = at;
+    while i < page.len() {
+        page[i] = 255;
+        i += 1;
     }
 }
 
@@ -120,12 +146,13 @@ pub fn is_free(page: &[u8]) -> bool
 }
 
 // Is the page live: valid mark set, obsolete mark not?
-pub fn is_live(page: &[u8]) -> bool
-    requires { ⌜ length (now page) ≡ 528 ⌝ }
-    ensures { λ r. ⌜ r ≡ isLive small (now (page .entry)) ⌝ }
+pub fn is_live(geometry: Geometry, page: &[u8]) -> bool
+    requires { ⌜ (length (now page) ≡ pageSize geometry) × Fits geometry ⌝ }
+    ensures { λ r. ⌜ r ≡ isLive geometry (now (page .entry)) ⌝ }
 {
-    if page[DATA + 1] != 0 {
+    let area = geometry.area;
+    if page[area + 1] != 0 {
         return false;
     }
-    page[DATA + 2] != 0
+    page[area + 2] != 0
 }

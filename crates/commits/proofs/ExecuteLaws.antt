@@ -13,7 +13,7 @@ use Rattle.lists.proofs.Flats.{length-tab, tab-same}
 use Rattle.lists.proofs.Alls.{All-take}
 use Rattle.lists.proofs.Tests.{clash}
 use Rattle.chip.specs.declared.progress.Progress.{Progress}
-use Rattle.chip.specs.Geometry.{small}
+use Rattle.chip.specs.Geometry.{Geometry, Fits, pageSize}
 use Rattle.chip.specs.Page.{Page}
 use Rattle.chip.specs.Chip.{erase, pagesOf}
 use Rattle.chip.specs.Erases.{figuresAfter}
@@ -32,7 +32,7 @@ use Rattle.log.specs.PlanCode.{targetIn}
 use Rattle.log.proofs.EraseLaws.{commit-figures}
 use Rattle.log.proofs.ContentsLaws.{page-same}
 use Rattle.log.proofs.AssignedChoice.{Chip, Committable}
-use Rattle.log.proofs.PlanKept.{chip-small, wide-small, ready}
+use Rattle.log.proofs.PlanKept.{chip-of, wide, ready}
 use Rattle.log.proofs.AdmissibleLaws.{Safe}
 use Rattle.log.proofs.PolicyLaws.{foreign}
 use Rattle.contents.specs.ContentsCode.{contentsIn}
@@ -85,52 +85,52 @@ stores-after : (limit : ℕ) (T : ℕ → Node) (news : List Live) (l s u v : Li
 stores-after limit T news l s u v b h k m i = k m (omega arith) (T m) (h m i)
 
 -- ---- the plan that is read from arrays that hold a table
-plan-read : {limit B : ℕ} {lens slots : List ℕ} {count : ℕ} {bytes : List ℕ} {G : ℕ} {ps : List Page} {tb : List Node} {us : List U.Unit}
-    → Plannable limit B lens slots count bytes ps tb G us → planRead limit B lens slots count bytes G ps ≡ planOf small limit B ps tb G us
-plan-read {limit} {B} {lens} {slots} {count} {bytes} {G} {ps} {tb} {us} pl =
-    read-plan limit B lens slots count bytes G ps tb (held-size (pl .held)) (held-list (pl .held)) (contentsOf (nodeAt tb) us) (held-contents (pl .held))
+plan-read : {g : Geometry} {limit B : ℕ} {lens slots : List ℕ} {count : ℕ} {bytes : List ℕ} {G : ℕ} {ps : List Page} {tb : List Node} {us : List U.Unit}
+    → Plannable g limit B lens slots count bytes ps tb G us → planRead g limit B lens slots count bytes G ps ≡ planOf g limit B ps tb G us
+plan-read {g} {limit} {B} {lens} {slots} {count} {bytes} {G} {ps} {tb} {us} pl =
+    read-plan g limit B lens slots count bytes G ps tb (held-size (pl .held)) (held-list (pl .held)) (contentsOf (nodeAt tb) us) (held-contents (pl .held))
 
-module _ {limit B : ℕ} {lens slots : List ℕ} {count : ℕ} {bytes : List ℕ} {G : ℕ} {ps : List Page} {targets sizes units : List ℕ} {r : M.Plan}
-    (m : Makes limit B lens slots count bytes G ps targets sizes units r) where
+module _ {g : Geometry} {limit B : ℕ} {lens slots : List ℕ} {count : ℕ} {bytes : List ℕ} {G : ℕ} {ps : List Page} {targets sizes units : List ℕ} {r : M.Plan}
+    (m : Makes g limit B lens slots count bytes G ps targets sizes units r) where
   abbrev N : Contents
-  N = contentsIn small limit ps lens slots count bytes
+  N = contentsIn g limit ps lens slots count bytes
 
   abbrev un : List ℕ
-  un = unusedOf limit B lens slots G ps
+  un = unusedOf g limit B lens slots G ps
 
   -- the plan that is read is the one of its decision
   abbrev q : Plan
-  q = planRead limit B lens slots count bytes G ps
+  q = planRead g limit B lens slots count bytes G ps
 
-  read-is : (D : Decision) → decisionOf limit B lens slots count bytes G ps ≡ D → q ≡ planOver limit ps un N D
+  read-is : (D : Decision) → decisionOf g limit B lens slots count bytes G ps ≡ D → q ≡ planOver g limit ps un N D
   unfolding planRead
-  read-is D e = ap (planOver limit ps un N) e
+  read-is D e = ap (planOver g limit ps un N) e
 
   -- ---- no page: the plan has none
-  none-by : (D : Decision) → decisionOf limit B lens slots count bytes G ps ≡ D → r .pages ≡ 0 → isEmpty (planOver limit ps un N D .written) ≡ true
+  none-by : (D : Decision) → decisionOf g limit B lens slots count bytes G ps ≡ D → r .pages ≡ 0 → isEmpty (planOver g limit ps un N D .written) ≡ true
   none-by nothing e z = refl
   none-by (follow A) e z =
       let c : A .count ≡ r .pages = m .decision .is A e .count in
-      sheets-none (take (suc (length (allPacks N A limit))) (places small ps (headBlock small ps) un)) (allPacks N A limit)
+      sheets-none (take (suc (length (allPacks N A limit))) (places g ps (headBlock g ps) un)) (allPacks N A limit)
       (length-tab (pagePacks (writtenOf N (A .isAnew)) (A .target) limit) 0 (A .count) ∙ c ∙ z)
 
   pub read-none : r .pages ≡ 0 → isEmpty (q .written) ≡ true
   read-none z =
-      let D = decisionOf limit B lens slots count bytes G ps in
+      let D = decisionOf g limit B lens slots count bytes G ps in
       ap (λ (p : Plan). isEmpty (p .written)) (read-is D refl) ∙ none-by D refl z
 
   -- ---- pages: the plan that the arrays name
-  module _ (A : Assignment) (e : decisionOf limit B lens slots count bytes G ps ≡ follow A) (some : 0 < r .pages) where
+  module _ (A : Assignment) (e : decisionOf g limit B lens slots count bytes G ps ≡ follow A) (some : 0 < r .pages) where
     abbrev f : ℕ → List Update
     f = writtenOf N (A .isAnew)
 
     abbrev ks : List (List Pack)
     ks = allPacks N A limit
 
-    held : HoldsAssignment limit N targets sizes units (r .pages) A
+    held : HoldsAssignment g limit N targets sizes units (r .pages) A
     held = m .decision .is A e
 
-    laid : LaysPlan B (headBlock small ps) un (r .pages) ps r
+    laid : LaysPlan g B (headBlock g ps) un (r .pages) ps r
     laid = m .laid some
 
     page-is : (p : ℕ) → pagePacks f (targetIn targets) limit p ≡ pagePacks f (A .target) limit p
@@ -145,22 +145,22 @@ module _ {limit B : ℕ} {lens slots : List ℕ} {count : ℕ} {bytes : List ℕ
     ks-many = length-tab (pagePacks f (A .target) limit) 0 (A .count) ∙ held .count
 
     abbrev ws : List ℕ
-    ws = places small ps (headBlock small ps) un
+    ws = places g ps (headBlock g ps) un
 
     first-is : take (suc (r .pages)) (r .places) ≡ take (suc (r .pages)) ws
     first-is =
         subst (λ (n : ℕ). take n (r .places) ≡ take n ws) (add-one (r .pages))
-        (laid .places ∙ first-places-is small ps (headBlock small ps) un (r .pages + 1))
+        (laid .places ∙ first-places-is g ps (headBlock g ps) un (r .pages + 1))
 
     sheets-is : sheets (take (r .pages) (r .places)) ks ≡ sheets (take (suc (length ks)) ws) ks
     sheets-is =
         sheets-take (r .pages) (r .places) ks (omega (arith, ks-many)) ∙ sym (sheets-take (suc (r .pages)) (r .places) ks (omega (arith, ks-many)))
         ∙ ap (λ (xs : List ℕ). sheets xs ks) first-is ∙ ap (λ (n : ℕ). sheets (take (suc n) ws) ks) (sym ks-many)
 
-    erased-is : take (r .erases) (r .erased) ≡ erases small ps (take (suc (length ks)) ws) un
+    erased-is : take (r .erases) (r .erased) ≡ erases g ps (take (suc (length ks)) ws) un
     erased-is =
-        laid .erased ∙ first-erases-is small ps (headBlock small ps) un (r .pages + 1)
-        ∙ ap (λ (n : ℕ). erases small ps (take n ws) un) (add-one (r .pages) ∙ ap suc (sym ks-many))
+        laid .erased ∙ first-erases-is g ps (headBlock g ps) un (r .pages + 1)
+        ∙ ap (λ (n : ℕ). erases g ps (take n ws) un) (add-one (r .pages) ∙ ap suc (sym ks-many))
 
     pub named-is : namedPlan limit f targets r ≡ q
     named-is =
@@ -182,78 +182,78 @@ module _ {limit B : ℕ} {lens slots : List ℕ} {count : ℕ} {bytes : List ℕ
         within : (k n w t : ℕ) → k ≡ n → n + 1 ≤ w → (suc k ≤ w → t ≡ suc k) → k ≤ t
         within k n w t e h f = omega (arith, f (omega arith))
 
-    pub named-holds : Holds limit f targets sizes units (r .pages)
+    pub named-holds : Holds g limit f targets sizes units (r .pages)
     named-holds =
         record {
           written = held .written;
-          fits = λ p l. let z : length (unitsOfPacks (pagePacks f (A .target) limit p)) ≤ 42 = held .fits p in rw (page-is p) z;
+          fits = λ p l. let z : length (unitsOfPacks (pagePacks f (A .target) limit p)) ≤ g .units = held .fits p in rw (page-is p) z;
         }
 
   -- a decision with pages is to follow an assignment
-  pub follows : (D : Decision) → decisionOf limit B lens slots count bytes G ps ≡ D → 0 < r .pages → (A : Assignment) × (decisionOf limit B lens slots count bytes G ps ≡ follow A)
+  pub follows : (D : Decision) → decisionOf g limit B lens slots count bytes G ps ≡ D → 0 < r .pages → (A : Assignment) × (decisionOf g limit B lens slots count bytes G ps ≡ follow A)
   follows nothing e h = absurd (omega (arith, m .decision .count, ap pageCount e))
   follows (follow A) e h = (A, e)
 
   pub read-some : 0 < r .pages → isEmpty (q .written) ≡ false
-  read-some h = let x = follows (decisionOf limit B lens slots count bytes G ps) refl h in some-by (x .0) (x .1) h
+  read-some h = let x = follows (decisionOf g limit B lens slots count bytes G ps) refl h in some-by (x .0) (x .1) h
 
   -- as many pages and erases as the code's plan says
   pub read-pages : 0 < r .pages → length (q .written) ≡ r .pages
   read-pages h =
-      let x = follows (decisionOf limit B lens slots count bytes G ps) refl h in
+      let x = follows (decisionOf g limit B lens slots count bytes G ps) refl h in
       pages-by (x .0) (x .1) h
 
   pub read-erases : 0 < r .pages → length (q .erased) ≡ r .erases
   read-erases h =
-      let x = follows (decisionOf limit B lens slots count bytes G ps) refl h in
+      let x = follows (decisionOf g limit B lens slots count bytes G ps) refl h in
       ap (λ (p : Plan). length (p .erased)) (sym (named-is (x .0) (x .1) h)) ∙ m .laid h .many
 
   -- ---- arrays that hold a table
-  module _ {tb : List Node} {us : List U.Unit} (pl : Plannable limit B lens slots count bytes ps tb G us) where
-    plan-ready : Committable small limit B ps tb G us
+  module _ {tb : List Node} {us : List U.Unit} (pl : Plannable g limit B lens slots count bytes ps tb G us) where
+    plan-ready : Committable g limit B ps tb G us
     plan-ready =
-        ready small limit B ps tb G us (record { is = pl .held .is; clean = pl .held .clean }) (pl .number) (pl .bytes) (pl .sizes) (pl .long)
+        ready g limit B ps tb G us (record { is = pl .held .is; clean = pl .held .clean }) (pl .number) (pl .bytes) (pl .sizes) (pl .long)
         (record { pending = pl .some; valid = pl .valid; whole = pl .whole })
 
     -- each page of the plan has units that fit it and obey the layout
-    plan-holds : (torn : List ℕ) → length torn ≡ 528 → 3 ≤ B → All (ValidSheet small limit) (planOf small limit B ps tb G us .written)
-    plan-holds torn size many =
+    plan-holds : Fits g → (torn : List ℕ) → length torn ≡ pageSize g → 3 ≤ B → All (ValidSheet g limit) (planOf g limit B ps tb G us .written)
+    plan-holds f torn size many =
         ⊎-elim
-        (λ (e : planOf small limit B ps tb G us ≡ stuck). subst (λ (p : Plan). All (ValidSheet small limit) (p .written)) (sym e) none)
-        (λ (sf : Safe small limit B (spareBlocks small B) torn ps tb G us (planOf small limit B ps tb G us)). sf .pages-hold)
-        (foreign small limit B torn (subst (λ (n : ℕ). Chip small n B torn) (sym (pl .limits)) (chip-small B torn size)) ps tb G us plan-ready (pl .some) (wide-small B many))
+        (λ (e : planOf g limit B ps tb G us ≡ stuck). subst (λ (p : Plan). All (ValidSheet g limit) (p .written)) (sym e) none)
+        (λ (sf : Safe g limit B (spareBlocks g B) torn ps tb G us (planOf g limit B ps tb G us)). sf .pages-hold)
+        (foreign g limit B torn (subst (λ (n : ℕ). Chip g n B torn) (sym (pl .limits)) (chip-of g f B torn size)) ps tb G us plan-ready (pl .some) (wide g f B many))
 
     -- its pages noted
-    pub listed : 0 < r .pages → (torn : List ℕ) → length torn ≡ 528 → 3 ≤ B → B ≤ 32 → {p reached : Progress} {before after u v : List ℕ}
-        → CarriesOut limit G r targets sizes units torn p reached before after lens slots u v
-        → (n : ℕ) → n < limit → Stores u v n (foldl (turn n) (nodeAt tb n) (events limit (newsOf small G q)) .pages)
-    listed h torn size many most {p} {reached} {before} {after} {u} {v} c =
-        let y = follows (decisionOf limit B lens slots count bytes G ps) refl h in
+    pub listed : 0 < r .pages → Fits g → (torn : List ℕ) → length torn ≡ pageSize g → 3 ≤ B → B ≤ 32 → {p reached : Progress} {before after u v : List ℕ}
+        → CarriesOut g limit G r targets sizes units torn p reached before after lens slots u v
+        → (n : ℕ) → n < limit → Stores u v n (foldl (turn n) (nodeAt tb n) (events limit (newsOf g G q)) .pages)
+    listed h part torn size many most {p} {reached} {before} {after} {u} {v} c =
+        let y = follows (decisionOf g limit B lens slots count bytes G ps) refl h in
         let e = named-is (y .0) (y .1) h in
-        let valid : All (ValidSheet small limit) (q .written) = subst (λ (p : Plan). All (ValidSheet small limit) (p .written)) (sym (plan-read pl)) (plan-holds torn size many) in
-        let turned : Turned (events limit (newsOf small G q)) lens slots u v =
-        subst (λ (p : Plan). Turned (events limit (newsOf small G p)) lens slots u v) e
-        (c .turned (f (y .0) (y .1) h) (named-holds (y .0) (y .1) h) (subst (λ (p : Plan). All (ValidSheet small limit) (p .written)) (sym e) valid)) in
-        stores-after limit (nodeAt tb) (newsOf small G q) lens slots u v (omega (arith, pl .limits)) (pl .held .lists) turned
+        let valid : All (ValidSheet g limit) (q .written) = subst (λ (p : Plan). All (ValidSheet g limit) (p .written)) (sym (plan-read pl)) (plan-holds part torn size many) in
+        let turned : Turned (events limit (newsOf g G q)) lens slots u v =
+        subst (λ (p : Plan). Turned (events limit (newsOf g G p)) lens slots u v) e
+        (c .turned (f (y .0) (y .1) h) (named-holds (y .0) (y .1) h) (subst (λ (p : Plan). All (ValidSheet g limit) (p .written)) (sym e) valid)) in
+        stores-after limit (nodeAt tb) (newsOf g G q) lens slots u v (omega (arith, pl .limits)) (pl .held .lists) turned
 
   -- ---- carried out, on any arrays
-  pub carried : 0 < r .pages → {torn : List ℕ} {p reached : Progress} {before after l s u v : List ℕ} → CarriesOut limit G r targets sizes units torn p reached before after l s u v
-      → Ran small torn (opsOf small G q) p reached before after
+  pub carried : 0 < r .pages → {torn : List ℕ} {p reached : Progress} {before after l s u v : List ℕ} → CarriesOut g limit G r targets sizes units torn p reached before after l s u v
+      → Ran g torn (opsOf g G q) p reached before after
   carried h {torn} {p} {reached} {before} {after} c =
-      let y = follows (decisionOf limit B lens slots count bytes G ps) refl h in
-      subst (λ (x : Plan). Ran small torn (opsOf small G x) p reached before after) (named-is (y .0) (y .1) h) (c .ran (f (y .0) (y .1) h) (named-holds (y .0) (y .1) h))
+      let y = follows (decisionOf g limit B lens slots count bytes G ps) refl h in
+      subst (λ (x : Plan). Ran g torn (opsOf g G x) p reached before after) (named-is (y .0) (y .1) h) (c .ran (f (y .0) (y .1) h) (named-holds (y .0) (y .1) h))
 
-  worn-by : 0 < r .pages → (w x : List ℕ) → x ≡ figuresAfter (map erase (take (r .erases) (r .erased))) w → x ≡ figuresAfter (opsOf small G q) w
+  worn-by : 0 < r .pages → (w x : List ℕ) → x ≡ figuresAfter (map erase (take (r .erases) (r .erased))) w → x ≡ figuresAfter (opsOf g G q) w
   worn-by h w x k =
-      let y = follows (decisionOf limit B lens slots count bytes G ps) refl h in
-      k ∙ ap (λ (p : Plan). figuresAfter (map erase (p .erased)) w) (named-is (y .0) (y .1) h) ∙ commit-figures (q .erased) (newsOf small G q) w
+      let y = follows (decisionOf g limit B lens slots count bytes G ps) refl h in
+      k ∙ ap (λ (p : Plan). figuresAfter (map erase (p .erased)) w) (named-is (y .0) (y .1) h) ∙ commit-figures (q .erased) (newsOf g G q) w
 
 -- ---- the call
-module _ {limit B : ℕ} {lens slots : List ℕ} {count : ℕ} {bytes : List ℕ} {G : ℕ} (before : List ℕ) {targets sizes units : List ℕ} {r : M.Plan}
-    (m : Makes limit B lens slots count bytes G (pagesOf small before) targets sizes units r) where
+module _ {g : Geometry} {limit B : ℕ} {lens slots : List ℕ} {count : ℕ} {bytes : List ℕ} {G : ℕ} (before : List ℕ) {targets sizes units : List ℕ} {r : M.Plan}
+    (m : Makes g limit B lens slots count bytes G (pagesOf g before) targets sizes units r) where
   -- no page: nothing is done
   pub executes-none : r .pages ≡ 0 → (torn : List ℕ) (p : Progress) (l s u v w x : List ℕ)
-      → Executes limit B lens slots count bytes G torn p before before l s u v w x (record { stuck = true; reached = p })
+      → Executes g limit B lens slots count bytes G torn p before before l s u v w x (record { stuck = true; reached = p })
   executes-none z torn p l s u v w x =
       record {
         size = refl;
@@ -265,20 +265,20 @@ module _ {limit B : ℕ} {lens slots : List ℕ} {count : ℕ} {bytes : List ℕ
       }
 
   -- pages: the plan is carried out
-  pub executes-some : 0 < r .pages → (torn : List ℕ) → length torn ≡ 528 → 3 ≤ B → B ≤ 32 → {p reached : Progress} {after l s u v : List ℕ}
-      → CarriesOut limit G r targets sizes units torn p reached before after l s u v
+  pub executes-some : 0 < r .pages → Fits g → (torn : List ℕ) → length torn ≡ pageSize g → 3 ≤ B → B ≤ 32 → {p reached : Progress} {after l s u v : List ℕ}
+      → CarriesOut g limit G r targets sizes units torn p reached before after l s u v
       → {w x : List ℕ} → x ≡ figuresAfter (map erase (take (r .erases) (r .erased))) w
-      → Executes limit B lens slots count bytes G torn p before after l s u v w x (record { stuck = false; reached = reached })
-  executes-some h torn size many most {p} {reached} {after} {l} {s} {u} {v} c {w} {x} k =
+      → Executes g limit B lens slots count bytes G torn p before after l s u v w x (record { stuck = false; reached = reached })
+  executes-some h part torn size many most {p} {reached} {after} {l} {s} {u} {v} c {w} {x} k =
       record {
         size = c .size;
         stuck = sym (read-some m h);
         still = λ e. clash e refl;
         ran = λ e. carried m h c;
         figures = λ e. worn-by m h w x k;
-        lists = λ tb us pl a b e. listed m pl h torn size many most
-            (subst (λ (y : List ℕ). CarriesOut limit G r targets sizes units torn p reached before after y slots u v) a
-            (subst (λ (y : List ℕ). CarriesOut limit G r targets sizes units torn p reached before after l y u v) b c));
+        lists = λ tb us pl a b e. listed m pl h part torn size many most
+            (subst (λ (y : List ℕ). CarriesOut g limit G r targets sizes units torn p reached before after y slots u v) a
+            (subst (λ (y : List ℕ). CarriesOut g limit G r targets sizes units torn p reached before after l y u v) b c));
       }
 
   -- what the execution asks of the plan
@@ -288,7 +288,7 @@ module _ {limit B : ℕ} {lens slots : List ℕ} {count : ℕ} {bytes : List ℕ
       go : 2 * r .pages ≤ suc limit → r .pages ≤ 128
       go k = omega arith
 
-  pub places-on : 0 < r .pages → All (λ (x : ℕ). x < B * 32) (take (r .pages) (r .places))
+  pub places-on : 0 < r .pages → All (λ (x : ℕ). x < B * g .pages) (take (r .pages) (r .places))
   places-on h =
-      subst (All (λ (x : ℕ). x < B * 32)) (take-take (r .pages) (r .pages + 1) (r .places) (omega arith))
+      subst (All (λ (x : ℕ). x < B * g .pages)) (take-take (r .pages) (r .pages + 1) (r .places) (omega arith))
       (All-take (r .pages) (m .laid h .on))

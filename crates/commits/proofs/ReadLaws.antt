@@ -3,7 +3,7 @@ use mathlib.Core.Path.{_≡_, refl, ap, ap₂, _∙_}
 use mathlib.Core.List.{List, reverse}
 use Prim.Native.Nat.{ℕ, _<_}
 use lib.ListN.{length}
-use Rattle.chip.specs.Geometry.{small}
+use Rattle.chip.specs.Geometry.{Geometry}
 use Rattle.chip.specs.Page.{Page}
 use Rattle.pages.specs.Steps.{liveFrom}
 use Rattle.views.specs.Table.{Node}
@@ -17,28 +17,28 @@ use Rattle.plan.specs.MakeCode.{decisionOf, unusedOf, usedOf}
 use Rattle.plan.proofs.SurveyLaws.{around-is, unused-is}
 use Rattle.commits.specs.ExecuteCode.{planOver, planRead}
 
-module _ (limit B : ℕ) (lens slots : List ℕ) (count : ℕ) (bytes : List ℕ) (G : ℕ) (ps : List Page) (tb : List Node) (size : length tb ≡ limit)
+module _ (g : Geometry) (limit B : ℕ) (lens slots : List ℕ) (count : ℕ) (bytes : List ℕ) (G : ℕ) (ps : List Page) (tb : List Node) (size : length tb ≡ limit)
     (lists : (n : ℕ) → n < limit → storedList lens slots n ≡ reverse (nodeAt tb n .pages)) (M : Contents) where
   abbrev N : Contents
-  N = contentsIn small limit ps lens slots count bytes
+  N = contentsIn g limit ps lens slots count bytes
 
   -- blocks are those of the table
-  un-is : unusedOf limit B lens slots G ps ≡ unusedBlocks small B ps tb G
-  un-is = unused-is small limit lens slots G (liveFrom small 0 ps) tb size lists B (headBlock small ps)
+  un-is : unusedOf g limit B lens slots G ps ≡ unusedBlocks g B ps tb G
+  un-is = unused-is g limit lens slots G (liveFrom g 0 ps) tb size lists B (headBlock g ps)
 
-  us-is : usedOf limit B lens slots G ps ≡ usedBlocks small B ps tb G
-  us-is = around-is small limit lens slots G (liveFrom small 0 ps) tb size lists B (headBlock small ps)
+  us-is : usedOf g limit B lens slots G ps ≡ usedBlocks g B ps tb G
+  us-is = around-is g limit lens slots G (liveFrom g 0 ps) tb size lists B (headBlock g ps)
 
-  decision-is : decisionOf limit B lens slots count bytes G ps ≡ decide small limit B ps tb G N
-  decision-is = ap₂ (λ (xs ys : List ℕ). decideOn small limit (spareBlocks small B) ps (headBlock small ps) xs ys N) un-is us-is
+  decision-is : decisionOf g limit B lens slots count bytes G ps ≡ decide g limit B ps tb G N
+  decision-is = ap₂ (λ (xs ys : List ℕ). decideOn g limit (spareBlocks g B) ps (headBlock g ps) xs ys N) un-is us-is
 
-  over-is : (D : Decision) → planOver limit ps (unusedOf limit B lens slots G ps) N D ≡ planBy small limit B ps tb G N D
+  over-is : (D : Decision) → planOver g limit ps (unusedOf g limit B lens slots G ps) N D ≡ planBy g limit B ps tb G N D
   over-is nothing = refl
-  over-is (follow A) = ap (λ (bs : List ℕ). planOn small ps (headBlock small ps) bs (allPacks N A limit)) un-is
+  over-is (follow A) = ap (λ (bs : List ℕ). planOn g ps (headBlock g ps) bs (allPacks N A limit)) un-is
 
-  pub read-plan : SameContents limit N M → planRead limit B lens slots count bytes G ps ≡ planBy small limit B ps tb G M (decide small limit B ps tb G M)
+  pub read-plan : SameContents limit N M → planRead g limit B lens slots count bytes G ps ≡ planBy g limit B ps tb G M (decide g limit B ps tb G M)
   unfolding planRead
   read-plan same =
-      over-is (decisionOf limit B lens slots count bytes G ps) ∙ ap (planBy small limit B ps tb G N) decision-is
-      ∙ plan-by-same small limit B ps tb G N M (decide small limit B ps tb G N) (decide small limit B ps tb G M) same
-      (decide-same small limit (spareBlocks small B) ps (headBlock small ps) (unusedBlocks small B ps tb G) (usedBlocks small B ps tb G) N M same)
+      over-is (decisionOf g limit B lens slots count bytes G ps) ∙ ap (planBy g limit B ps tb G N) decision-is
+      ∙ plan-by-same g limit B ps tb G N M (decide g limit B ps tb G N) (decide g limit B ps tb G M) same
+      (decide-same g limit (spareBlocks g B) ps (headBlock g ps) (unusedBlocks g B ps tb G) (usedBlocks g B ps tb G) N M same)

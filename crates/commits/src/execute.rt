@@ -2,6 +2,7 @@
 ghost use mathlib.Core.Path.{_≡_};
 ghost use Prim.Native.Nat.{_*_, _<_, _≤_};
 ghost use lib.ListN.{length};
+ghost use Rattle.chip.specs.Geometry.{Fits, blockSize, pageSize};
 ghost use Rattle.commits.specs.ExecuteCode.{Executes};
 use chip::progress::Progress;
 use execution::execute as carry;
@@ -30,9 +31,9 @@ pub fn execute(
     new_slots: &mut [u32; 1024],
     new_erases: &mut [u64; 32],
 ) -> Ended
-    requires { ⌜ (length (now image) ≡ basis .blocks * 16896) × (3 ≤ basis .blocks) × (basis .blocks ≤ 32) × (basis .count ≤ 960) × (length (now torn) ≡ 528)
-        × (basis .commit < 4294967295) ⌝ }
-    ensures { λ r. ⌜ Executes (8 * basis .blocks) (basis .blocks) (now (lens .entry)) (now (slots .entry)) (basis .count) (now (buffer .entry)) (basis .commit) (now (torn .entry)) progress
+    requires { ⌜ (length (now image) ≡ basis .blocks * blockSize (basis .geometry)) × (3 ≤ basis .blocks) × (basis .blocks ≤ 32) × (basis .count ≤ 960) × (length (now torn) ≡ pageSize (basis .geometry))
+        × (basis .commit < 4294967295) × Fits (basis .geometry) ⌝ }
+    ensures { λ r. ⌜ Executes (basis .geometry) (8 * basis .blocks) (basis .blocks) (now (lens .entry)) (now (slots .entry)) (basis .count) (now (buffer .entry)) (basis .commit) (now (torn .entry)) progress
         (now (image .entry)) (now (image .exit)) (now («new_lens» .entry)) (now («new_slots» .entry)) (now («new_lens» .exit)) (now («new_slots» .exit))
         (now («new_erases» .entry)) (now («new_erases» .exit)) r ⌝ }
 {
@@ -55,7 +56,9 @@ pub fn execute(
             reached: progress,
         };
     }
+    let geometry = basis.geometry;
     let commit = Commit {
+        geometry,
         blocks: basis.blocks,
         number: basis.commit,
     };

@@ -2,7 +2,7 @@
 ghost use mathlib.Core.Path.{_≡_};
 ghost use Prim.Native.Nat.{_*_, _≤_};
 ghost use lib.ListN.{length};
-ghost use Rattle.chip.specs.Geometry.{small};
+ghost use Rattle.chip.specs.Geometry.{Fits, blockSize};
 ghost use Rattle.chip.specs.Chip.{pagesOf};
 ghost use Rattle.commits.specs.ExecuteCode.{Costs};
 use chip::progress;
@@ -24,9 +24,9 @@ pub fn forecast(
     buffer: &[u8; 11520],
     basis: Basis,
 ) -> Cost
-    requires { ⌜ (length (now image) ≡ basis .blocks * 16896) × (3 ≤ basis .blocks) × (basis .blocks ≤ 32) × (basis .count ≤ 960) ⌝ }
-    ensures { λ r. ⌜ Costs (8 * basis .blocks) (basis .blocks) (now (lens .entry)) (now (slots .entry)) (basis .count) (now (buffer .entry)) (basis .commit)
-        (pagesOf small (now (image .entry))) r ⌝ }
+    requires { ⌜ (length (now image) ≡ basis .blocks * blockSize (basis .geometry)) × (3 ≤ basis .blocks) × (basis .blocks ≤ 32) × (basis .count ≤ 960) × Fits (basis .geometry) ⌝ }
+    ensures { λ r. ⌜ Costs (basis .geometry) (8 * basis .blocks) (basis .blocks) (now (lens .entry)) (now (slots .entry)) (basis .count) (now (buffer .entry)) (basis .commit)
+        (pagesOf (basis .geometry) (now (image .entry))) r ⌝ }
 {
     let mut targets = [0; 256];
     let mut sizes = [0; 256];

@@ -3,8 +3,8 @@ use mathlib.Core.Path.{_≡_, refl, sym, ap, ap₂, _∙_}
 use mathlib.Core.Bool.{Bool, true, false, cond, _&&_, _||_, not}
 use mathlib.Core.List.{List, _∷_}
 use mathlib.Core.Logic.{⊎-elim}
-use Prim.Native.Nat.{ℕ, _+_, _*_, _-_, _/_, _<_, _≤_, min}
-use native.Mathlib.Nat.{div-mul-le-self, lt-div-mul-add}
+use Prim.Native.Nat.{ℕ, _+_, _*_, _-_, _<_, _≤_, min}
+use native.Mathlib.Nat.{mul-le-mul}
 use native.Mathlib.Numerals.{add-one}
 use native.Mathlib.Omega.{arith}
 use lib.Dec.{eqb, leb, ltb}
@@ -15,7 +15,7 @@ use Rattle.lists.specs.Lists.{any, bit}
 use Rattle.lists.proofs.Places.{getD-same}
 use Rattle.lists.proofs.Filters.{bit-most}
 use Rattle.lists.proofs.Tests.{below-or-not, cases, clash, neither-left, neither-right}
-use Rattle.chip.specs.Geometry.{small}
+use Rattle.chip.specs.Geometry.{Geometry}
 use Rattle.chip.specs.Page.{Page}
 use Rattle.chip.specs.Chip.{inBlock}
 use Rattle.pages.specs.declared.unit.Update.{Update}
@@ -24,18 +24,23 @@ use Rattle.views.specs.Stored.{storedList}
 use Rattle.log.specs.Plan.{rewrite}
 use Rattle.log.specs.Admissible.{Contents}
 use Rattle.log.specs.PlanCode.{KeepsUnits, isMarked}
-use Rattle.log.proofs.PlanPlaces.{in-block, out-block}
 use Rattle.contents.specs.ContentsCode.{AllRead, FillsArray, Keeps, KeepsRead, Measured, ReadsNode, ReadsNodes, Tallied, contentsIn, isForcedBy, isRead, isWanted, ownIn}
 use Rattle.contents.proofs.UnitsLaws.{keeps-other, keeps-this}
 
--- ---- the block of a page
-pub block-is : (p b : ℕ) → eqb (p / 32) b ≡ inBlock small b p
-block-is p b =
-    let low = div-mul-le-self p 32 in
-    let high : p < p / 32 * 32 + 32 = lt-div-mul-add (omega arith) in
-    cases (eqb (p / 32) b)
-    (λ t. t ∙ sym (ap (λ (i : ℕ). inBlock small i p) (sym (eqb-true (p / 32) b t)) ∙ in-block small (p / 32) p (low, high)))
-    (λ t. t ∙ sym (out-block small (p / 32) b p (low, high) (eqb-false (p / 32) b t)))
+-- ---- a page and a block
+module _ (g : Geometry) (b : ℕ) where
+  -- the first page of any block is a number that fits the code's
+  pub block-most : b < 4294967296 → g .pages ≤ 64 → b * g .pages ≤ 274877906944
+  block-most h k = let l : b ≤ 4294967296 = omega arith in mul-le-mul l k
+
+  -- a page before the first is not of the block; another is where it is before the end
+  pub block-before : (p : ℕ) → p < b * g .pages → false ≡ inBlock g b p
+  unfolding inBlock
+  block-before p h = rw (lt-leb (b * g .pages) p h)
+
+  pub block-from : (p : ℕ) → b * g .pages ≤ p → ltb p (b * g .pages + g .pages) ≡ inBlock g b p
+  unfolding inBlock
+  block-from p h = rw (le-leb (b * g .pages) p h)
 
 -- ---- a node's list, page by page
 list-is : (lens slots : List ℕ) (n used : ℕ) → used ≡ min (getD lens n 0) 4 → storedList lens slots n ≡ take used (drop (4 * n) slots)
@@ -46,7 +51,7 @@ list-is lens slots n used e =
     (λ t. let l = ltb-true used 4 t in let q : k ≡ used = omega arith in rw q (take-take used 4 d (omega arith)))
     (λ t. let l = ltb-false used 4 t in let q : used ≡ 4 = omega arith in rw q (take-all k (take 4 d) (rw length-take (omega arith))))
 
-module _ (lens slots : List ℕ) (n used : ℕ) (many : used ≡ length (storedList lens slots n)) (size : length slots ≡ 1024) (on : n < 256) (b i : ℕ) where
+module _ (g : Geometry) (lens slots : List ℕ) (n used : ℕ) (many : used ≡ length (storedList lens slots n)) (size : length slots ≡ 1024) (on : n < 256) (b i : ℕ) where
   abbrev list : List ℕ
   list = storedList lens slots n
 
@@ -59,16 +64,16 @@ module _ (lens slots : List ℕ) (n used : ℕ) (many : used ≡ length (storedL
       drop-cons list i 0 (rw (← many) h) ∙ ap₂ (λ (x j : ℕ). x ∷ drop j list) at (sym (add-one i))
 
   -- a page of the block, and a page of another
-  pub listed-here : i < used → any (inBlock small b) (drop i list) ≡ any (inBlock small b) list → true ≡ inBlock small b (getD slots (4 * n + i) 0)
-      → true ≡ any (inBlock small b) list
-  listed-here h left t = sym (sym left ∙ ap (any (inBlock small b)) (next h) ∙ rw (← t))
+  pub listed-here : i < used → any (inBlock g b) (drop i list) ≡ any (inBlock g b) list → true ≡ inBlock g b (getD slots (4 * n + i) 0)
+      → true ≡ any (inBlock g b) list
+  listed-here h left t = sym (sym left ∙ ap (any (inBlock g b)) (next h) ∙ rw (← t))
 
-  pub listed-next : i < used → any (inBlock small b) (drop i list) ≡ any (inBlock small b) list → false ≡ inBlock small b (getD slots (4 * n + i) 0)
-      → any (inBlock small b) (drop (i + 1) list) ≡ any (inBlock small b) list
-  listed-next h left t = sym (ap (any (inBlock small b)) (next h) ∙ rw (← t)) ∙ left
+  pub listed-next : i < used → any (inBlock g b) (drop i list) ≡ any (inBlock g b) list → false ≡ inBlock g b (getD slots (4 * n + i) 0)
+      → any (inBlock g b) (drop (i + 1) list) ≡ any (inBlock g b) list
+  listed-next h left t = sym (ap (any (inBlock g b)) (next h) ∙ rw (← t)) ∙ left
 
-  pub listed-done : used ≤ i → any (inBlock small b) (drop i list) ≡ any (inBlock small b) list → false ≡ any (inBlock small b) list
-  listed-done h left = ap (any (inBlock small b)) (sym (drop-of-length-le list {i = i} (omega (arith, many)))) ∙ left
+  pub listed-done : used ≤ i → any (inBlock g b) (drop i list) ≡ any (inBlock g b) list → false ≡ any (inBlock g b) list
+  listed-done h left = ap (any (inBlock g b)) (sym (drop-of-length-le list {i = i} (omega (arith, many)))) ∙ left
 
 -- ---- arrays filled
 pub fills-start : (f : ℕ → ℕ) (xs : List ℕ) → FillsArray 0 f xs xs
@@ -202,12 +207,12 @@ marked-bit true = refl
 marked-bit false = refl
 
 -- ---- all of it
-module _ (limit oldest : ℕ) (ps : List Page) (lens slots : List ℕ) (count : ℕ) (buffer : List ℕ) (parts resets forms wholes₀ wholes olds₀ olds units₀ units : List ℕ) where
+module _ (g : Geometry) (limit oldest : ℕ) (ps : List Page) (lens slots : List ℕ) (count : ℕ) (buffer : List ℕ) (parts resets forms wholes₀ wholes olds₀ olds units₀ units : List ℕ) where
   abbrev N : Contents
-  N = contentsIn small limit ps lens slots count buffer
+  N = contentsIn g limit ps lens slots count buffer
 
   module _ (few : limit ≤ 256) (t : Tallied limit count buffer parts resets) (z : wholes₀ ≡ replicate 256 0) (lo : length olds₀ ≡ 256)
-      (o : FillsArray limit (λ (n : ℕ). bit (any (inBlock small oldest) (storedList lens slots n))) olds₀ olds)
+      (o : FillsArray limit (λ (n : ℕ). bit (any (inBlock g oldest) (storedList lens slots n))) olds₀ olds)
       (r : ReadsNodes limit (isWanted false parts olds) (λ (n : ℕ). rewrite (N .after n)) wholes₀ wholes units₀ units)
       (m : FillsArray limit (λ (n : ℕ). bit (isForcedBy (getD resets n 0) (getD parts n 0) (getD wholes n 0) (length (storedList lens slots n)))) resets forms) where
     zeros : (n : ℕ) → getD wholes₀ n 0 ≡ 0
@@ -232,10 +237,10 @@ module _ (limit oldest : ℕ) (ps : List Page) (lens slots : List ℕ) (count : 
     form-is : (n : ℕ) → n < limit → isMarked forms n ≡ isForcedBy (getD resets n 0) (getD parts n 0) (getD wholes n 0) (length (storedList lens slots n))
     form-is n l = ap (λ (x : ℕ). eqb x 1) (m .done n l) ∙ marked-bit (isForcedBy (getD resets n 0) (getD parts n 0) (getD wholes n 0) (length (storedList lens slots n)))
 
-    pub measured : Measured limit oldest N parts resets forms wholes olds units
+    pub measured : Measured g limit oldest N parts resets forms wholes olds units
     measured =
         record {
-          old = λ n l. ap (λ (x : ℕ). eqb x 1) (o .done n l) ∙ marked-bit (any (inBlock small oldest) (storedList lens slots n));
+          old = λ n l. ap (λ (x : ℕ). eqb x 1) (o .done n l) ∙ marked-bit (any (inBlock g oldest) (storedList lens slots n));
           form = λ n l. form-is n l
               ∙ forced-is (getD resets n 0) (getD parts n 0) (getD wholes n 0) (length (storedList lens slots n)) (ownIn limit n count buffer) (rewrite (N .after n))
               (t .part n (omega arith)) (t .reset n (omega arith)) (λ h. whole-read n l (rw (lt-ltb 0 (getD parts n 0) h)));

@@ -10,6 +10,7 @@ use lib.Seq.{getD-set-other, getD-set-same, take-all}
 use borrow.Author.Tests.{eq-eqb, eqb-false, eqb-true, ne-eqb}
 use Rattle.lists.proofs.Places.{getD-default}
 use Rattle.lists.proofs.Tests.{cases, clash}
+use Rattle.chip.specs.Geometry.{Geometry}
 use Rattle.pages.specs.declared.unit.Update.{Update}
 use Rattle.log.specs.Plan.{rewrite}
 use Rattle.log.specs.Admissible.{Contents}
@@ -144,12 +145,12 @@ module _ (limit : ℕ) (own : ℕ → List Update) (targets forms wholes parts u
 -- ---- which nodes are ready
 module _ (limit : ℕ) (N : Contents) (targets parts forms wholes units : List ℕ) where
   -- in a delta: the nodes with a page were read, and what must be written anew is
-  pub ready-delta : (oldest : ℕ) (resets marks olds : List ℕ) → Measured limit oldest N parts resets marks wholes olds units
+  pub ready-delta : (g : Geometry) (oldest : ℕ) (resets marks olds : List ℕ) → Measured g limit oldest N parts resets marks wholes olds units
       → ((n : ℕ) → n < limit → getD parts n 0 ≡ length (N .buffered n))
       → ((n : ℕ) → n < limit → isUnwritten (targetIn targets n) ≡ false → isRead parts olds n ≡ true)
       → ((n : ℕ) → n < limit → isMarked forms n ≡ false → isMarked marks n ≡ false)
       → Readies 0 limit (λ (n : ℕ). rewrite (N .after n)) (N .buffered) targets forms wholes parts units
-  ready-delta oldest resets marks olds m p r f =
+  ready-delta g oldest resets marks olds m p r f =
       record {
         anew = λ n h l w t. m .kept n l (r n l w);
         part = λ n h l w t. (p n l, omega (arith, m .less n l (f n l t), m .few n));

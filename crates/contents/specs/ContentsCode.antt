@@ -6,7 +6,7 @@ use Prim.Native.Nat.{ℕ, _+_, _*_, _<_, _≤_}
 use lib.Dec.{eqb, leb, ltb}
 use lib.ListN.{getD, length, set, take}
 use Rattle.lists.specs.Lists.{any, flat, patch}
-use Rattle.chip.specs.Geometry.{Geometry, small}
+use Rattle.chip.specs.Geometry.{Geometry}
 use Rattle.chip.specs.Page.{Page}
 use Rattle.chip.specs.Chip.{inBlock}
 use Rattle.pages.specs.declared.unit.Update.{Update}
@@ -124,8 +124,8 @@ KeepsRead limit N parts wholes olds units =
 
 -- what is known of the nodes below limit: the units of each in the buffer, parts; marks of those of the oldest block, olds, and of those
 -- that must be written anew, forms, before that the marks of a reset, resets; how many units each node that was read is anew, wholes, and these units
-pub record Measured (limit oldest : ℕ) (N : Contents) (parts resets forms wholes olds units : List ℕ) : Type 0 where
-  pub old : (n : ℕ) → n < limit → isMarked olds n ≡ any (inBlock small oldest) (N .listed n)
+pub record Measured (g : Geometry) (limit oldest : ℕ) (N : Contents) (parts resets forms wholes olds units : List ℕ) : Type 0 where
+  pub old : (n : ℕ) → n < limit → isMarked olds n ≡ any (inBlock g oldest) (N .listed n)
   pub form : (n : ℕ) → n < limit → isMarked forms n ≡ isForced N n
   pub bits : (n : ℕ) → getD forms n 0 ≤ 1
   pub rest : (n : ℕ) → limit ≤ n → getD forms n 0 ≡ getD resets n 0

@@ -3,40 +3,46 @@ ghost use mathlib.Core.Path.{_≡_};
 ghost use Prim.Native.Nat.{ℕ, _%_, _<_, _≤_};
 ghost use lib.ListN.{getD, length, replicate, set};
 ghost use Rattle.lists.specs.Lists.{any, bit};
-ghost use Rattle.chip.specs.Geometry.{small};
+ghost use Rattle.chip.specs.Geometry.{Fits, pageSize};
 ghost use Rattle.chip.specs.Chip.{pagesOf, inBlock};
 ghost use Rattle.views.specs.Stored.{nodeView, storedList};
 ghost use Rattle.log.specs.Plan.{rewrite};
 ghost use Rattle.contents.specs.ContentsCode.{AllRead, FillsArray, KeepsRead, ReadsNode, ReadsNodes, Measured, Tallied, contentsIn, isForcedBy, isWanted};
 use crate::read;
-use chip::geometry::PAGES;
+use chip::geometry::Geometry;
 use views::view;
+use views::view::Scope;
 
-// The units of the buffer, how many nodes there are, and the oldest block; any number that is no block where there is none.
+// What the nodes are read with, and the oldest block; any number that is no block where there is none.
 pub struct Source {
-    pub count: usize,
-    pub limit: u32,
+    pub scope: Scope,
     pub oldest: usize,
 }
 
 // Is the page in this block?
-fn is_in_block(page: u32, block: usize) -> bool
-    ensures { λ r. ⌜ r ≡ inBlock small block page ⌝ }
+fn is_in_block(geometry: Geometry, page: u32, block: usize) -> bool
+    requires { ⌜ (block < 4294967296) × Fits geometry ⌝ }
+    ensures { λ r. ⌜ r ≡ inBlock geometry block page ⌝ }
 {
     let p = page as usize;
-    p / PAGES == block
+    let pages = geometry.pages;
+    let first = block * pages;
+    if p < first {
+        return false;
+    }
+    p < first + pages
 }
 
 // Is a page of the node's list in this block?
-fn is_listed_in(lens: &[u32], slots: &[u32], node: u32, block: usize) -> bool
-    requires { ⌜ (length (now lens) ≡ 256) × (length (now slots) ≡ 1024) × (node < 256) ⌝ }
-    ensures { λ r. ⌜ r ≡ any (inBlock small block) (storedList (now (lens .entry)) (now (slots .entry)) node) ⌝ }
+fn is_listed_in(geometry: Geometry, lens: &[u32], slots: &[u32], node: u32, block: usize) -> bool
+    requires { ⌜ (length (now lens) ≡ 256) × (length (now slots) ≡ 1024) × (node < 256) × (block < 4294967296) × Fits geometry ⌝ }
+    ensures { λ r. ⌜ r ≡ any (inBlock geometry block) (storedList (now (lens .entry)) (now (slots .entry)) node) ⌝ }
 {
     let used = view::used_slots(lens, slots, node);
     let base = 4 * node as usize;
     let mut i = 0;
     while i < used {
-        if is_in_block(slots[base + i], block) {
+        if is_in_block(geometry, slots[base + i], block) {
             return true;
         }
         i += 1;
@@ -58,13 +64,20 @@ fn put_mark(marks: &mut [u32], number: u32, x: bool)
 }
 
 // The nodes whose lists have a page in the oldest block marked.
-fn mark_olds(lens: &[u32], slots: &[u32], limit: u32, oldest: usize, olds: &mut [u32])
-    requires { ⌜ (length (now lens) ≡ 256) × (length (now slots) ≡ 1024) × (limit ≤ 256) × (length (now olds) ≡ 256) ⌝ }
-    ensures { λ _. ⌜ FillsArray limit (λ (n : ℕ). bit (any (inBlock small oldest) (storedList (now (lens .entry)) (now (slots .entry)) n))) (now (olds .entry)) (now (olds .exit)) ⌝ }
+fn mark_olds(
+    geometry: Geometry,
+    lens: &[u32],
+    slots: &[u32],
+    limit: u32,
+    oldest: usize,
+    olds: &mut [u32],
+)
+    requires { ⌜ (length (now lens) ≡ 256) × (length (now slots) ≡ 1024) × (limit ≤ 256) × (length (now olds) ≡ 256) × (oldest < 4294967296) × Fits geometry ⌝ }
+    ensures { λ _. ⌜ FillsArray limit (λ (n : ℕ). bit (any (inBlock geometry oldest) (storedList (now (lens .entry)) (now (slots .entry)) n))) (now (olds .entry)) (now (olds .exit)) ⌝ }
 {
     let mut n = 0;
     while n < limit {
-        let old = is_listed_in(lens, slots, n, oldest);
+        let old = is_listed_in(geometry, lens, slots, n, oldest);
         put_mark(olds, n, old);
         n += 1;
     }
@@ -92,20 +105,18 @@ fn read_if(
     lens: &[u32; 256],
     slots: &[u32; 1024],
     buffer: &[u8; 11520],
-    source: Source,
+    scope: Scope,
     number: u32,
     wholes: &mut [u32],
     units: &mut [u8],
 )
-    requires { ⌜ (length (now image) % 528 ≡ 0) × (number < 256) × (length (now wholes) ≡ 256) × (length (now units) ≡ 52224) ⌝ }
+    requires { ⌜ (length (now image) % pageSize (scope .geometry) ≡ 0) × (number < 256) × (length (now wholes) ≡ 256) × (length (now units) ≡ 52224) × Fits (scope .geometry) ⌝ }
     ensures { λ _. ⌜ ReadsNode wanted number
-        (rewrite (nodeView small (source .limit) (pagesOf small (now (image .entry))) (now (lens .entry)) (now (slots .entry)) (source .count) (now (buffer .entry)) number))
+        (rewrite (nodeView (scope .geometry) (scope .limit) (pagesOf (scope .geometry) (now (image .entry))) (now (lens .entry)) (now (slots .entry)) (scope .count) (now (buffer .entry)) number))
         (now (wholes .entry)) (now (wholes .exit)) (now (units .entry)) (now (units .exit)) ⌝ }
 {
     if wanted {
-        let count = source.count;
-        let limit = source.limit;
-        let whole = read::keep_node(image, lens, slots, buffer, count, limit, number, units);
+        let whole = read::keep_node(image, lens, slots, buffer, scope, number, units);
         let n = number as usize;
         wholes[n] = whole;
     }
@@ -117,24 +128,24 @@ fn read_nodes(
     lens: &[u32; 256],
     slots: &[u32; 1024],
     buffer: &[u8; 11520],
-    source: Source,
+    scope: Scope,
     others: bool,
     parts: &[u32],
     olds: &[u32],
     wholes: &mut [u32],
     units: &mut [u8],
 )
-    requires { ⌜ (length (now image) % 528 ≡ 0) × (source .limit ≤ 256) × (length (now parts) ≡ 256) × (length (now olds) ≡ 256)
-        × (length (now wholes) ≡ 256) × (length (now units) ≡ 52224) ⌝ }
-    ensures { λ _. ⌜ ReadsNodes (source .limit) (isWanted others (now (parts .entry)) (now (olds .entry)))
-        (λ (n : ℕ). rewrite (nodeView small (source .limit) (pagesOf small (now (image .entry))) (now (lens .entry)) (now (slots .entry)) (source .count) (now (buffer .entry)) n))
+    requires { ⌜ (length (now image) % pageSize (scope .geometry) ≡ 0) × (scope .limit ≤ 256) × (length (now parts) ≡ 256) × (length (now olds) ≡ 256)
+        × (length (now wholes) ≡ 256) × (length (now units) ≡ 52224) × Fits (scope .geometry) ⌝ }
+    ensures { λ _. ⌜ ReadsNodes (scope .limit) (isWanted others (now (parts .entry)) (now (olds .entry)))
+        (λ (n : ℕ). rewrite (nodeView (scope .geometry) (scope .limit) (pagesOf (scope .geometry) (now (image .entry))) (now (lens .entry)) (now (slots .entry)) (scope .count) (now (buffer .entry)) n))
         (now (wholes .entry)) (now (wholes .exit)) (now (units .entry)) (now (units .exit)) ⌝ }
 {
-    let limit = source.limit;
+    let limit = scope.limit;
     let mut n = 0;
     while n < limit {
         let wanted = is_wanted(parts, olds, n, others);
-        read_if(wanted, image, lens, slots, buffer, source, n, wholes, units);
+        read_if(wanted, image, lens, slots, buffer, scope, n, wholes, units);
         n += 1;
     }
 }
@@ -210,20 +221,25 @@ fn measure_in(
     olds: &mut [u32],
     units: &mut [u8],
 )
-    requires { ⌜ (length (now image) % 528 ≡ 0) × (source .limit ≤ 256) × Tallied (source .limit) (source .count) (now buffer) (now parts) (now forms)
-        × (now wholes ≡ replicate 256 0) × (length (now olds) ≡ 256) × (length (now units) ≡ 52224) ⌝ }
-    ensures { λ _. ⌜ Measured (source .limit) (source .oldest)
-        (contentsIn small (source .limit) (pagesOf small (now (image .entry))) (now (lens .entry)) (now (slots .entry)) (source .count) (now (buffer .entry)))
+    requires { ⌜ (length (now image) % pageSize (source .scope .geometry) ≡ 0) × (source .scope .limit ≤ 256)
+        × Tallied (source .scope .limit) (source .scope .count) (now buffer) (now parts) (now forms)
+        × (now wholes ≡ replicate 256 0) × (length (now olds) ≡ 256) × (length (now units) ≡ 52224)
+        × (source .oldest < 4294967296) × Fits (source .scope .geometry) ⌝ }
+    ensures { λ _. ⌜ Measured (source .scope .geometry) (source .scope .limit) (source .oldest)
+        (contentsIn (source .scope .geometry) (source .scope .limit) (pagesOf (source .scope .geometry) (now (image .entry)))
+        (now (lens .entry)) (now (slots .entry)) (source .scope .count) (now (buffer .entry)))
         (now (parts .entry)) (now (forms .entry)) (now (forms .exit)) (now (wholes .exit)) (now (olds .exit)) (now (units .exit)) ⌝ }
 {
-    let limit = source.limit;
-    mark_olds(lens, slots, limit, source.oldest, olds);
+    let scope = source.scope;
+    let geometry = scope.geometry;
+    let limit = scope.limit;
+    mark_olds(geometry, lens, slots, limit, source.oldest, olds);
     read_nodes(
         image,
         lens,
         slots,
         buffer,
-        source,
+        scope,
         false,
         parts,
         olds,
@@ -246,10 +262,12 @@ pub fn measure(
     olds: &mut [u32; 256],
     units: &mut [u8; 52224],
 )
-    requires { ⌜ (length (now image) % 528 ≡ 0) × (source .limit ≤ 256) × Tallied (source .limit) (source .count) (now buffer) (now parts) (now forms)
-        × (now wholes ≡ replicate 256 0) ⌝ }
-    ensures { λ _. ⌜ Measured (source .limit) (source .oldest)
-        (contentsIn small (source .limit) (pagesOf small (now (image .entry))) (now (lens .entry)) (now (slots .entry)) (source .count) (now (buffer .entry)))
+    requires { ⌜ (length (now image) % pageSize (source .scope .geometry) ≡ 0) × (source .scope .limit ≤ 256)
+        × Tallied (source .scope .limit) (source .scope .count) (now buffer) (now parts) (now forms)
+        × (now wholes ≡ replicate 256 0) × (source .oldest < 4294967296) × Fits (source .scope .geometry) ⌝ }
+    ensures { λ _. ⌜ Measured (source .scope .geometry) (source .scope .limit) (source .oldest)
+        (contentsIn (source .scope .geometry) (source .scope .limit) (pagesOf (source .scope .geometry) (now (image .entry)))
+        (now (lens .entry)) (now (slots .entry)) (source .scope .count) (now (buffer .entry)))
         (now (parts .entry)) (now (forms .entry)) (now (forms .exit)) (now (wholes .exit)) (now (olds .exit)) (now (units .exit)) ⌝ }
 {
     measure_in(
@@ -284,28 +302,28 @@ fn rest_in(
     lens: &[u32; 256],
     slots: &[u32; 1024],
     buffer: &[u8; 11520],
-    source: Source,
+    scope: Scope,
     parts: &[u32],
     forms: &mut [u32],
     wholes: &mut [u32],
     olds: &[u32],
     units: &mut [u8],
 )
-    requires { ⌜ (length (now image) % 528 ≡ 0) × (source .limit ≤ 256) × (length (now parts) ≡ 256) × (length (now forms) ≡ 256) × (length (now wholes) ≡ 256)
+    requires { ⌜ (length (now image) % pageSize (scope .geometry) ≡ 0) × (scope .limit ≤ 256) × (length (now parts) ≡ 256) × (length (now forms) ≡ 256) × (length (now wholes) ≡ 256)
         × (length (now olds) ≡ 256) × (length (now units) ≡ 52224)
-        × KeepsRead (source .limit) (contentsIn small (source .limit) (pagesOf small (now image)) (now lens) (now slots) (source .count) (now buffer))
-        (now parts) (now wholes) (now olds) (now units) ⌝ }
-    ensures { λ _. ⌜ AllRead (source .limit)
-        (contentsIn small (source .limit) (pagesOf small (now (image .entry))) (now (lens .entry)) (now (slots .entry)) (source .count) (now (buffer .entry)))
+        × KeepsRead (scope .limit) (contentsIn (scope .geometry) (scope .limit) (pagesOf (scope .geometry) (now image)) (now lens) (now slots) (scope .count) (now buffer))
+        (now parts) (now wholes) (now olds) (now units) × Fits (scope .geometry) ⌝ }
+    ensures { λ _. ⌜ AllRead (scope .limit)
+        (contentsIn (scope .geometry) (scope .limit) (pagesOf (scope .geometry) (now (image .entry))) (now (lens .entry)) (now (slots .entry)) (scope .count) (now (buffer .entry)))
         (now (forms .exit)) (now (wholes .exit)) (now (units .exit)) ⌝ }
 {
-    let limit = source.limit;
+    let limit = scope.limit;
     read_nodes(
         image,
         lens,
         slots,
         buffer,
-        source,
+        scope,
         true,
         parts,
         olds,
@@ -328,19 +346,22 @@ pub fn measure_rest(
     olds: &[u32; 256],
     units: &mut [u8; 52224],
 )
-    requires { ⌜ (length (now image) % 528 ≡ 0) × (source .limit ≤ 256)
-        × KeepsRead (source .limit) (contentsIn small (source .limit) (pagesOf small (now image)) (now lens) (now slots) (source .count) (now buffer))
-        (now parts) (now wholes) (now olds) (now units) ⌝ }
-    ensures { λ _. ⌜ AllRead (source .limit)
-        (contentsIn small (source .limit) (pagesOf small (now (image .entry))) (now (lens .entry)) (now (slots .entry)) (source .count) (now (buffer .entry)))
+    requires { ⌜ (length (now image) % pageSize (source .scope .geometry) ≡ 0) × (source .scope .limit ≤ 256)
+        × KeepsRead (source .scope .limit) (contentsIn (source .scope .geometry) (source .scope .limit) (pagesOf (source .scope .geometry) (now image))
+        (now lens) (now slots) (source .scope .count) (now buffer))
+        (now parts) (now wholes) (now olds) (now units) × Fits (source .scope .geometry) ⌝ }
+    ensures { λ _. ⌜ AllRead (source .scope .limit)
+        (contentsIn (source .scope .geometry) (source .scope .limit) (pagesOf (source .scope .geometry) (now (image .entry)))
+        (now (lens .entry)) (now (slots .entry)) (source .scope .count) (now (buffer .entry)))
         (now (forms .exit)) (now (wholes .exit)) (now (units .exit)) ⌝ }
 {
+    let scope = source.scope;
     rest_in(
         image,
         lens,
         slots,
         buffer,
-        source,
+        scope,
         parts,
         forms,
         wholes,

@@ -2,7 +2,7 @@
 ghost use mathlib.Core.Path.{_≡_};
 ghost use Prim.Native.Nat.{_+_, _*_, _%_, _<_, _≤_};
 ghost use lib.ListN.{length};
-ghost use Rattle.chip.specs.Geometry.{small};
+ghost use Rattle.chip.specs.Geometry.{Fits, pageSize};
 ghost use Rattle.chip.specs.Chip.{pagesOf};
 ghost use Rattle.views.specs.NodeCode.{entriesOf};
 ghost use Rattle.views.specs.FoldCode.{viewOf};
@@ -17,6 +17,7 @@ use views::fold::Folded;
 use views::fold::Stage;
 use views::node::Node;
 use views::view;
+use views::view::Scope;
 
 // An insert for each entry of a node, written from unit `at` on.
 fn put_entries(units: &mut [u8], at: usize, number: u32, node: Node)
@@ -81,15 +82,15 @@ pub fn keep_node(
     lens: &[u32; 256],
     slots: &[u32; 1024],
     buffer: &[u8; 11520],
-    count: usize,
-    limit: u32,
+    scope: Scope,
     number: u32,
     units: &mut [u8],
 ) -> u32
-    requires { ⌜ (length (now image) % 528 ≡ 0) × (number < 256) × (length (now units) ≡ 52224) ⌝ }
-    ensures { λ r. ⌜ Keeps number (rewrite (nodeView small limit (pagesOf small (now (image .entry))) (now (lens .entry)) (now (slots .entry)) count (now (buffer .entry)) number))
+    requires { ⌜ (length (now image) % pageSize (scope .geometry) ≡ 0) × (number < 256) × (length (now units) ≡ 52224) × Fits (scope .geometry) ⌝ }
+    ensures { λ r. ⌜ Keeps number
+        (rewrite (nodeView (scope .geometry) (scope .limit) (pagesOf (scope .geometry) (now (image .entry))) (now (lens .entry)) (now (slots .entry)) (scope .count) (now (buffer .entry)) number))
         (now (units .entry)) (now (units .exit)) r ⌝ }
 {
-    let f = view::node_view(image, lens, slots, buffer, count, number, limit);
+    let f = view::node_view(image, lens, slots, buffer, scope, number);
     keep_view(f, number, units)
 }

@@ -5,11 +5,12 @@ ghost use lib.ListN.{length};
 ghost use Rattle.contents.specs.ContentsCode.{WritesForms, WritesNode, ownIn};
 use crate::measure::Source;
 use crate::own;
+use views::view::Scope;
 
 // The size of a node with a page; its buffered units are kept at its place where it is written in these.
 fn keep_form(
     buffer: &[u8],
-    source: Source,
+    scope: Scope,
     number: u32,
     targets: &[u32],
     forms: &[u32],
@@ -18,9 +19,9 @@ fn keep_form(
     sizes: &mut [u32],
     units: &mut [u8],
 )
-    requires { ⌜ (12 * source .count ≤ length (now buffer)) × (number < 256) × (length (now targets) ≡ 256) × (length (now forms) ≡ 256)
+    requires { ⌜ (12 * scope .count ≤ length (now buffer)) × (number < 256) × (length (now targets) ≡ 256) × (length (now forms) ≡ 256)
         × (length (now wholes) ≡ 256) × (length (now parts) ≡ 256) × (length (now sizes) ≡ 256) × (length (now units) ≡ 52224) ⌝ }
-    ensures { λ _. ⌜ WritesNode number (ownIn (source .limit) number (source .count) (now (buffer .entry)))
+    ensures { λ _. ⌜ WritesNode number (ownIn (scope .limit) number (scope .count) (now (buffer .entry)))
         (now (targets .entry)) (now (forms .entry)) (now (wholes .entry)) (now (parts .entry)) (now (sizes .entry)) (now (sizes .exit)) (now (units .entry)) (now (units .exit)) ⌝ }
 {
     let n = number as usize;
@@ -31,8 +32,8 @@ fn keep_form(
         sizes[n] = wholes[n];
         return;
     }
-    let count = source.count;
-    let limit = source.limit;
+    let count = scope.count;
+    let limit = scope.limit;
     own::keep_own(buffer, count, limit, number, units);
     sizes[n] = parts[n];
 }
@@ -40,7 +41,7 @@ fn keep_form(
 // The same for all nodes, with the arrays as slices.
 fn keep_forms(
     buffer: &[u8],
-    source: Source,
+    scope: Scope,
     targets: &[u32],
     forms: &[u32],
     wholes: &[u32],
@@ -48,17 +49,17 @@ fn keep_forms(
     sizes: &mut [u32],
     units: &mut [u8],
 )
-    requires { ⌜ (12 * source .count ≤ length (now buffer)) × (source .limit ≤ 256) × (length (now targets) ≡ 256) × (length (now forms) ≡ 256)
+    requires { ⌜ (12 * scope .count ≤ length (now buffer)) × (scope .limit ≤ 256) × (length (now targets) ≡ 256) × (length (now forms) ≡ 256)
         × (length (now wholes) ≡ 256) × (length (now parts) ≡ 256) × (length (now sizes) ≡ 256) × (length (now units) ≡ 52224) ⌝ }
-    ensures { λ _. ⌜ WritesForms (source .limit) (λ (n : ℕ). ownIn (source .limit) n (source .count) (now (buffer .entry)))
+    ensures { λ _. ⌜ WritesForms (scope .limit) (λ (n : ℕ). ownIn (scope .limit) n (scope .count) (now (buffer .entry)))
         (now (targets .entry)) (now (forms .entry)) (now (wholes .entry)) (now (parts .entry)) (now (sizes .exit)) (now (units .entry)) (now (units .exit)) ⌝ }
 {
-    let limit = source.limit;
+    let limit = scope.limit;
     let mut n = 0;
     while n < limit {
         keep_form(
             buffer,
-            source,
+            scope,
             n,
             targets,
             forms,
@@ -82,9 +83,10 @@ pub fn keep_written(
     sizes: &mut [u32; 256],
     units: &mut [u8; 52224],
 )
-    requires { ⌜ (source .count ≤ 960) × (source .limit ≤ 256) ⌝ }
-    ensures { λ _. ⌜ WritesForms (source .limit) (λ (n : ℕ). ownIn (source .limit) n (source .count) (now (buffer .entry)))
+    requires { ⌜ (source .scope .count ≤ 960) × (source .scope .limit ≤ 256) ⌝ }
+    ensures { λ _. ⌜ WritesForms (source .scope .limit) (λ (n : ℕ). ownIn (source .scope .limit) n (source .scope .count) (now (buffer .entry)))
         (now (targets .entry)) (now (forms .entry)) (now (wholes .entry)) (now (parts .entry)) (now (sizes .exit)) (now (units .entry)) (now (units .exit)) ⌝ }
 {
-    keep_forms(buffer, source, targets, forms, wholes, parts, sizes, units);
+    let scope = source.scope;
+    keep_forms(buffer, scope, targets, forms, wholes, parts, sizes, units);
 }

@@ -12,7 +12,7 @@ use Rattle.lists.specs.Lists.{flat, part, patch}
 use Rattle.lists.proofs.Flats.{flat-append}
 use Rattle.lists.proofs.Parts.{copied-part, length-part}
 use Rattle.lists.proofs.Tests.{cases}
-use Rattle.chip.specs.Geometry.{small}
+use Rattle.chip.specs.Geometry.{Geometry}
 use Rattle.pages.specs.declared.unit.Update.{Update}
 use Rattle.pages.specs.declared.unit.Unit as U
 use Rattle.pages.specs.Units.{encode}
@@ -104,12 +104,12 @@ other-default (x ∷ xs) zero a b h = refl
 other-default (x ∷ xs) (suc i) a b h = other-default xs i a b (omega arith)
 
 -- ---- one node
-module _ (targets sizes units : List ℕ) (p n k : ℕ) (b : List ℕ) (on : n < length targets) where
+module _ (room : ℕ) (targets sizes units : List ℕ) (p n k : ℕ) (b : List ℕ) (on : n < length targets) where
   read : getD targets n 65535 ≡ getD targets n 0
   read = other-default targets n 65535 0 on
 
   -- it has another page
-  pub push-other : k ≤ 42 → (getD targets n 0 ≡ p → ⊥) → PushesNode targets sizes units p n k b b k
+  pub push-other : k ≤ room → (getD targets n 0 ≡ p → ⊥) → PushesNode room targets sizes units p n k b b k
   push-other l h =
       let z = goes-else (getD targets n 65535) p (λ e. h (sym read ∙ e)) in
       record { few = l; is = λ f keeps fits. rw z (puts-none k b) }
@@ -128,21 +128,21 @@ module _ (targets sizes units : List ℕ) (p n k : ℕ) (b : List ℕ) (on : n <
     kept f keeps = keeps (has-page (getD targets n 65535) p (read ∙ e) small-page)
 
     -- more units than a node has
-    pub push-large : k ≤ 42 → 17 < getD sizes n 0 → PushesNode targets sizes units p n k b b k
+    pub push-large : k ≤ room → 17 < getD sizes n 0 → PushesNode room targets sizes units p n k b b k
     push-large l h = record { few = l; is = λ f keeps fits. (let s = kept f keeps in absurd (omega (arith, s .len, s .few))) }
 
     -- no room
-    pub push-full : k ≤ 42 → 42 < k + getD sizes n 0 → PushesNode targets sizes units p n k b b k
+    pub push-full : k ≤ room → room < k + getD sizes n 0 → PushesNode room targets sizes units p n k b b k
     push-full l h = record { few = l; is = λ f keeps fits. (let s = kept f keeps in absurd (omega (arith, s .len, its-size f))) }
 
     -- room
-    pub push-units : (c : List ℕ) → length b ≡ 504 → k + getD sizes n 0 ≤ 42
+    pub push-units : (c : List ℕ) → 12 * room ≤ length b → k + getD sizes n 0 ≤ room
         → c ≡ patch b (12 * k) (12 * getD sizes n 0) (part (204 * n) (12 * getD sizes n 0) units)
-        → PushesNode targets sizes units p n k b c (k + getD sizes n 0)
-    push-units c lb room q =
+        → PushesNode room targets sizes units p n k b c (k + getD sizes n 0)
+    push-units c lb fits q =
         record {
-          few = room;
-          is = λ f keeps fits.
+          few = fits;
+          is = λ f keeps _.
               (let s = kept f keeps in
               rw (q, its-units f)
               (puts-patch k (getD sizes n 0) (map (unitFor n) (f n)) b (part (204 * n) (12 * getD sizes n 0) units) (omega arith)
@@ -172,10 +172,10 @@ left-done us k vs c e l =
       count = omega (arith, l .count, ap length e);
     }
 
-module _ (limit : ℕ) (targets sizes units : List ℕ) (p : ℕ) where
+module _ (room limit : ℕ) (targets sizes units : List ℕ) (p : ℕ) where
   pub record Gathering (n k : ℕ) (c : List ℕ) : Type 0 where
-    pub few : k ≤ 42
-    pub is : (f : ℕ → List Update) → KeepsWritten limit f targets sizes units → length (pageUnits f (targetIn targets) limit p) ≤ 42
+    pub few : k ≤ room
+    pub is : (f : ℕ → List Update) → KeepsWritten limit f targets sizes units → length (pageUnits f (targetIn targets) limit p) ≤ room
         → Left (pageUnits f (targetIn targets) limit p) k (unitsFrom f (targetIn targets) p n (limit - n)) c
 
   pub gathering-start : (b : List ℕ) → Gathering 0 0 b
@@ -188,7 +188,7 @@ module _ (limit : ℕ) (targets sizes units : List ℕ) (p : ℕ) where
             rw (z, ← e) (record { is = refl; count = omega arith }));
       }
 
-  pub gathering-next : (n k r : ℕ) (c d : List ℕ) → n < limit → Gathering n k c → PushesNode targets sizes units p n k c d r → Gathering (n + 1) r d
+  pub gathering-next : (n k r : ℕ) (c d : List ℕ) → n < limit → Gathering n k c → PushesNode room targets sizes units p n k c d r → Gathering (n + 1) r d
   gathering-next n k r c d h g q =
       record {
         few = q .few;
@@ -206,7 +206,7 @@ module _ (limit : ℕ) (targets sizes units : List ℕ) (p : ℕ) where
             ))));
       }
 
-  pub gathering-done : (n k : ℕ) (c : List ℕ) → limit ≤ n → Gathering n k c → Gathers limit targets sizes units p c k
+  pub gathering-done : (n k : ℕ) (c : List ℕ) → limit ≤ n → Gathering n k c → Gathers room limit targets sizes units p c k
   gathering-done n k c h g =
       record {
         few = g .few;
@@ -216,16 +216,16 @@ module _ (limit : ℕ) (targets sizes units : List ℕ) (p : ℕ) where
       }
 
 -- ---- the data of a page
-pub laid-front : (commit p total k : ℕ) (units page : List ℕ) → page ≡ laid small commit p total k (part 0 (12 * k - 0) units)
-    → page ≡ laid small commit p total k (take (12 * k) units)
-laid-front commit p total k units page e =
+pub laid-front : (g : Geometry) (commit p total k : ℕ) (units page : List ℕ) → page ≡ laid g commit p total k (part 0 (12 * k - 0) units)
+    → page ≡ laid g commit p total k (take (12 * k) units)
+laid-front g commit p total k units page e =
     let z : 12 * k - 0 ≡ 12 * k = omega arith in
-    e ∙ ap (λ (m : ℕ). laid small commit p total k (take m units)) z
+    e ∙ ap (λ (m : ℕ). laid g commit p total k (take m units)) z
 
-pub data-built : (limit : ℕ) (targets sizes units : List ℕ) (commit p total k : ℕ) (c page : List ℕ) → Gathers limit targets sizes units p c k
-    → page ≡ laid small commit p total k (take (12 * k) c)
-    → (f : ℕ → List Update) → KeepsWritten limit f targets sizes units → length (pageUnits f (targetIn targets) limit p) ≤ 42
-    → page ≡ dataOf small commit p total (pageUnits f (targetIn targets) limit p)
-data-built limit targets sizes units commit p total k c page g e f keeps fits =
-    let b = g .is f keeps fits in
-    e ∙ ap₂ (laid small commit p total) (b .count) (b .is)
+pub data-built : (g : Geometry) (limit : ℕ) (targets sizes units : List ℕ) (commit p total k : ℕ) (c page : List ℕ) → Gathers (g .units) limit targets sizes units p c k
+    → page ≡ laid g commit p total k (take (12 * k) c)
+    → (f : ℕ → List Update) → KeepsWritten limit f targets sizes units → length (pageUnits f (targetIn targets) limit p) ≤ g .units
+    → page ≡ dataOf g commit p total (pageUnits f (targetIn targets) limit p)
+data-built g limit targets sizes units commit p total k c page s e f keeps fits =
+    let b = s .is f keeps fits in
+    e ∙ ap₂ (laid g commit p total) (b .count) (b .is)

@@ -2,14 +2,15 @@
 use mathlib.Core.Path.{_≡_, refl, sym, ap, _∙_, subst}
 use mathlib.Core.Bool.{Bool, true}
 use mathlib.Core.List.{List, [], _++_, foldl, foldl-append, append-nil}
-use Prim.Native.Nat.{ℕ, _+_, _*_, _%_, _^_, _<_, _≤_}
+use Prim.Native.Nat.{ℕ, _+_, _-_, _^_, _<_, _≤_}
 use native.Mathlib.Numerals.{add-one}
 use native.Mathlib.Omega.{arith}
-use lib.ListN.{getD, length}
+use lib.ListN.{getD, length, length-append, take}
+use lib.Seq.{take-at}
 use Rattle.lists.specs.Lists.{All, all, flat, tab}
 use Rattle.lists.proofs.Flats.{flat-append, tab-last}
 use Rattle.chip.specs.declared.progress.Progress.{Progress}
-use Rattle.chip.specs.Geometry.{small}
+use Rattle.chip.specs.Geometry.{Geometry}
 use Rattle.chip.specs.Chip.{Op}
 use Rattle.chip.specs.RunCode.{Ran}
 use Rattle.chip.proofs.Runs.{ran-append, ran-none}
@@ -44,44 +45,51 @@ pub notes-turned : (es : List Event) (l s r t : List ℕ) (answer : Bool) → al
 notes-turned es l s r t answer e n = n .is (n .good ∙ e)
 
 -- ---- a page of a commit
-module _ (limit p c i n : ℕ) (us : List U.Unit) (hc : c < 2 ^ 32) where
-  page-sound : All (Valid limit) us → all isSound (eventsOf limit (record { place = p; bytes = dataOf small c i n us })) ≡ true
-  page-sound v = ap (all isSound) (events-laid small limit p c i n us hc v) ∙ good-sound p us
+module _ (g : Geometry) (limit p c i n : ℕ) (us : List U.Unit) (hc : c < 2 ^ 32) where
+  page-sound : All (Valid limit) us → all isSound (eventsOf limit (record { place = p; bytes = dataOf g c i n us })) ≡ true
+  page-sound v = ap (all isSound) (events-laid g limit p c i n us hc v) ∙ good-sound p us
 
-  page-half : half (dataOf small c i n us) 6 ≡ length us
-  page-half = ap (λ (h : Head). h .units) (laid-head small c i n (length us) (flat encode us) hc)
+  page-half : half (dataOf g c i n us) 6 ≡ length us
+  page-half = ap (λ (h : Head). h .units) (laid-head g c i n (length us) (flat encode us) hc)
 
   -- noted, where its units fit a page and obey the layout
-  page-turned : (l s u v : List ℕ) → length us ≤ 42 → All (Valid limit) us → NotesPage limit p (dataOf small c i n us) l s u v
-      → Turned (eventsOf limit (record { place = p; bytes = dataOf small c i n us })) l s u v
+  page-turned : (l s u v : List ℕ) → length us ≤ g .units → All (Valid limit) us → NotesPage g limit p (dataOf g c i n us) l s u v
+      → Turned (eventsOf limit (record { place = p; bytes = dataOf g c i n us })) l s u v
   page-turned l s u v few valid t = t (omega (arith, page-half)) (page-sound valid)
 
 -- ---- pages written
+-- a page lent as the front of an array: it is within it, and read again it is the same
+pub front-in : (n : ℕ) (page rest : List ℕ) → length page ≡ n → n ≤ length (page ++ rest)
+front-in n page rest e = omega (arith, length-append page rest)
+
+pub lent-front : (n : ℕ) (page rest : List ℕ) → length page ≡ n → take (n - 0) (page ++ rest) ≡ page
+lent-front n page rest e = take-at page rest (n - 0) (omega arith)
+
 -- page i
 module _ (pages : Pages) (targets sizes units torn places : List ℕ) (i : ℕ) (hc : pages .commit < 2 ^ 32) (on : i < pages .total) (p p' : Progress)
-    (xs ys l s u v page : List ℕ) (b : Built (pages .limit) targets sizes units (pages .commit) i (pages .total) page) where
+    (xs ys l s u v page lent : List ℕ) (b : Built (pages .geometry) (pages .limit) targets sizes units (pages .commit) i (pages .total) page) (same : lent ≡ page) where
   abbrev live : (ℕ → List Update) → Live
   live f = liveIn pages f targets places i
 
-  page-is : (f : ℕ → List Update) → Holds (pages .limit) f targets sizes units (pages .total) → page ≡ live f .bytes
-  page-is f h = b f (h .written) (h .fits i on)
+  page-is : (f : ℕ → List Update) → Holds (pages .geometry) (pages .limit) f targets sizes units (pages .total) → lent ≡ live f .bytes
+  page-is f h = same ∙ b f (h .written) (h .fits i on)
 
-  pub writes-page : Ran small torn (writes (getD places i 0) page) p p' xs ys → NotesPage (pages .limit) (getD places i 0) page l s u v
+  pub writes-page : Ran (pages .geometry) torn (writes (getD places i 0) lent) p p' xs ys → NotesPage (pages .geometry) (pages .limit) (getD places i 0) lent l s u v
       → Writes pages targets sizes units places torn i 1 p p' xs ys l s u v
   writes-page w t =
       record {
         size = w .size;
-        ran = λ f h. subst (λ (x : List ℕ). Ran small torn (writes (getD places i 0) x) p p' xs ys) (page-is f h) w;
+        ran = λ f h. subst (λ (x : List ℕ). Ran (pages .geometry) torn (writes (getD places i 0) x) p p' xs ys) (page-is f h) w;
         turned = λ f h valid.
             subst (λ (es : List Event). Turned es l s u v) (sym (append-nil (eventsOf (pages .limit) (live f))))
-            (page-turned (pages .limit) (getD places i 0) (pages .commit) i (pages .total) (pageUnits f (targetIn targets) (pages .limit) i) hc l s u v (h .fits i on) (valid i on)
-            (subst (λ (x : List ℕ). NotesPage (pages .limit) (getD places i 0) x l s u v) (page-is f h) t));
+            (page-turned (pages .geometry) (pages .limit) (getD places i 0) (pages .commit) i (pages .total) (pageUnits f (targetIn targets) (pages .limit) i) hc l s u v (h .fits i on) (valid i on)
+            (subst (λ (x : List ℕ). NotesPage (pages .geometry) (pages .limit) (getD places i 0) x l s u v) (page-is f h) t));
       }
 
 module _ {pages : Pages} {targets sizes units places torn : List ℕ} where
   -- none
   pub writes-none : (p : Progress) (xs l s : List ℕ) → Writes pages targets sizes units places torn 0 0 p p xs xs l s l s
-  writes-none p xs l s = record { size = refl; ran = λ f h. ran-none small torn p xs; turned = λ f h v. turned-none l s }
+  writes-none p xs l s = record { size = refl; ran = λ f h. ran-none (pages .geometry) torn p xs; turned = λ f h v. turned-none l s }
 
 -- the pages so far, and one more
 module _ (pages : Pages) (targets sizes units places torn : List ℕ) (i : ℕ) where
@@ -103,17 +111,10 @@ module _ (pages : Pages) (targets sizes units places torn : List ℕ) (i : ℕ) 
       record {
         size = b .size ∙ a .size;
         ran = λ f h.
-            subst (λ (os : List Op). Ran small torn os p p'' xs zs) (sym (ap (flat writesOf) (done-more f) ∙ flat-append writesOf (done f) (next f)))
-            (ran-append small torn (flat writesOf (done f)) (flat writesOf (next f)) p p' p'' xs ys zs (a .ran f h) (b .ran f h));
+            subst (λ (os : List Op). Ran (pages .geometry) torn os p p'' xs zs) (sym (ap (flat writesOf) (done-more f) ∙ flat-append writesOf (done f) (next f)))
+            (ran-append (pages .geometry) torn (flat writesOf (done f)) (flat writesOf (next f)) p p' p'' xs ys zs (a .ran f h) (b .ran f h));
         turned = λ f h valid.
             subst (λ (es : List Event). Turned es l s l' s')
             (sym (ap (events (pages .limit)) (done-more f) ∙ flat-append (eventsOf (pages .limit)) (done f) (next f)))
             (turned-append (events (pages .limit) (done f)) (events (pages .limit) (next f)) l s u v l' s' (a .turned f h valid) (b .turned f h valid));
       }
-
--- ---- on the image
-pub on-image : (p limit long : ℕ) → long ≡ limit * 2112 → p < limit * 4 → p * 528 + 528 ≤ long
-on-image p limit long e h = omega arith
-
-pub whole-pages : (limit long : ℕ) → long ≡ limit * 2112 → long % 528 ≡ 0
-whole-pages limit long e = omega arith

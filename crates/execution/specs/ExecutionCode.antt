@@ -5,7 +5,7 @@ use Prim.Native.Nat.{ℕ}
 use lib.ListN.{length, take}
 use Rattle.lists.specs.Lists.{All, tab}
 use Rattle.chip.specs.declared.progress.Progress.{Progress}
-use Rattle.chip.specs.Geometry.{small}
+use Rattle.chip.specs.Geometry.{Geometry}
 use Rattle.chip.specs.RunCode.{Ran}
 use Rattle.pages.specs.declared.unit.Update.{Update}
 use Rattle.views.specs.Table.{events}
@@ -28,9 +28,9 @@ namedPlan limit f targets plan = planIn limit f targets (plan .places) (plan .pa
 
 -- commit G + 1 carried out as far as the power goes, for every f that the arrays hold: its operations done; and its pages noted where their units obey the layout.
 -- The arrays l and s become u and v
-pub record CarriesOut (limit G : ℕ) (plan : Plan) (targets sizes units torn : List ℕ) (p reached : Progress) (before after l s u v : List ℕ) : Type 0 where
+pub record CarriesOut (g : Geometry) (limit G : ℕ) (plan : Plan) (targets sizes units torn : List ℕ) (p reached : Progress) (before after l s u v : List ℕ) : Type 0 where
   pub size : length after ≡ length before
-  pub ran : (f : ℕ → List Update) → Holds limit f targets sizes units (plan .pages)
-      → Ran small torn (P.opsOf small G (namedPlan limit f targets plan)) p reached before after
-  pub turned : (f : ℕ → List Update) → Holds limit f targets sizes units (plan .pages) → All (ValidSheet small limit) (namedPlan limit f targets plan .written)
-      → Turned (events limit (P.newsOf small G (namedPlan limit f targets plan))) l s u v
+  pub ran : (f : ℕ → List Update) → Holds g limit f targets sizes units (plan .pages)
+      → Ran g torn (P.opsOf g G (namedPlan limit f targets plan)) p reached before after
+  pub turned : (f : ℕ → List Update) → Holds g limit f targets sizes units (plan .pages) → All (ValidSheet g limit) (namedPlan limit f targets plan .written)
+      → Turned (events limit (P.newsOf g G (namedPlan limit f targets plan))) l s u v

@@ -5,7 +5,7 @@ use mathlib.Core.List.{List, [], _++_, map}
 use Prim.Native.Nat.{ℕ, _+_, _*_, _≤_}
 use lib.ListN.{getD, length, take}
 use Rattle.lists.specs.Lists.{flat}
-use Rattle.chip.specs.Geometry.{small}
+use Rattle.chip.specs.Geometry.{Geometry}
 use Rattle.pages.specs.declared.unit.Update.{Update}
 use Rattle.pages.specs.declared.unit.Unit as U
 use Rattle.pages.specs.Units.{encode}
@@ -29,25 +29,25 @@ pub record Puts (k : ℕ) (us : List U.Unit) (b c : List ℕ) (r : ℕ) : Type 0
   pub is : take (12 * r) c ≡ take (12 * k) b ++ flat encode us
   pub count : r ≡ k + length us
 
--- the units of node n that page p has, where there is room
-pub record PushesNode (targets sizes units : List ℕ) (p n k : ℕ) (b c : List ℕ) (r : ℕ) : Type 0 where
-  pub few : r ≤ 42
+-- the units of node n that page p has, where a page of `room` units has room for them
+pub record PushesNode (room : ℕ) (targets sizes units : List ℕ) (p n k : ℕ) (b c : List ℕ) (r : ℕ) : Type 0 where
+  pub few : r ≤ room
   pub is : (f : ℕ → List Update) → (isUnwritten (targetIn targets n) ≡ false → KeepsUnits n (f n) (getD sizes n 0) units)
-      → k + length (unitsOn f (targetIn targets) p n) ≤ 42 → Puts k (unitsOn f (targetIn targets) p n) b c r
+      → k + length (unitsOn f (targetIn targets) p n) ≤ room → Puts k (unitsOn f (targetIn targets) p n) b c r
 
 -- c begins with the r units us
 pub record Begins (us : List U.Unit) (c : List ℕ) (r : ℕ) : Type 0 where
   pub is : take (12 * r) c ≡ flat encode us
   pub count : r ≡ length us
 
--- the units of page p, where a page holds them
-pub record Gathers (limit : ℕ) (targets sizes units : List ℕ) (p : ℕ) (c : List ℕ) (r : ℕ) : Type 0 where
-  pub few : r ≤ 42
-  pub is : (f : ℕ → List Update) → KeepsWritten limit f targets sizes units → length (pageUnits f (targetIn targets) limit p) ≤ 42
+-- the units of page p, where a page of `room` units holds them
+pub record Gathers (room limit : ℕ) (targets sizes units : List ℕ) (p : ℕ) (c : List ℕ) (r : ℕ) : Type 0 where
+  pub few : r ≤ room
+  pub is : (f : ℕ → List Update) → KeepsWritten limit f targets sizes units → length (pageUnits f (targetIn targets) limit p) ≤ room
       → Begins (pageUnits f (targetIn targets) limit p) c r
 
 -- the data of page p of total of a commit, where a page holds its units
-abbrev pub Built : ℕ → List ℕ → List ℕ → List ℕ → ℕ → ℕ → ℕ → List ℕ → Type 0
-Built limit targets sizes units commit p total page =
-    (f : ℕ → List Update) → KeepsWritten limit f targets sizes units → length (pageUnits f (targetIn targets) limit p) ≤ 42
-    → page ≡ dataOf small commit p total (pageUnits f (targetIn targets) limit p)
+abbrev pub Built : Geometry → ℕ → List ℕ → List ℕ → List ℕ → ℕ → ℕ → ℕ → List ℕ → Type 0
+Built g limit targets sizes units commit p total page =
+    (f : ℕ → List Update) → KeepsWritten limit f targets sizes units → length (pageUnits f (targetIn targets) limit p) ≤ g .units
+    → page ≡ dataOf g commit p total (pageUnits f (targetIn targets) limit p)

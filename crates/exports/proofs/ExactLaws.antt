@@ -57,16 +57,16 @@ module _ (n : ℕ) (torn : List ℕ) (s : State) (i : List ℕ) (r : Wrote) (i' 
   off-narrow : r .state ≡ turnedOff s → Narrow (r .state)
   off-narrow e = subst Narrow (sym e) (record { blocks = h .blocks; units = h .units })
 
-  format-by : Formats n torn s i r i' → (k : ℕ) → firstRefusal small (s .on) (s .blocks) (formats n (length i) (length torn)) ≡ k → Narrow (r .state)
+  format-by : Formats small n torn s i r i' → (k : ℕ) → firstRefusal small (s .on) (s .blocks) (formats n (length i) (length torn)) ≡ k → Narrow (r .state)
   format-by f (suc k) e = same-narrow s (r .state) (f .says .first .refused k e .1 .state) h
   format-by f zero e =
       ⊎-elim (λ l. off-narrow (f .off (f .says .power e .short l .0))) (λ l. good-narrow (r .state) i' (f .says .done e l .2))
       (below-or-not n (length (index small .formatOps (blocksOf small (length i)))))
 
-  pub format-narrow : Formats n torn s i r i' → Narrow (r .state)
+  pub format-narrow : Formats small n torn s i r i' → Narrow (r .state)
   format-narrow f = format-by f _ refl
 
-  mount-by : Mounts n torn s i r i' → (k : ℕ) → firstRefusal small (s .on) (s .blocks) (mounts n (length i) (length torn)) ≡ k
+  mount-by : Mounts small n torn s i r i' → (k : ℕ) → firstRefusal small (s .on) (s .blocks) (mounts n (length i) (length torn)) ≡ k
       → (m : Meaning) → imageMeaning small i ≡ m → Narrow (r .state)
   mount-by f (suc k) e m q = same-narrow s (r .state) (f .says .first .refused k e .1 .state) h
   mount-by f zero e (invalid m) q = off-narrow (f .off e m (f .says .refused e m q .0))
@@ -74,5 +74,5 @@ module _ (n : ℕ) (torn : List ℕ) (s : State) (i : List ℕ) (r : Wrote) (i' 
       ⊎-elim (λ l. off-narrow (f .off e 10 (f .says .power e K G q .short l .0))) (λ l. good-narrow (r .state) i' (f .says .done e K G q l .1))
       (below-or-not n (length (index small .mountOps i)))
 
-  pub mount-narrow : Mounts n torn s i r i' → Narrow (r .state)
+  pub mount-narrow : Mounts small n torn s i r i' → Narrow (r .state)
   mount-narrow f = mount-by f _ refl _ refl

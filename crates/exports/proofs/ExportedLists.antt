@@ -38,7 +38,7 @@ state-is m n buffer lens slots erases e b l s f = cc
 -- ---- a list
 module _ (x : Exported) where
   meets : (c : Call) (h : Ensures (x .torn) (x .given) (x .lent) (x .refusal) (x .told) (x .after) (x .left) c)
-      → Meets c (record {
+      → Meets small c (record {
         call = x .call;
         torn = x .torn;
         given = partsIn (x .given);
@@ -50,18 +50,18 @@ module _ (x : Exported) where
         image = x .image;
       })
   meets (Format n) h =
-      subst (λ (s : State). Formats n (x .torn) (stateFrom (partsIn (x .given))) (x .lent) (record { answer = h .0 .result .answer; ops = h .0 .result .ops; state = s }) (x .left))
+      subst (λ (s : State). Formats small n (x .torn) (stateFrom (partsIn (x .given))) (x .lent) (record { answer = h .0 .result .answer; ops = h .0 .result .ops; state = s }) (x .left))
       (sym (state-is (x .after) (h .0 .result .numbers) (x .given .buffer) (x .after .lens) (x .after .slots) (x .after .erases) (h .0 .exact) (h .1) refl refl refl)) (h .0 .says (x .given .buffer))
   meets (Mount n) h =
-      subst (λ (s : State). Mounts n (x .torn) (stateFrom (partsIn (x .given))) (x .lent) (record { answer = h .0 .result .answer; ops = h .0 .result .ops; state = s }) (x .left))
+      subst (λ (s : State). Mounts small n (x .torn) (stateFrom (partsIn (x .given))) (x .lent) (record { answer = h .0 .result .answer; ops = h .0 .result .ops; state = s }) (x .left))
       (sym (state-is (x .after) (h .0 .result .numbers) (x .given .buffer) (x .after .lens) (x .after .slots) (x .after .erases) (h .0 .exact) (h .1) refl refl refl)) (h .0 .says (x .given .buffer))
   meets (Commit n) h =
-      subst (λ (s : State). Commits n (x .torn) (stateFrom (partsIn (x .given))) (x .lent) (record { answer = h .0 .result .answer; ops = h .0 .result .ops; state = s }) (x .left))
+      subst (λ (s : State). Commits small n (x .torn) (stateFrom (partsIn (x .given))) (x .lent) (record { answer = h .0 .result .answer; ops = h .0 .result .ops; state = s }) (x .left))
       (sym (state-is (x .after) (h .0 .result .numbers) (x .given .buffer) (x .after .lens) (x .after .slots) (x .after .erases) (h .0 .exact) (h .1) refl refl refl)) (h .0 .says)
   meets (Insert k v) h =
       record {
         says =
-            subst (λ (s : State). Inserts k v (stateFrom (partsIn (x .given))) (x .lent) (record { answer = h .0 .result .answer; state = s }))
+            subst (λ (s : State). Inserts small k v (stateFrom (partsIn (x .given))) (x .lent) (record { answer = h .0 .result .answer; state = s }))
             (sym (state-is (x .after) (h .0 .result .numbers) (x .after .buffer) (x .given .lens) (x .given .slots) (x .given .erases) (h .0 .exact) refl (h .1) (h .2) (h .3))) (h .0 .says (x .given .erases));
         ops = refl;
         image = h .4;
@@ -69,7 +69,7 @@ module _ (x : Exported) where
   meets (Delete k) h =
       record {
         says =
-            subst (λ (s : State). Deletes k (stateFrom (partsIn (x .given))) (x .lent) (record { answer = h .0 .result .answer; state = s }))
+            subst (λ (s : State). Deletes small k (stateFrom (partsIn (x .given))) (x .lent) (record { answer = h .0 .result .answer; state = s }))
             (sym (state-is (x .after) (h .0 .result .numbers) (x .after .buffer) (x .given .lens) (x .given .slots) (x .given .erases) (h .0 .exact) refl (h .1) (h .2) (h .3))) (h .0 .says (x .given .erases));
         ops = refl;
         image = h .4;
@@ -100,7 +100,7 @@ module _ (x : Exported) where
   pub tells-own : TellsAnswer x (answerOf (answerBy (x .torn) (x .given) (x .lent) (x .refusal) (x .told) (x .after) (x .left) (x .call) (x .ensures)))
   tells-own = record { refusal = tells-by (x .call) (x .ensures); value = value-by (x .call) (x .ensures) }
 
-pub exported-runs : (H : State → Type 0) (i : List ℕ) (xs : List Exported) → RunsExported H i xs → RunsLent H i (map exportedStep xs)
+pub exported-runs : (H : State → Type 0) (i : List ℕ) (xs : List Exported) → RunsExported H i xs → RunsLent small H i (map exportedStep xs)
 exported-runs H i [] h = tt
 exported-runs H i (x ∷ xs) h = (
   record { meets = meets x (x .call) (x .ensures); lends = h .0 .lends; handed = h .0 .handed },
@@ -108,12 +108,12 @@ exported-runs H i (x ∷ xs) h = (
 )
 
 -- what holds of a list's answers holds of what is told
-agrees-told : (p : Plain) (i : List ℕ) (xs : List Exported) → Agrees small (index small) p i (map lentStep (map exportedStep xs)) → AgreesTold p i xs
+agrees-told : (p : Plain) (i : List ℕ) (xs : List Exported) → Agrees small (index small) p i (map (lentStep small) (map exportedStep xs)) → AgreesTold p i xs
 agrees-told p i [] h = tt
 agrees-told p i (x ∷ xs) h = (subst (TellsAnswer x) (h .0) (tells-own x), h .1, agrees-told (next small (index small) p i (promiseStep x)) (x .image) xs (h .2))
 
 -- an exported call as a step, at once or by way of the lent arrays
-steps-same : (xs : List Exported) → map promiseStep xs ≡ map lentStep (map exportedStep xs)
+steps-same : (xs : List Exported) → map promiseStep xs ≡ map (lentStep small) (map exportedStep xs)
 steps-same [] = refl
 steps-same (x ∷ xs) = ap (λ (ys : List (Step (index small))). promiseStep x ∷ ys) (steps-same xs)
 
@@ -123,7 +123,7 @@ pub exported-promise : (K : Table) (G : ℕ) (m : Memory) (i : List ℕ) (xs : L
     → AgreesTold (starts small (index small) K G i) i xs
 exported-promise K G m i xs s r u =
     agrees-told (starts small (index small) K G i) i xs
-    (lent-promise K G (partsIn m) i (map exportedStep xs) s (exported-runs (Only (index small) (stateFrom (partsIn m))) i xs r) (subst (Uncut (index small)) (steps-same xs) u))
+    (lent-promise small K G (partsIn m) i (map exportedStep xs) s (exported-runs (Only (index small) (stateFrom (partsIn m))) i xs r) (subst (Uncut (index small)) (steps-same xs) u))
 
 -- erases on record: where a list from figures of 0 leaves the store on, the figures in memory are the whole erases since the last finished mount or format
 pub exported-figures : (m : Memory) (i : List ℕ) (xs : List Exported) → Good small (stateFrom (partsIn m)) i → RunsExported (Only (index small) (stateFrom (partsIn m))) i xs
@@ -134,7 +134,7 @@ exported-figures m i xs g r z =
     subst
     (λ (ys : List (Step (index small))). (t : State) → lastHands (index small) (Only (index small) (stateFrom (partsIn m))) ys t → t .on ≡ true
     → (b : ℕ) → getD (t .erases) b 0 ≡ wholeErases small (index small) b (sinceStart (index small) ys))
-    (sym (steps-same xs)) (lent-figures (partsIn m) i (map exportedStep xs) g (exported-runs (Only (index small) (stateFrom (partsIn m))) i xs r) z)
+    (sym (steps-same xs)) (lent-figures small (partsIn m) i (map exportedStep xs) g (exported-runs (Only (index small) (stateFrom (partsIn m))) i xs r) z)
 
 -- an erase pays: from a state that calls gave, with no call cut and no format finished, the list is one of which that is said
 pub exported-unbroken : (m : Memory) (i : List ℕ) (xs : List Exported) → Good small (stateFrom (partsIn m)) i → RunsExported (Only (index small) (stateFrom (partsIn m))) i xs
@@ -142,7 +142,7 @@ pub exported-unbroken : (m : Memory) (i : List ℕ) (xs : List Exported) → Goo
 exported-unbroken m i xs g r c f =
     let e = steps-same xs in
     subst (Unbroken small (index small) (stateFrom (partsIn m)) i) (sym e)
-    (lent-unbroken (partsIn m) i (map exportedStep xs) g (exported-runs (Only (index small) (stateFrom (partsIn m))) i xs r) (subst (NoneCut (index small)) e c) (subst (NoFormat (index small)) e f))
+    (lent-unbroken small (partsIn m) i (map exportedStep xs) g (exported-runs (Only (index small) (stateFrom (partsIn m))) i xs r) (subst (NoneCut (index small)) e c) (subst (NoFormat (index small)) e f))
 
 -- ---- a forecast and a commit, on any memory and any image
 module _ (x y : Exported) (n : ℕ) (size : length (y .torn) ≡ 528) where
@@ -152,7 +152,7 @@ module _ (x y : Exported) (n : ℕ) (size : length (y .torn) ≡ 528) where
   foretells-by f c =
       let m = x .given in
       let w = wroteWith (c .0 .result) (m .buffer) (y .after .lens) (y .after .slots) (y .after .erases) in
-      let t = foretells (stateFrom (partsIn m)) (x .lent) (f .0 .result) (f .0 .says (m .erases)) n (y .torn) size w (y .left) (c .0 .says) in
+      let t = foretells small (stateFrom (partsIn m)) (x .lent) (f .0 .result) (f .0 .says (m .erases)) n (y .torn) size w (y .left) (c .0 .says) in
       let d = c .0 .tells in
       let sum = ap sumTold (f .0 .done) in
       record {

@@ -100,7 +100,7 @@ exportedStep x =
 
 -- and as a step of the promise
 abbrev pub promiseStep : Exported → Step (index small)
-promiseStep x = lentStep (exportedStep x)
+promiseStep x = lentStep small (exportedStep x)
 
 -- a call from the one image i, where H are the states at hand
 pub record TakesExported (H : State → Type 0) (i : List ℕ) (x : Exported) : Type 0 where

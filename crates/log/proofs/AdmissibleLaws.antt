@@ -19,6 +19,7 @@ use Rattle.lists.proofs.Sets.{All-tab, Mem, diff-filter, filter-same, tab-at, t
 use Rattle.chip.specs.Geometry.{Geometry}
 use Rattle.chip.specs.Page.{Page, isFree}
 use Rattle.chip.specs.Chip.{Legal, inBlock, run}
+use Rattle.chip.proofs.Sizes.{pages-pos}
 use Rattle.chip.proofs.Runs.{Sized, run-length, with-power}
 use Rattle.chip.specs.Power.{takesEffect}
 use Rattle.pages.specs.declared.unit.Unit as U
@@ -136,7 +137,7 @@ module _ {g : Geometry} {limit B : ℕ} {torn : List ℕ} (ch : Chip g limit B t
   pp-count = length-tab (pagePacks f (A .target) limit) 0 (A .count)
 
   hd-below : hd < B
-  hd-below = head-below g limit B ps tb G (rd .kept) (ch .pos) (rd .length-is)
+  hd-below = head-below g limit B ps tb G (rd .kept) (pages-pos g (ch .part)) (rd .length-is)
 
   suits-node : (n : ℕ) → n < limit → Suits T us f n
   suits-node n l = suits-by T us limit (rd .valid) n (rd .fair n l) f (A .isAnew) refl (ad .forced n l)
@@ -185,13 +186,13 @@ module _ {g : Geometry} {limit B : ℕ} {torn : List ℕ} (ch : Chip g limit B t
   unfolding choice
   next-head n l =
       head-below g limit B (imageAfter g torn ps G Q n) (tab 0 limit (nodeAfter g limit ps G Q)) (suc G)
-      (kept-after ch rd choice n l) (ch .pos)
+      (kept-after ch rd choice n l) (pages-pos g (ch .part))
       (run-length g torn (with-power n ps) (opsOf g G Q) ∙ rd .length-is)
 
   -- 4 B pages and one more fit h blocks
   pages-fit : suc (length pp) ≤ h * g .pages
   pages-fit =
-      let q : 4 * B < 4 * B / g .pages * g .pages + g .pages = lt-div-mul-add (ch .pos) in
+      let q : 4 * B < 4 * B / g .pages * g .pages + g .pages = lt-div-mul-add (pages-pos g (ch .part)) in
       omega (arith, pp-count, ad .few)
 
   few-erased : length (Q .erased) ≤ h
@@ -241,7 +242,7 @@ module _ {g : Geometry} {limit B : ℕ} {torn : List ℕ} (ch : Chip g limit B t
   unfolding choice
   room-again room n =
       let m : h ≤ length (unusedBlocks g B ps tb G) =
-      unused-many g B tb G (liveFrom g 0 ps) hd hd-below h (head-used g limit B ps tb G (rd .kept) (ch .pos) (rd .length-is)) room in
+      unused-many g B tb G (liveFrom g 0 ps) hd hd-below h (head-used g limit B ps tb G (rd .kept) (pages-pos g (ch .part)) (rd .length-is)) room in
       let l : h ≤ length (filter stays (countFrom 0 B)) =
       subst (λ (c : ℕ). h ≤ length (filter (staysUnused g limit (contentsOf T us) (A .isAnew) (take (suc c) (candidatePlaces g B ps tb G))) (countFrom 0 B))) (sym pp-count) (ad .leaves m) in
       room-new ch rd choice h n (filter stays (countFrom 0 B)) (diff-filter stays (countFrom 0 B) (tab-diff 0 B)) l

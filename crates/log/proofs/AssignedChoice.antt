@@ -13,7 +13,7 @@ use Rattle.lists.specs.Lists.{All, At, all, any, flat, tab, Diff, more, none}
 use Rattle.lists.proofs.Alls.{All-filter, All-map, All-zip, All-append, All-head, All-tail}
 use Rattle.lists.proofs.Sets.{All-pull, All-push, All-unflat, diff-take}
 use Rattle.lists.proofs.Sorts.{All-sort, sort-All}
-use Rattle.chip.specs.Geometry.{Geometry, pageSize}
+use Rattle.chip.specs.Geometry.{Geometry, Fits, pageSize}
 use Rattle.chip.specs.Page.{Page, blank}
 use Rattle.chip.specs.Chip.{Legal, inBlock, run}
 use Rattle.chip.proofs.Runs.{with-power, Sized}
@@ -43,12 +43,9 @@ use Rattle.log.proofs.PlanNodes.{Fair, Suits, fair-whole}
 use Rattle.log.proofs.PlanPacks.{ApartPacks, Full, Lacks, Of, distinct-groups, length-sheets, sheets-groups, sheets-packs, ungroup}
 use Rattle.log.proofs.PlanPlaces.{In, places-blank, places-diff}
 
--- ---- what is asked of the chip: units fit its pages, two groups of 17 fit one page, 8 B nodes
+-- ---- what is asked of the chip: a part that fits, torn slices of a page, 8 B nodes
 pub record Chip (g : Geometry) (limit B : ℕ) (torn : List ℕ) : Type 0 where
-  pub spare : 3 ≤ g .spare
-  pub fits : 8 + 12 * g .units ≤ g .area
-  pub big : 34 ≤ g .units
-  pub pos : 0 < g .pages
+  pub part : Fits g
   pub torn-size : length torn ≡ pageSize g
   pub lim : limit ≡ 8 * B
 
@@ -208,7 +205,7 @@ module _ {g : Geometry} {limit B : ℕ} {torn : List ℕ} (ch : Chip g limit B t
 
   -- the pages are a next commit, with all views and lists well
   pub plan : NextCommit g limit T G news
-  plan = planned g limit G (rd .number) (ch .fits) T ts holds-ts some-ts well-ts
+  plan = planned g limit G (rd .number) (ch .part .holds) T ts holds-ts some-ts well-ts
 
   -- no place twice, and so no page twice
   pub ws-diff : Diff ws
@@ -252,15 +249,15 @@ module _ {g : Geometry} {limit B : ℕ} {torn : List ℕ} (ch : Chip g limit B t
 
   -- old or new, for every number of operations
   pub cut-safe : (n : ℕ) → meaning g limit (image n) ≡ cond (takesEffect (getD torn 0 0) n (length (commitOps es news))) (means (tab 0 limit after-node) (suc G)) (means tb G)
-  cut-safe n = cut-law g limit torn (ch .spare) area-torn ps tb G (rd .kept) es news unlisted outside plan apart free n
+  cut-safe n = cut-law g limit torn (ch .part .marks) area-torn ps tb G (rd .kept) es news unlisted outside plan apart free n
 
   -- with all operations done: the new meaning, no void page
   pub kept-after : (n : ℕ) → length (commitOps es news) ≤ n → Kept g limit (image n) (tab 0 limit after-node) (suc G)
-  kept-after n l = finished-kept g limit torn (ch .spare) area-torn ps tb G (rd .kept) es news unlisted outside plan apart free n l
+  kept-after n l = finished-kept g limit torn (ch .part .marks) area-torn ps tb G (rd .kept) es news unlisted outside plan apart free n l
 
   -- the new views: those of the image and then the buffer
   pub views : (m : ℕ) → m < limit → after-node m .now ≡ present m (T m .now) us
-  views m l = shows g limit G (rd .number) (ch .fits) T ts us m holds-ts distinct (acts m l) (λ w. C .suits m l .covers (lacks m l w))
+  views m l = shows g limit G (rd .number) (ch .part .holds) T ts us m holds-ts distinct (acts m l) (λ w. C .suits m l .covers (lacks m l w))
 
   -- an operation for each erase, three for each page
   pub cost-is : length (commitOps es news) ≡ length es + 3 * length ts
@@ -322,7 +319,7 @@ module _ {g : Geometry} {limit B : ℕ} {torn : List ℕ} (ch : Chip g limit B t
       → any (inBlock g b) (after-node n .pages) ≡ false
   left-unlisted b a n l (inl h) = still-unlisted (inBlock g b) limit n (T n) news (no-new b a) h
   left-unlisted b a n l (inr h) =
-      rw (events-new g limit G (rd .number) (ch .fits) (length ts) 0 holds-ts)
+      rw (events-new g limit G (rd .number) (ch .part .holds) (length ts) 0 holds-ts)
       (by-groups (λ (r : Node). any (inBlock g b) (r .pages) ≡ false) n (groupsOf ts) (T n) distinct
       (All-zip (λ q m o e. anew-one q m (o .is ∙ ap f e) (o .some)) (groups-at (λ p. inBlock g b p ≡ false) ws pp a) ofs)
       (λ w. rw (h .0 (lacks n l w))))

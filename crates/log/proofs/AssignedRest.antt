@@ -148,7 +148,7 @@ module _ {g : Geometry} {limit B : ℕ} {torn : List ℕ} (ch : Chip g limit B t
       (mem-at m (all-land g N (cleared g E ps) (free ch rd C) (apart ch rd C))) in
       let same : live g (x .place) (landed g x) ≡ x = ap (λ (y : List ℕ). record { place = x .place; bytes = y }) (third-data g 0 (x .bytes) size 0) in
       let k : Mem (live g (x .place) (landed g x)) (liveFrom g 0 (I n)) =
-      live-mem g 0 (x .place) (x .place) (landed g x) (I n) (omega arith) a (third-live g 0 (x .bytes) size 0 (ch .spare)) in
+      live-mem g 0 (x .place) (x .place) (landed g x) (I n) (omega arith) a (third-live g 0 (x .bytes) size 0 (ch .part .marks)) in
       let k' : Mem x (liveFrom g 0 (I n)) = rw same at k in
       is-used g t (suc G) (liveFrom g 0 (I n)) b
       (any-mem (λ (y : Live). eqb (commit y) (suc G) && inBlock g b (y .place)) k' (and-intro (eqb (commit x) (suc G)) (inBlock g b (x .place)) (eq-eqb (commit x) (suc G) c) i))

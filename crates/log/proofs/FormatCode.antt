@@ -7,7 +7,7 @@ use native.Mathlib.Omega.{arith}
 use Rattle.lists.specs.Lists.{tab}
 use Rattle.lists.proofs.Flats.{tab-last}
 use Rattle.chip.specs.declared.progress.Progress.{Progress}
-use Rattle.chip.specs.Geometry.{Geometry, small}
+use Rattle.chip.specs.Geometry.{Geometry}
 use Rattle.chip.specs.Chip.{erase}
 use Rattle.chip.specs.RunCode.{Stepped, Ran}
 use Rattle.chip.proofs.Runs.{ran-one, ran-append}
@@ -30,8 +30,6 @@ pub first-data : (g : Geometry) (bytes page : List ℕ) → bytes ≡ encode roo
 first-data g bytes page e h = h ∙ ap (laid g 1 0 1 1) (e ∙ sym (append-nil (encode rootReset)))
 
 -- the blocks erased, and then the page written
-pub first-written : (torn : List ℕ) (b : ℕ) (page : List ℕ) (p q r : Progress) (xs ys zs : List ℕ) → page ≡ formatData small
-    → Ran small torn (tab 0 b erase) p q xs ys → Ran small torn (writes 0 page) q r ys zs → Ran small torn (formatOps small b) p r xs zs
-first-written torn b page p q r xs ys zs e a w =
-    let v : Ran small torn (writes 0 (formatData small)) q r ys zs = (rw e at w) in
-    ran-append small torn (tab 0 b erase) (writes 0 (formatData small)) p q r xs ys zs a v
+pub first-written : (g : Geometry) (torn : List ℕ) (b : ℕ) (p q r : Progress) (xs ys zs : List ℕ)
+    → Ran g torn (tab 0 b erase) p q xs ys → Ran g torn (writes 0 (formatData g)) q r ys zs → Ran g torn (formatOps g b) p r xs zs
+first-written g torn b p q r xs ys zs a w = ran-append g torn (tab 0 b erase) (writes 0 (formatData g)) p q r xs ys zs a w

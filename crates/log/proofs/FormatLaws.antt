@@ -3,7 +3,7 @@ use mathlib.Core.Path.{_≡_, refl, sym, ap, ap₂, _∙_}
 use mathlib.Core.Bool.{true}
 use mathlib.Core.List.{List, [], _∷_, _++_, append-assoc, append-nil}
 use Prim.Native.Nat.{ℕ, zero, suc, _+_, _-_, _*_, _≤_, _<_}
-use native.Mathlib.Nat.{suc-mul, zero-mul, add-mul}
+use native.Mathlib.Nat.{mul-le-mul, suc-mul, zero-mul, add-mul}
 use native.Mathlib.Omega.{arith}
 use lib.Dec.{ltb}
 use lib.ListN.{length, take, drop, replicate, length-append, length-drop, length-replicate, replicate-append-replicate}
@@ -13,10 +13,11 @@ use Rattle.lists.specs.Lists.{none, more, modify, tab}
 use Rattle.lists.proofs.Places.{length-mapFrom}
 use Rattle.lists.proofs.Flats.{length-tab, all-tab}
 use Rattle.chip.specs.declared.page.Mark.the-variants.{Used, Valid}
-use Rattle.chip.specs.Geometry.{Geometry, small}
+use Rattle.chip.specs.Geometry.{Geometry, Fits}
 use Rattle.chip.specs.Power.{isGone}
 use Rattle.chip.specs.Page.{Page, blank, marked, programmed}
 use Rattle.chip.specs.Chip.{Op, erase, filled, whole, Legal, Machine}
+use Rattle.chip.proofs.Sizes.{pages-pos}
 use Rattle.chip.proofs.ImageLaws.{filled-patch}
 use Rattle.chip.proofs.Marks.{blank-quiet, third-live, third-data, marked-data}
 use Rattle.chip.proofs.Runs.{after, run-parts, run-gone}
@@ -223,7 +224,9 @@ format-legal g fits some b ps l h =
     (let e : 0 + b ≡ b = omega arith in omega (arith, ap (λ (a : ℕ). a * g .pages) e))
     (rw (cleared-blank g b ps l) (writes-legal g (formatData g) (laid-size g 1 0 1 1 (encode rootReset ++ []) fits some (length-units (rootReset ∷ []))) (b * g .pages) (omega arith)))
 
--- ---- on the small chip of b blocks: one empty leaf with number 1, no void page
-pub format-small : (torn : List ℕ) (b n : ℕ) (ps : List Page) → 0 < b → length ps ≡ b * 32 → b + 3 ≤ n
-    → Kept small (8 * b) (formattedBy small torn b n ps .pages) (formatTable (8 * b)) 1
-format-small torn b n ps h l e = format-kept small (omega arith) (omega arith) (omega arith) (8 * b) (omega arith) torn b n ps l (omega arith) e
+-- ---- on a chip of b blocks: one empty leaf with number 1, no void page
+pub format-begun : (g : Geometry) → Fits g → (torn : List ℕ) (b n : ℕ) (ps : List Page) → 0 < b → length ps ≡ b * g .pages → b + 3 ≤ n
+    → Kept g (8 * b) (formattedBy g torn b n ps .pages) (formatTable (8 * b)) 1
+format-begun g f torn b n ps h l e =
+    format-kept g (f .marks) (f .holds) (omega (arith, f .nodes)) (8 * b) (omega arith) torn b n ps l
+    (omega (arith, l, mul-le-mul h (pages-pos g f))) e

@@ -30,13 +30,13 @@ use Rattle.log.specs.Mount.{retire}
 use Rattle.log.specs.MountCode.{isOf, retireOne, retireOps}
 
 -- the commit number stands in the data area
-pub word-front : (x : Page) → headOf (take 512 x) .commit ≡ word x 0
-word-front x =
+pub word-front : (n : ℕ) (x : Page) → 4 ≤ n → headOf (take n x) .commit ≡ word x 0
+word-front n x h =
     rw (
-      getD-take 512 x 0 0 (omega arith),
-      getD-take 512 x 1 0 (omega arith),
-      getD-take 512 x 2 0 (omega arith),
-      getD-take 512 x 3 0 (omega arith),
+      getD-take n x 0 0 (omega arith),
+      getD-take n x 1 0 (omega arith),
+      getD-take n x 2 0 (omega arith),
+      getD-take n x 3 0 (omega arith),
     )
 
 -- one page more at the end

@@ -15,13 +15,14 @@ use Rattle.lists.proofs.Parts.{cut-sizes}
 use Rattle.lists.proofs.Places.{length-modify, At-other, At-getD, at-seam}
 use Rattle.chip.specs.declared.page.Mark.the-variants.{Obsolete}
 use Rattle.chip.specs.declared.power.Power.the-variants.{Left}
-use Rattle.chip.specs.Geometry.{Geometry, pageSize, small}
+use Rattle.chip.specs.Geometry.{Geometry, mostPages, pageSize, blockSize}
 use Rattle.chip.specs.Power.{isGone}
 use Rattle.chip.specs.Page.{Page, isLive, marked}
 use Rattle.chip.specs.Chip.{Legal, Machine, Op, run, pagesOf}
 use Rattle.chip.specs.Erases.{erasesIn}
 use Rattle.chip.proofs.Marks.{obsolete, marked-data}
 use Rattle.chip.proofs.Runs.{after, run-parts, run-gone, Sized}
+use Rattle.chip.proofs.Sizes.{whole-pages, blocks-whole}
 use Rattle.pages.specs.Steps.{Live, live, liveFrom, commit, count, before, ordered, ofCommit, Stood, refused, stand, steps}
 use Rattle.pages.proofs.Order.{asym, trans}
 use Rattle.pages.proofs.LivePages.{elsewhere, places-below, single, steady, shrink-ordered}
@@ -266,10 +267,11 @@ counted g ps (stand (x ∷ v) xs) e h =
 pub mount-count : (g : Geometry) (ps : List Page) → All (λ (x : Live). count x < 256) (liveFrom g 0 ps) → length (mountOps g ps) < 255
 mount-count g ps h = counted g ps (steps g ps) refl h
 
--- so on the small chip
-pub mount-few : (image : List ℕ) → ((i : ℕ) → getD image i 0 < 256) → length image / 528 ≤ 1024 → length (mountOps small (pagesOf small image)) < 255
+-- so on an image of bytes
+pub mount-few : (g : Geometry) (image : List ℕ) → ((i : ℕ) → getD image i 0 < 256) → length image / pageSize g ≤ mostPages
+    → length (mountOps g (pagesOf g image)) < 255
 unfolding count
-mount-few image h l = mount-count small (pagesOf small image) (All-map (λ x b. b .head .count) (image-bounded image 0 h l (omega arith)))
+mount-few g image h l = mount-count g (pagesOf g image) (All-map (λ x b. b .head .count) (image-bounded g image 0 h l (omega arith)))
 
 -- ---- the power of a mount
 module _ (g : Geometry) (torn : List ℕ) (n : ℕ) (ps : List Page) where
@@ -277,10 +279,11 @@ module _ (g : Geometry) (torn : List ℕ) (n : ℕ) (ps : List Page) where
   pub mount-gone : isGone (mountedBy g torn n ps .power) ≡ ltb n (length (mountOps g ps))
   mount-gone = run-gone g torn n ps (mountOps g ps)
 
--- ---- the pages of an image of b blocks on the small chip
-pub image-sized : (image : List ℕ) (b : ℕ) → length image ≡ b * 16896 → All (Sized small) (pagesOf small image)
+-- ---- the pages of an image of b blocks
+pub image-sized : (g : Geometry) (image : List ℕ) (b : ℕ) → length image ≡ b * blockSize g → All (Sized g) (pagesOf g image)
 unfolding pagesOf
-image-sized image b l = cut-sizes 528 (length image / 528) image (omega arith)
+image-sized g image b l =
+    cut-sizes (pageSize g) (length image / pageSize g) image (whole-pages g (length image) (blocks-whole g (length image) b l))
 
 -- ---- an image without a void page: nothing to do, and it stays as it is
 pub clean-none : (g : Geometry) (ps : List Page) (ls : List Live) → steps g ps ≡ stand [] ls → mountOps g ps ≡ []

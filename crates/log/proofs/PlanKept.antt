@@ -1,12 +1,13 @@
--- What a commit asks, from an image of bytes and a buffer; and the numbers of the small chip. Assumes nothing.
+-- What a commit asks, from an image of bytes and a buffer; and the numbers of a chip. Assumes nothing.
 use mathlib.Core.Path.{_≡_, refl, sym, ap, _∙_}
 use mathlib.Core.Bool.{true}
 use mathlib.Core.List.{List}
-use Prim.Native.Nat.{ℕ, suc, _+_, _*_, _^_, _≤_, _<_}
+use Prim.Native.Nat.{ℕ, suc, _+_, _*_, _/_, _^_, _≤_, _<_}
+use native.Mathlib.Nat.{div-mul-le-self, mul-le-mul-left}
 use native.Mathlib.Omega.{arith}
 use lib.ListN.{length}
 use Rattle.lists.specs.Lists.{All}
-use Rattle.chip.specs.Geometry.{Geometry, small}
+use Rattle.chip.specs.Geometry.{Geometry, Fits, pageSize}
 use Rattle.chip.specs.Page.{Page}
 use Rattle.chip.proofs.Runs.{Sized}
 use Rattle.pages.specs.declared.unit.Unit as U
@@ -41,13 +42,21 @@ ready g limit B ps tb G us k number b sizes long bu =
           (ap (λ (s : Node). isWhole (present n (s .now) us)) (sym e) ∙ bu .whole n l);
     }
 
--- ---- the chip of document 01, with 3 to 32 blocks
-pub chip-small : (B : ℕ) (torn : List ℕ) → length torn ≡ 528 → Chip small (8 * B) B torn
-chip-small B torn e = record { spare = omega arith; fits = omega arith; big = omega arith; pos = omega arith; torn-size = omega arith; lim = refl }
+-- ---- a chip of 3 to 32 blocks of a part that fits
+module _ (g : Geometry) (f : Fits g) where
+  pub chip-of : (B : ℕ) (torn : List ℕ) → length torn ≡ pageSize g → Chip g (8 * B) B torn
+  chip-of B torn e = record { part = f; torn-size = e; lim = refl }
 
-pub wide-small : (B : ℕ) → 3 ≤ B → 2 * spareBlocks small B + 1 ≤ B
-wide-small B h = omega arith
+  -- one spare block, and one more for every 8
+  spare-few : (B : ℕ) → spareBlocks g B ≤ B / 8 + 1
+  spare-few B =
+      let n : ℕ = 4 * B / g .pages in
+      let m : n * 32 ≤ n * g .pages = mul-le-mul-left n (f .many) in
+      omega (arith, m, div-mul-le-self (4 * B) (g .pages))
 
--- fewer operations than 2,000: 389 at most
-pub few-small : (B n : ℕ) → B ≤ 32 → n ≤ 12 * B + spareBlocks small B → n ≤ 389
-few-small B n h k = omega arith
+  pub wide : (B : ℕ) → 3 ≤ B → 2 * spareBlocks g B + 1 ≤ B
+  wide B h = omega (arith, spare-few B)
+
+  -- fewer operations than 2,000, or 4,000: 389 at most
+  pub few-ops : (B n : ℕ) → B ≤ 32 → n ≤ 12 * B + spareBlocks g B → n ≤ 389
+  few-ops B n h k = omega (arith, spare-few B)

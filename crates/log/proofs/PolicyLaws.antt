@@ -20,6 +20,7 @@ use Rattle.chip.specs.Geometry.{Geometry}
 use Rattle.chip.specs.Page.{Page}
 use Rattle.chip.specs.Chip.{inBlock}
 use Rattle.chip.specs.Erases.{erasesIn}
+use Rattle.chip.proofs.Sizes.{pages-pos}
 use Rattle.pages.specs.declared.unit.Unit as U
 use Rattle.pages.specs.declared.unit.Update.{Update}
 use Rattle.pages.specs.Steps.{liveFrom}
@@ -270,7 +271,7 @@ module _ {g : Geometry} {limit B : ℕ} {torn : List ℕ} (ch : Chip g limit B t
   h = spareBlocks g B
 
   hd-below : hd < B
-  hd-below = head-below g limit B ps tb G (rd .kept) (ch .pos) (rd .length-is)
+  hd-below = head-below g limit B ps tb G (rd .kept) (pages-pos g (ch .part)) (rd .length-is)
 
   un-all : All (λ b. (b < B) × (b ≡ hd → ⊥) × (isUsed g tb G (liveFrom g 0 ps) b ≡ false)) un
   un-all = unused-all g B tb G (liveFrom g 0 ps) hd hd-below
@@ -319,13 +320,13 @@ module _ {g : Geometry} {limit B : ℕ} {torn : List ℕ} (ch : Chip g limit B t
       (k : ℕ) (en : suc (length (S .rooms)) ≤ length (places g ps hd (take k un)))
       (leaves : h ≤ length un → h ≤ length (filter (staysUnused g limit (contentsOf T us) (S .isAnew) (W k (assignmentOf S) en)) (countFrom 0 B))) where
     page-is : (p : ℕ) → length (unitsOfPacks (pagePacks (writtenOf (contentsOf T us) (S .isAnew)) (S .target) limit p)) ≡ load (sizesOf g (contentsOf T us)) limit S p
-    page-is p = page-load (sizesOf g (contentsOf T us)) (writtenOf (contentsOf T us) (S .isAnew)) S (updates-size g (contentsOf T us) limit few-anew (ch .big) (S .isAnew)) limit p
+    page-is p = page-load (sizesOf g (contentsOf T us)) (writtenOf (contentsOf T us) (S .isAnew)) S (updates-size g (contentsOf T us) limit few-anew (ch .part .nodes) (S .isAnew)) limit p
 
     packing-admissible : Admissible g limit B ps tb G (contentsOf T us) (assignmentOf S)
     packing-admissible =
         record {
           assigned = λ n l s. is-assigned (length (S .rooms)) (S .target n)
-              (r .done n l (omega (arith, s, updates-size g (contentsOf T us) limit few-anew (ch .big) (S .isAnew) n))) (r .good .below n);
+              (r .done n l (omega (arith, s, updates-size g (contentsOf T us) limit few-anew (ch .part .nodes) (S .isAnew) n))) (r .good .below n);
           forced = λ n l s e. r .good .kept n (must n l s e);
           some = λ p l. omega (arith, page-is p, r .good .some p l);
           fits = λ p l. omega (arith, page-is p, r .good .free p);
@@ -371,14 +372,14 @@ module _ {g : Geometry} {limit B : ℕ} {torn : List ℕ} (ch : Chip g limit B t
   D = deltaPacking (sizesOf g (contentsOf T us)) (isForced (contentsOf T us)) (λ (n : ℕ). length (T n .pages)) (inFirst g (contentsOf T us) (usedBlocks g B ps tb G)) limit
 
   d-result : Result (sizesOf g (contentsOf T us)) limit (isForced (contentsOf T us)) D
-  d-result = delta-result (delta-fine g (contentsOf T us) limit few-anew (ch .big)) (λ (n : ℕ). length (T n .pages)) (inFirst g (contentsOf T us) (usedBlocks g B ps tb G))
+  d-result = delta-result (delta-fine g (contentsOf T us) limit few-anew (ch .part .nodes)) (λ (n : ℕ). length (T n .pages)) (inFirst g (contentsOf T us) (usedBlocks g B ps tb G))
 
   -- ---- a snapshot leaves all blocks but the head and h
   abbrev Z : Packing
   Z = snapshotPacking (sizesOf g (contentsOf T us)) limit
 
   snap-result : Result (sizesOf g (contentsOf T us)) limit (λ (n : ℕ). true) Z
-  snap-result = packed-result (snapshot-fine g (contentsOf T us) limit few-anew (ch .big))
+  snap-result = packed-result (snapshot-fine g (contentsOf T us) limit few-anew (ch .part .nodes))
 
   -- the head and the first h unused blocks, and all others
   abbrev taken : ℕ → Bool
@@ -421,9 +422,9 @@ module _ {g : Geometry} {limit B : ℕ} {torn : List ℕ} (ch : Chip g limit B t
   -- with room a snapshot has places
   snap-enough : Room g B h tb G (liveFrom g 0 ps) → suc (length (Z .rooms)) ≤ length (places g ps hd (take h un))
   snap-enough room =
-      let y : h ≤ length un = unused-many g B tb G (liveFrom g 0 ps) hd hd-below h (head-used g limit B ps tb G (rd .kept) (ch .pos) (rd .length-is)) room in
+      let y : h ≤ length un = unused-many g B tb G (liveFrom g 0 ps) hd hd-below h (head-used g limit B ps tb G (rd .kept) (pages-pos g (ch .part)) (rd .length-is)) room in
       let m : length (take h un) * g .pages ≡ h * g .pages = ap (λ (n : ℕ). n * g .pages) (length-take-le h un y) in
-      let q : 4 * B < 4 * B / g .pages * g .pages + g .pages = lt-div-mul-add (ch .pos) in
+      let q : 4 * B < 4 * B / g .pages * g .pages + g .pages = lt-div-mul-add (pages-pos g (ch .part)) in
       omega (arith, length-places g ps hd (take h un), snap-result .few, ch .lim)
 
   -- ---- the policy

@@ -12,8 +12,8 @@ use Rattle.lists.specs.Lists.{any, first, modify}
 use Rattle.lists.proofs.Tests.{cases}
 use Rattle.log.specs.Admissible.{inPage}
 use Rattle.log.specs.Packing.{Packing, assign, changedAt, fillNode, widenNode, deltaPacking, packed, widened, filled}
-use Rattle.log.specs.PlanCode.{targetIn, isMarked, packingOf}
-use Rattle.packing.specs.PackingCode.{sizes, fillsDelta, KeepsForms, Short, Ready, FirstFit, Packs, FillsPages, PacksDelta}
+use Rattle.log.specs.PlanCode.{targetIn, isMarked, packingOf, sizesIn}
+use Rattle.packing.specs.PackingCode.{fillsDelta, KeepsForms, Short, Ready, FirstFit, Packs, FillsPages, PacksDelta}
 use Rattle.packing.proofs.PackingArrays.{assign-arrays, assign-old, changed-set, modify-take, placed-set, target-beyond, target-none, target-some}
 
 -- ---- forms
@@ -66,35 +66,35 @@ module _ (n count : ℕ) (rooms targets forms : List ℕ) (ready : Ready count r
   wide = length-take-le count rooms (rw (ready .pages) few)
 
   -- nothing done
-  pub fills-same : {S : Packing} → packingOf (take count rooms) targets forms ≡ S → FillsPages S count forms rooms targets forms
+  pub fills-same : {S : ℕ → Packing} → ((units : ℕ) → packingOf (take count rooms) targets forms ≡ S units) → FillsPages S count forms rooms targets forms
   fills-same e = record { is = e; ready = ready; keeps = keeps-same }
 
   -- ---- filled in
   module _ (wholes : List ℕ) where
-    pub fills-had : (getD targets n 0 ≡ 65535 → ⊥) → FillsPages (fillNode (sizes wholes []) (packingOf (take count rooms) targets forms) n) count forms rooms targets forms
-    fills-had d = fills-same (rw (target-some n targets inside d))
+    pub fills-had : (getD targets n 0 ≡ 65535 → ⊥) → FillsPages (λ (units : ℕ). fillNode (sizesIn units wholes []) (packingOf (take count rooms) targets forms) n) count forms rooms targets forms
+    fills-had d = fills-same (λ units. rw (target-some n targets inside d))
 
     pub fills-none : getD targets n 0 ≡ 65535 → getD wholes n 0 ≡ 0
-        → FillsPages (fillNode (sizes wholes []) (packingOf (take count rooms) targets forms) n) count forms rooms targets forms
-    fills-none e z = fills-same (rw (target-none n targets inside e, z))
+        → FillsPages (λ (units : ℕ). fillNode (sizesIn units wholes []) (packingOf (take count rooms) targets forms) n) count forms rooms targets forms
+    fills-none e z = fills-same (λ units. rw (target-none n targets inside e, z))
 
     pub fills-full : getD targets n 0 ≡ 65535 → 0 < getD wholes n 0 → (p : ℕ) → FirstFit rooms count (getD wholes n 0) p → count ≤ p
-        → FillsPages (fillNode (sizes wholes []) (packingOf (take count rooms) targets forms) n) count forms rooms targets forms
+        → FillsPages (λ (units : ℕ). fillNode (sizesIn units wholes []) (packingOf (take count rooms) targets forms) n) count forms rooms targets forms
     fills-full e z p f h =
         let no : any (leb (getD wholes n 0)) (take count rooms) ≡ false = any-no (leb (getD wholes n 0)) (take count rooms) (omega (arith, f .is, wide)) in
-        fills-same (rw (target-none n targets inside e, lt-ltb 0 (getD wholes n 0) z, no))
+        fills-same (λ units. rw (target-none n targets inside e, lt-ltb 0 (getD wholes n 0) z, no))
 
     pub fills-in : getD targets n 0 ≡ 65535 → 0 < getD wholes n 0 → (p : ℕ) → FirstFit rooms count (getD wholes n 0) p → p < count
-        → FillsPages (fillNode (sizes wholes []) (packingOf (take count rooms) targets forms) n) count forms (set rooms p (getD rooms p 0 - getD wholes n 0)) (set targets n p) (set forms n 1)
+        → FillsPages (λ (units : ℕ). fillNode (sizesIn units wholes []) (packingOf (take count rooms) targets forms) n) count forms (set rooms p (getD rooms p 0 - getD wholes n 0)) (set targets n p) (set forms n 1)
     fills-in e z p f h =
         let S = packingOf (take count rooms) targets forms in
         let yes' : any (leb (getD wholes n 0)) (take count rooms) ≡ true = any-yes (leb (getD wholes n 0)) (take count rooms) (omega (arith, f .is, wide)) in
-        let step : fillNode (sizes wholes []) S n ≡ assign (sizes wholes []) true n S = rw (target-none n targets inside e, lt-ltb 0 (getD wholes n 0) z, yes') in
-        let a = assign-old n (getD wholes n 0) count rooms targets p f h (rw (ready .pages) few) in
         record {
-          is =
-              ap₂ (λ (rs ts : List ℕ). packingOf rs ts (set forms n 1)) (a .units) (a .target)
-              ∙ assign-arrays (sizes wholes []) true n (take count rooms) targets forms (set forms n 1) inside (omega (arith, a .page)) marked
+          is = λ units.
+              let step : fillNode (sizesIn units wholes []) S n ≡ assign (sizesIn units wholes []) true n S = rw (target-none n targets inside e, lt-ltb 0 (getD wholes n 0) z, yes') in
+              let a = assign-old units n (getD wholes n 0) count rooms targets p f h (rw (ready .pages) few) in
+              ap₂ (λ (rs ts : List ℕ). packingOf rs ts (set forms n 1)) (a .free) (a .target)
+              ∙ assign-arrays (sizesIn units wholes []) true n (take count rooms) targets forms (set forms n 1) inside (omega (arith, a .page)) marked
               ∙ sym step;
           ready =
               record {
@@ -108,26 +108,26 @@ module _ (n count : ℕ) (rooms targets forms : List ℕ) (ready : Ready count r
 
   -- ---- widened
   module _ (wholes parts : List ℕ) where
-    pub widens-none : count ≤ getD targets n 0 → FillsPages (widenNode (sizes wholes parts) (packingOf (take count rooms) targets forms) n) count forms rooms targets forms
-    widens-none h = fills-same (rw (target-beyond n targets inside count (ready .placed) h) (sym (cond-same (isMarked forms n) (packingOf (take count rooms) targets forms))))
+    pub widens-none : count ≤ getD targets n 0 → FillsPages (λ (units : ℕ). widenNode (sizesIn units wholes parts) (packingOf (take count rooms) targets forms) n) count forms rooms targets forms
+    widens-none h = fills-same (λ units. rw (target-beyond n targets inside count (ready .placed) h) (sym (cond-same (isMarked forms n) (packingOf (take count rooms) targets forms))))
 
-    pub widens-anew : getD forms n 0 ≡ 1 → FillsPages (widenNode (sizes wholes parts) (packingOf (take count rooms) targets forms) n) count forms rooms targets forms
-    widens-anew e = fills-same (rw (eq-eqb (getD forms n 0) 1 e))
+    pub widens-anew : getD forms n 0 ≡ 1 → FillsPages (λ (units : ℕ). widenNode (sizesIn units wholes parts) (packingOf (take count rooms) targets forms) n) count forms rooms targets forms
+    widens-anew e = fills-same (λ units. rw (eq-eqb (getD forms n 0) 1 e))
 
     module _ (low : getD targets n 0 < count) (d : getD forms n 0 ≡ 1 → ⊥) (more : ℕ) (is : more ≡ getD wholes n 0 - getD parts n 0) where
       in-page : targetIn targets n ≡ inPage (getD targets n 0)
       in-page = target-some n targets inside (λ e. omega arith)
 
       pub widens-full : getD rooms (getD targets n 0) 0 < more
-          → FillsPages (widenNode (sizes wholes parts) (packingOf (take count rooms) targets forms) n) count forms rooms targets forms
+          → FillsPages (λ (units : ℕ). widenNode (sizesIn units wholes parts) (packingOf (take count rooms) targets forms) n) count forms rooms targets forms
       widens-full h =
           let p = getD targets n 0 in
           let no : leb (getD wholes n 0) (getD parts n 0 + getD (take count rooms) p 0) ≡ false =
           lt-leb (getD wholes n 0) (getD parts n 0 + getD (take count rooms) p 0) (omega (arith, getD-take count rooms p 0 low)) in
-          fills-same (rw (ne-eqb (getD forms n 0) 1 d, in-page, no))
+          fills-same (λ units. rw (ne-eqb (getD forms n 0) 1 d, in-page, no))
 
       pub widens-in : more ≤ getD rooms (getD targets n 0) 0 → getD parts n 0 ≤ getD wholes n 0
-          → FillsPages (widenNode (sizes wholes parts) (packingOf (take count rooms) targets forms) n)
+          → FillsPages (λ (units : ℕ). widenNode (sizesIn units wholes parts) (packingOf (take count rooms) targets forms) n)
           count forms (set rooms (getD targets n 0) (getD rooms (getD targets n 0) 0 - more)) targets (set forms n 1)
       widens-in h l =
           let p = getD targets n 0 in
@@ -135,14 +135,14 @@ module _ (n count : ℕ) (rooms targets forms : List ℕ) (ready : Ready count r
           let yes' : leb (getD wholes n 0) (getD parts n 0 + getD (take count rooms) p 0) ≡ true =
           le-leb (getD wholes n 0) (getD parts n 0 + getD (take count rooms) p 0) (omega (arith, getD-take count rooms p 0 low)) in
           let left : getD rooms p 0 - more ≡ f (getD rooms p 0) = omega arith in
-          let step : widenNode (sizes wholes parts) (packingOf (take count rooms) targets forms) n
+          let step : (units : ℕ) → widenNode (sizesIn units wholes parts) (packingOf (take count rooms) targets forms) n
           ≡ record { rooms = modify p f (take count rooms); target = targetIn targets; isAnew = changedAt n true (isMarked forms) } =
-          rw (ne-eqb (getD forms n 0) 1 d, in-page, yes') in
+          λ units. rw (ne-eqb (getD forms n 0) 1 d, in-page, yes') in
           record {
-            is =
+            is = λ units.
                 ap₂ (λ (rs : List ℕ) (an : ℕ → Bool). record { rooms = rs; target = targetIn targets; isAnew = an })
                 (ap (λ (x : ℕ). take count (set rooms p x)) left ∙ sym (modify-take f p count rooms low (rw (ready .pages) few))) (sym marked)
-                ∙ sym step;
+                ∙ sym (step units);
             ready =
                 record { pages = simp length-set (ready .pages); nodes = ready .nodes; marks = simp length-set (ready .marks); placed = ready .placed };
             keeps = keeps-set forms n (rw (ready .marks) on);
@@ -151,29 +151,30 @@ module _ (n count : ℕ) (rooms targets forms : List ℕ) (ready : Ready count r
 -- ---- the four passes, behind the packing
 module _ (wholes parts lens olds : List ℕ) (limit : ℕ) {count : ℕ} {forms forms₁ : List ℕ} where
   pub fills-delta : (S : Packing) {rooms₁ rooms₂ rooms₃ rooms₄ targets₁ targets₂ forms₂ forms₃ forms₄ : List ℕ}
-      → FillsPages (widened (sizes wholes parts) (λ (n : ℕ). getD lens n 0) limit 3 S) count forms rooms₁ targets₁ forms₁
-      → FillsPages (filled (sizes wholes []) (isMarked olds) limit (packingOf (take count rooms₁) targets₁ forms₁)) count forms₁ rooms₂ targets₂ forms₂
-      → FillsPages (widened (sizes wholes parts) (λ (n : ℕ). getD lens n 0) limit 2 (packingOf (take count rooms₂) targets₂ forms₂)) count forms₂ rooms₃ targets₂ forms₃
-      → FillsPages (widened (sizes wholes parts) (λ (n : ℕ). getD lens n 0) limit 1 (packingOf (take count rooms₃) targets₂ forms₃)) count forms₃ rooms₄ targets₂ forms₄
-      → FillsPages (fillsDelta wholes parts lens olds limit S) count forms rooms₄ targets₂ forms₄
+      → FillsPages (λ (units : ℕ). widened (sizesIn units wholes parts) (λ (n : ℕ). getD lens n 0) limit 3 S) count forms rooms₁ targets₁ forms₁
+      → FillsPages (λ (units : ℕ). filled (sizesIn units wholes []) (isMarked olds) limit (packingOf (take count rooms₁) targets₁ forms₁)) count forms₁ rooms₂ targets₂ forms₂
+      → FillsPages (λ (units : ℕ). widened (sizesIn units wholes parts) (λ (n : ℕ). getD lens n 0) limit 2 (packingOf (take count rooms₂) targets₂ forms₂)) count forms₂ rooms₃ targets₂ forms₃
+      → FillsPages (λ (units : ℕ). widened (sizesIn units wholes parts) (λ (n : ℕ). getD lens n 0) limit 1 (packingOf (take count rooms₃) targets₂ forms₃)) count forms₃ rooms₄ targets₂ forms₄
+      → FillsPages (λ (units : ℕ). fillsDelta units wholes parts lens olds limit S) count forms rooms₄ targets₂ forms₄
   fills-delta S a b c d =
       record {
-        is =
-            d .is
-            ∙ ap (widened (sizes wholes parts) (λ (n : ℕ). getD lens n 0) limit 1)
-            (c .is
-            ∙ ap (widened (sizes wholes parts) (λ (n : ℕ). getD lens n 0) limit 2) (b .is ∙ ap (filled (sizes wholes []) (isMarked olds) limit) (a .is)));
+        is = λ units.
+            d .is units
+            ∙ ap (widened (sizesIn units wholes parts) (λ (n : ℕ). getD lens n 0) limit 1)
+            (c .is units
+            ∙ ap (widened (sizesIn units wholes parts) (λ (n : ℕ). getD lens n 0) limit 2)
+            (b .is units ∙ ap (filled (sizesIn units wholes []) (isMarked olds) limit) (a .is units)));
         ready = d .ready;
         keeps = keeps-both (a .keeps) (keeps-both (b .keeps) (keeps-both (c .keeps) (d .keeps)));
       }
 
-  pub packs-delta : {most : ℕ} {rooms₁ rooms₂ targets₁ targets₂ : List ℕ}
-      → Packs (packed (sizes wholes parts) (isMarked forms) limit) most count rooms₁ targets₁ forms
-      → FillsPages (fillsDelta wholes parts lens olds limit (packingOf (take count rooms₁) targets₁ forms)) count forms rooms₂ targets₂ forms₁
-      → PacksDelta (deltaPacking (sizes wholes parts) (isMarked forms) (λ (n : ℕ). getD lens n 0) (isMarked olds) limit) most count forms rooms₂ targets₂ forms₁
-  packs-delta p f =
+  pub packs-delta : (units : ℕ) {most : ℕ} {rooms₁ rooms₂ targets₁ targets₂ : List ℕ}
+      → Packs (packed (sizesIn units wholes parts) (isMarked forms) limit) most count rooms₁ targets₁ forms
+      → FillsPages (λ (u : ℕ). fillsDelta u wholes parts lens olds limit (packingOf (take count rooms₁) targets₁ forms)) count forms rooms₂ targets₂ forms₁
+      → PacksDelta (deltaPacking (sizesIn units wholes parts) (isMarked forms) (λ (n : ℕ). getD lens n 0) (isMarked olds) limit) most count forms rooms₂ targets₂ forms₁
+  packs-delta units p f =
       record {
-        packs = record { is = f .is ∙ ap (fillsDelta wholes parts lens olds limit) (p .is); ready = f .ready; few = p .few };
+        packs = record { is = f .is units ∙ ap (fillsDelta units wholes parts lens olds limit) (p .is); ready = f .ready; few = p .few };
         keeps = f .keeps;
         bits = keeps-bits (f .keeps);
       }

@@ -15,8 +15,8 @@ use Rattle.lists.proofs.Places.{getD-default, getD-same}
 use Rattle.log.specs.Plan.{countFrom}
 use Rattle.log.specs.Admissible.{Target, unwritten, inPage}
 use Rattle.log.specs.Packing.{Packing, Sizes, fit, assign, sizeOf, changedAt, packNode, packed, unpacked}
-use Rattle.log.specs.PlanCode.{targetOf, targetIn, isMarked, packingOf}
-use Rattle.packing.specs.PackingCode.{sizes, packIf, Placed, Ready, FirstFit, Assigns, Packs}
+use Rattle.log.specs.PlanCode.{targetOf, targetIn, isMarked, packingOf, sizesIn}
+use Rattle.packing.specs.PackingCode.{packIf, Placed, Ready, FirstFit, Assigns, Packs}
 
 -- ---- tests
 pub or-left : (a b : Bool) → a ≡ true → (a || b) ≡ true
@@ -116,14 +116,14 @@ modify-take f n count xs h l =
     ∙ ap (λ (x : ℕ). set (take count xs) n (f x)) (getD-take count xs n 0 h)
     ∙ sym (take-set-lt count xs n (f (getD xs n 0)) h)
 
-module _ (n size count : ℕ) (rooms targets : List ℕ) (p : ℕ) (fits : FirstFit rooms count size p) where
+module _ (units n size count : ℕ) (rooms targets : List ℕ) (p : ℕ) (fits : FirstFit rooms count size p) where
   -- the page has room
-  pub assign-old : p < count → count ≤ length rooms → Assigns n size count rooms targets count (set rooms p (getD rooms p 0 - size)) (set targets n p)
+  pub assign-old : p < count → count ≤ length rooms → Assigns units n size count rooms targets count (set rooms p (getD rooms p 0 - size)) (set targets n p)
   assign-old h l =
       let at : first (leb size) (take count rooms) < count = rw (fits .is) at h in
       record {
-        units =
-            sym (fit-old 42 size (take count rooms) (rw (length-take-le count rooms l) at)
+        free =
+            sym (fit-old units size (take count rooms) (rw (length-take-le count rooms l) at)
             ∙ ap (λ (k : ℕ). modify k (λ (r : ℕ). r - size) (take count rooms)) (sym (fits .is))
             ∙ modify-take (λ (r : ℕ). r - size) p count rooms h l);
         target = ap (set targets n) (fits .is);
@@ -133,14 +133,14 @@ module _ (n size count : ℕ) (rooms targets : List ℕ) (p : ℕ) (fits : First
       }
 
   -- no page has room
-  pub assign-new : (v : ℕ) → v ≡ 42 - size → count ≤ p → count < length rooms → Assigns n size count rooms targets (count + 1) (set rooms count v) (set targets n p)
+  pub assign-new : (v : ℕ) → v ≡ units - size → count ≤ p → count < length rooms → Assigns units n size count rooms targets (count + 1) (set rooms count v) (set targets n p)
   assign-new v q h l =
       let e = fits .is in
       let m = fits .low in
       record {
-        units =
+        free =
             ap (λ (k : ℕ). take k (set rooms count v)) (add-one count) ∙ take-suc-set rooms count v l
-            ∙ sym (fit-new 42 size (take count rooms) (rw (length-take-le count rooms (omega arith)) (omega arith)) ∙ ap (λ (x : ℕ). take count rooms ++ (x ∷ [])) (sym q));
+            ∙ sym (fit-new units size (take count rooms) (rw (length-take-le count rooms (omega arith)) (omega arith)) ∙ ap (λ (x : ℕ). take count rooms ++ (x ∷ [])) (sym q));
         target = ap (set targets n) e;
         page = omega arith;
         low = omega arith;
@@ -195,35 +195,35 @@ module _ (n : ℕ) (targets : List ℕ) (on : n < length targets) where
       (λ t. let l = k n (eqb-false (getD targets n 65535) 65535 t) in absurd (omega (arith, target-at)))
 
 -- ---- a node packed
-module _ (wholes parts : List ℕ) (n count : ℕ) (rooms targets forms : List ℕ) (ready : Ready count rooms targets forms) (on : n < 256) where
+module _ (units : ℕ) (wholes parts : List ℕ) (n count : ℕ) (rooms targets forms : List ℕ) (ready : Ready count rooms targets forms) (on : n < 256) where
   inside : n < length targets
   inside = rw (ready .nodes) on
 
   -- nothing to do
-  packs-same : packingOf (take count rooms) targets forms ≡ packNode (sizes wholes parts) (packingOf (take count rooms) targets forms) n
-      → Packs (packNode (sizes wholes parts) (packingOf (take count rooms) targets forms) n) (count + 1) count rooms targets forms
+  packs-same : packingOf (take count rooms) targets forms ≡ packNode (sizesIn units wholes parts) (packingOf (take count rooms) targets forms) n
+      → Packs (packNode (sizesIn units wholes parts) (packingOf (take count rooms) targets forms) n) (count + 1) count rooms targets forms
   packs-same e = record { is = e; ready = ready; few = omega arith }
 
-  pub packs-had : (getD targets n 0 ≡ 65535 → ⊥) → Packs (packNode (sizes wholes parts) (packingOf (take count rooms) targets forms) n) (count + 1) count rooms targets forms
+  pub packs-had : (getD targets n 0 ≡ 65535 → ⊥) → Packs (packNode (sizesIn units wholes parts) (packingOf (take count rooms) targets forms) n) (count + 1) count rooms targets forms
   packs-had d = packs-same (rw (target-some n targets inside d))
 
-  pub packs-none : getD targets n 0 ≡ 65535 → (size : ℕ) → size ≡ sizeOf (sizes wholes parts) (isMarked forms n) n → size ≡ 0
-      → Packs (packNode (sizes wholes parts) (packingOf (take count rooms) targets forms) n) (count + 1) count rooms targets forms
+  pub packs-none : getD targets n 0 ≡ 65535 → (size : ℕ) → size ≡ sizeOf (sizesIn units wholes parts) (isMarked forms n) n → size ≡ 0
+      → Packs (packNode (sizesIn units wholes parts) (packingOf (take count rooms) targets forms) n) (count + 1) count rooms targets forms
   packs-none e size q z = packs-same (rw (target-none n targets inside e, sym q ∙ z))
 
-  pub packs-assigned : {size r : ℕ} {rooms' targets' : List ℕ} → getD targets n 0 ≡ 65535 → count < 512 → size ≡ sizeOf (sizes wholes parts) (isMarked forms n) n → 0 < size
-      → length rooms' ≡ length rooms → length targets' ≡ length targets → Assigns n size count rooms targets r rooms' targets'
-      → Packs (packNode (sizes wholes parts) (packingOf (take count rooms) targets forms) n) (count + 1) r rooms' targets' forms
+  pub packs-assigned : {size r : ℕ} {rooms' targets' : List ℕ} → getD targets n 0 ≡ 65535 → count < 512 → size ≡ sizeOf (sizesIn units wholes parts) (isMarked forms n) n → 0 < size
+      → length rooms' ≡ length rooms → length targets' ≡ length targets → Assigns units n size count rooms targets r rooms' targets'
+      → Packs (packNode (sizesIn units wholes parts) (packingOf (take count rooms) targets forms) n) (count + 1) r rooms' targets' forms
   packs-assigned {size} {r} {rooms'} {targets'} e low q some lr lt a =
-      let s = sizeOf (sizes wholes parts) (isMarked forms n) n in
+      let s = sizeOf (sizesIn units wholes parts) (isMarked forms n) n in
       let S = packingOf (take count rooms) targets forms in
-      let b : Assigns n s count rooms targets r rooms' targets' = rw q at a in
+      let b : Assigns units n s count rooms targets r rooms' targets' = rw q at a in
       let t : 0 < s = rw q at some in
-      let step : packNode (sizes wholes parts) S n ≡ assign (sizes wholes parts) (isMarked forms n) n S = rw (target-none n targets inside e, lt-ltb 0 s t) in
+      let step : packNode (sizesIn units wholes parts) S n ≡ assign (sizesIn units wholes parts) (isMarked forms n) n S = rw (target-none n targets inside e, lt-ltb 0 s t) in
       record {
         is =
-            ap₂ (λ (rs ts : List ℕ). packingOf rs ts forms) (b .units) (b .target)
-            ∙ assign-arrays (sizes wholes parts) (isMarked forms n) n (take count rooms) targets forms forms inside (omega (arith, b .page, b .high)) (changed-self n (isMarked forms))
+            ap₂ (λ (rs ts : List ℕ). packingOf rs ts forms) (b .free) (b .target)
+            ∙ assign-arrays (sizesIn units wholes parts) (isMarked forms n) n (take count rooms) targets forms forms inside (omega (arith, b .page, b .high)) (changed-self n (isMarked forms))
             ∙ sym step;
         ready =
             record {
@@ -249,18 +249,18 @@ module _ (k : ℕ) (rooms forms targets : List ℕ) (none : targets ≡ replicat
   unpacked-arrays = ap (λ (ts : ℕ → Target). record { rooms = []; target = ts; isAnew = isMarked forms }) (fun-ext (λ n. ap targetOf (target-unset n)))
 
   -- the nodes whose form is 1, then all
-  pub packs-passes : (wholes parts : List ℕ) (limit : ℕ) {c r : ℕ} {rooms' targets' rooms'' targets'' : List ℕ}
-      → Packs (foldl (packIf false wholes parts forms) (packingOf [] targets forms) (countFrom 0 limit)) (0 + limit) c rooms' targets' forms
-      → Packs (foldl (packIf true wholes parts forms) (packingOf (take c rooms') targets' forms) (countFrom 0 limit)) (c + limit) r rooms'' targets'' forms
-      → Packs (packed (sizes wholes parts) (isMarked forms) limit) (2 * limit) r rooms'' targets'' forms
-  packs-passes wholes parts limit p q =
+  pub packs-passes : (units : ℕ) (wholes parts : List ℕ) (limit : ℕ) {c r : ℕ} {rooms' targets' rooms'' targets'' : List ℕ}
+      → Packs (foldl (packIf units false wholes parts forms) (packingOf [] targets forms) (countFrom 0 limit)) (0 + limit) c rooms' targets' forms
+      → Packs (foldl (packIf units true wholes parts forms) (packingOf (take c rooms') targets' forms) (countFrom 0 limit)) (c + limit) r rooms'' targets'' forms
+      → Packs (packed (sizesIn units wholes parts) (isMarked forms) limit) (2 * limit) r rooms'' targets'' forms
+  packs-passes units wholes parts limit p q =
       record {
         is =
             q .is
-            ∙ ap (λ (S : Packing). foldl (packIf true wholes parts forms) S (countFrom 0 limit))
+            ∙ ap (λ (S : Packing). foldl (packIf units true wholes parts forms) S (countFrom 0 limit))
             (p .is
-            ∙ ap (λ (S : Packing). foldl (packIf false wholes parts forms) S (countFrom 0 limit)) unpacked-arrays
-            ∙ sym (fold-filter (packNode (sizes wholes parts)) (isMarked forms) (countFrom 0 limit) (unpacked (isMarked forms))));
+            ∙ ap (λ (S : Packing). foldl (packIf units false wholes parts forms) S (countFrom 0 limit)) unpacked-arrays
+            ∙ sym (fold-filter (packNode (sizesIn units wholes parts)) (isMarked forms) (countFrom 0 limit) (unpacked (isMarked forms))));
         ready = q .ready;
         few = omega (arith, p .few, q .few);
       }

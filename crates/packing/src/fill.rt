@@ -2,11 +2,11 @@
 ghost use mathlib.Core.Path.{_≡_};
 ghost use mathlib.Core.Bool.{cond};
 ghost use mathlib.Core.List.{[]};
-ghost use Prim.Native.Nat.{_<_, _≤_};
+ghost use Prim.Native.Nat.{ℕ, _<_, _≤_};
 ghost use lib.ListN.{length, take};
 ghost use Rattle.log.specs.Packing.{fillNode, filled};
-ghost use Rattle.log.specs.PlanCode.{isMarked, packingOf};
-ghost use Rattle.packing.specs.PackingCode.{sizes, Ready, FillsPages};
+ghost use Rattle.log.specs.PlanCode.{isMarked, packingOf, sizesIn};
+ghost use Rattle.packing.specs.PackingCode.{Ready, FillsPages};
 use crate::fit;
 use crate::fit::NONE;
 
@@ -20,7 +20,7 @@ fn fill_node(
     count: usize,
 )
     requires { ⌜ (length (now wholes) ≡ 256) × (n < 256) × (count ≤ 512) × Ready count (now rooms) (now targets) (now forms) ⌝ }
-    ensures { λ _. ⌜ FillsPages (fillNode (sizes (now (wholes .entry)) []) (packingOf (take count (now (rooms .entry))) (now (targets .entry)) (now (forms .entry))) n)
+    ensures { λ _. ⌜ FillsPages (λ (units : ℕ). fillNode (sizesIn units (now (wholes .entry)) []) (packingOf (take count (now (rooms .entry))) (now (targets .entry)) (now (forms .entry))) n)
         count (now (forms .entry)) (now (rooms .exit)) (now (targets .exit)) (now (forms .exit)) ⌝ }
 {
     let size = wholes[n];
@@ -49,7 +49,7 @@ fn fill_if(
     count: usize,
 )
     requires { ⌜ (length (now wholes) ≡ 256) × (n < 256) × (count ≤ 512) × Ready count (now rooms) (now targets) (now forms) ⌝ }
-    ensures { λ _. ⌜ FillsPages (cond here (fillNode (sizes (now (wholes .entry)) []) (packingOf (take count (now (rooms .entry))) (now (targets .entry)) (now (forms .entry))) n)
+    ensures { λ _. ⌜ FillsPages (λ (units : ℕ). cond here (fillNode (sizesIn units (now (wholes .entry)) []) (packingOf (take count (now (rooms .entry))) (now (targets .entry)) (now (forms .entry))) n)
         (packingOf (take count (now (rooms .entry))) (now (targets .entry)) (now (forms .entry))))
         count (now (forms .entry)) (now (rooms .exit)) (now (targets .exit)) (now (forms .exit)) ⌝ }
 {
@@ -69,7 +69,7 @@ pub fn fill_all(
     count: usize,
 )
     requires { ⌜ (length (now olds) ≡ 256) × (limit ≤ 256) × (length (now wholes) ≡ 256) × (count ≤ 512) × Ready count (now rooms) (now targets) (now forms) ⌝ }
-    ensures { λ _. ⌜ FillsPages (filled (sizes (now (wholes .entry)) []) (isMarked (now (olds .entry))) limit
+    ensures { λ _. ⌜ FillsPages (λ (units : ℕ). filled (sizesIn units (now (wholes .entry)) []) (isMarked (now (olds .entry))) limit
         (packingOf (take count (now (rooms .entry))) (now (targets .entry)) (now (forms .entry))))
         count (now (forms .entry)) (now (rooms .exit)) (now (targets .exit)) (now (forms .exit)) ⌝ }
 {

@@ -1,17 +1,18 @@
-// The nodes packed into pages: those that are written anew, then the others.
+// The nodes packed into pages of `units` units: those that are written anew, then the others.
 ghost use mathlib.Core.Path.{_≡_};
 ghost use mathlib.Core.List.{foldl};
 ghost use Prim.Native.Nat.{_+_, _*_, _<_, _≤_};
 ghost use lib.ListN.{length, take, replicate};
 ghost use Rattle.log.specs.Plan.{countFrom};
 ghost use Rattle.log.specs.Packing.{packNode, packed};
-ghost use Rattle.log.specs.PlanCode.{isMarked, packingOf};
-ghost use Rattle.packing.specs.PackingCode.{sizes, packIf, Ready, Packs};
+ghost use Rattle.log.specs.PlanCode.{isMarked, packingOf, sizesIn};
+ghost use Rattle.packing.specs.PackingCode.{packIf, Ready, Packs};
 use crate::fit;
 use crate::fit::NONE;
 
 // A node packed if it has units to write and no page yet; the number of pages after it.
 fn pack_node(
+    units: u32,
     n: usize,
     wholes: &[u32],
     parts: &[u32],
@@ -21,7 +22,7 @@ fn pack_node(
     count: usize,
 ) -> usize
     requires { ⌜ (length (now wholes) ≡ 256) × (length (now parts) ≡ 256) × (n < 256) × (count < 512) × Ready count (now rooms) (now targets) (now forms) ⌝ }
-    ensures { λ r. ⌜ Packs (packNode (sizes (now (wholes .entry)) (now (parts .entry))) (packingOf (take count (now (rooms .entry))) (now (targets .entry)) (now (forms .entry))) n)
+    ensures { λ r. ⌜ Packs (packNode (sizesIn units (now (wholes .entry)) (now (parts .entry))) (packingOf (take count (now (rooms .entry))) (now (targets .entry)) (now (forms .entry))) n)
         (count + 1) r (now (rooms .exit)) (now (targets .exit)) (now (forms .entry)) ⌝ }
 {
     if targets[n] != NONE {
@@ -31,11 +32,12 @@ fn pack_node(
     if size == 0 {
         return count;
     }
-    fit::assign(n, size, targets, rooms, count)
+    fit::assign(units, n, size, targets, rooms, count)
 }
 
 // The same if its form is 1, or in any case.
 fn pack_if(
+    units: u32,
     always: bool,
     n: usize,
     wholes: &[u32],
@@ -46,7 +48,7 @@ fn pack_if(
     count: usize,
 ) -> usize
     requires { ⌜ (length (now wholes) ≡ 256) × (length (now parts) ≡ 256) × (n < 256) × (count < 512) × Ready count (now rooms) (now targets) (now forms) ⌝ }
-    ensures { λ r. ⌜ Packs (packIf always (now (wholes .entry)) (now (parts .entry)) (now (forms .entry)) (packingOf (take count (now (rooms .entry))) (now (targets .entry)) (now (forms .entry))) n)
+    ensures { λ r. ⌜ Packs (packIf units always (now (wholes .entry)) (now (parts .entry)) (now (forms .entry)) (packingOf (take count (now (rooms .entry))) (now (targets .entry)) (now (forms .entry))) n)
         (count + 1) r (now (rooms .exit)) (now (targets .exit)) (now (forms .entry)) ⌝ }
 {
     if !always {
@@ -54,11 +56,12 @@ fn pack_if(
             return count;
         }
     }
-    pack_node(n, wholes, parts, forms, targets, rooms, count)
+    pack_node(units, n, wholes, parts, forms, targets, rooms, count)
 }
 
 // The nodes below `limit` packed, those whose form is 1 or all; the number of pages after them.
 fn pack_pass(
+    units: u32,
     always: bool,
     limit: u32,
     wholes: &[u32],
@@ -69,7 +72,7 @@ fn pack_pass(
     count: usize,
 ) -> usize
     requires { ⌜ (length (now wholes) ≡ 256) × (length (now parts) ≡ 256) × (limit ≤ 256) × (count + limit ≤ 512) × Ready count (now rooms) (now targets) (now forms) ⌝ }
-    ensures { λ r. ⌜ Packs (foldl (packIf always (now (wholes .entry)) (now (parts .entry)) (now (forms .entry)))
+    ensures { λ r. ⌜ Packs (foldl (packIf units always (now (wholes .entry)) (now (parts .entry)) (now (forms .entry)))
         (packingOf (take count (now (rooms .entry))) (now (targets .entry)) (now (forms .entry))) (countFrom 0 limit))
         (count + limit) r (now (rooms .exit)) (now (targets .exit)) (now (forms .entry)) ⌝ }
 {
@@ -77,7 +80,7 @@ fn pack_pass(
     let mut k = count;
     let mut n = 0;
     while n < end {
-        k = pack_if(always, n, wholes, parts, forms, targets, rooms, k);
+        k = pack_if(units, always, n, wholes, parts, forms, targets, rooms, k);
         n += 1;
     }
     k
@@ -96,6 +99,7 @@ fn clear(targets: &mut [u32])
 
 // First fit, with the arrays as slices.
 pub fn pack_in(
+    units: u32,
     limit: u32,
     wholes: &[u32],
     parts: &[u32],
@@ -105,16 +109,27 @@ pub fn pack_in(
 ) -> usize
     requires { ⌜ (limit ≤ 256) × (length (now wholes) ≡ 256) × (length (now parts) ≡ 256) × (length (now forms) ≡ 256)
         × (length (now targets) ≡ 256) × (length (now rooms) ≡ 512) ⌝ }
-    ensures { λ r. ⌜ Packs (packed (sizes (now (wholes .entry)) (now (parts .entry))) (isMarked (now (forms .entry))) limit)
+    ensures { λ r. ⌜ Packs (packed (sizesIn units (now (wholes .entry)) (now (parts .entry))) (isMarked (now (forms .entry))) limit)
         (2 * limit) r (now (rooms .exit)) (now (targets .exit)) (now (forms .entry)) ⌝ }
 {
     clear(targets);
-    let marked = pack_pass(false, limit, wholes, parts, forms, targets, rooms, 0);
-    pack_pass(true, limit, wholes, parts, forms, targets, rooms, marked)
+    let marked = pack_pass(units, false, limit, wholes, parts, forms, targets, rooms, 0);
+    pack_pass(
+        units,
+        true,
+        limit,
+        wholes,
+        parts,
+        forms,
+        targets,
+        rooms,
+        marked,
+    )
 }
 
 // The pages of the nodes below `limit` in their forms, by first fit: their number, the free units of each, and the page of each node.
 pub fn pack_nodes(
+    units: u32,
     limit: u32,
     wholes: &[u32; 256],
     parts: &[u32; 256],
@@ -123,8 +138,8 @@ pub fn pack_nodes(
     rooms: &mut [u32; 512],
 ) -> usize
     requires { ⌜ limit ≤ 256 ⌝ }
-    ensures { λ r. ⌜ Packs (packed (sizes (now (wholes .entry)) (now (parts .entry))) (isMarked (now (forms .entry))) limit)
+    ensures { λ r. ⌜ Packs (packed (sizesIn units (now (wholes .entry)) (now (parts .entry))) (isMarked (now (forms .entry))) limit)
         (2 * limit) r (now (rooms .exit)) (now (targets .exit)) (now (forms .entry)) ⌝ }
 {
-    pack_in(limit, wholes, parts, forms, targets, rooms)
+    pack_in(units, limit, wholes, parts, forms, targets, rooms)
 }

@@ -4,8 +4,8 @@ ghost use mathlib.Core.Bool.{cond};
 ghost use Prim.Native.Nat.{ℕ, _<_, _≤_};
 ghost use lib.ListN.{getD, length, take};
 ghost use Rattle.log.specs.Packing.{widenNode, widened};
-ghost use Rattle.log.specs.PlanCode.{packingOf};
-ghost use Rattle.packing.specs.PackingCode.{sizes, Short, Ready, FillsPages};
+ghost use Rattle.log.specs.PlanCode.{packingOf, sizesIn};
+ghost use Rattle.packing.specs.PackingCode.{Short, Ready, FillsPages};
 use crate::fit;
 
 // A node in its own units written anew if its page has room for the units that it lacks.
@@ -20,7 +20,7 @@ fn widen_node(
 )
     requires { ⌜ (length (now wholes) ≡ 256) × (length (now parts) ≡ 256) × (n < 256) × (count ≤ 512) × Ready count (now rooms) (now targets) (now forms)
         × ((getD (now forms) n 0 ≡ 1 → ⊥) → getD (now parts) n 0 ≤ getD (now wholes) n 0) ⌝ }
-    ensures { λ _. ⌜ FillsPages (widenNode (sizes (now (wholes .entry)) (now (parts .entry))) (packingOf (take count (now (rooms .entry))) (now (targets .entry)) (now (forms .entry))) n)
+    ensures { λ _. ⌜ FillsPages (λ (units : ℕ). widenNode (sizesIn units (now (wholes .entry)) (now (parts .entry))) (packingOf (take count (now (rooms .entry))) (now (targets .entry)) (now (forms .entry))) n)
         count (now (forms .entry)) (now (rooms .exit)) (now (targets .entry)) (now (forms .exit)) ⌝ }
 {
     let page = targets[n] as usize;
@@ -50,7 +50,7 @@ fn widen_if(
 )
     requires { ⌜ (length (now wholes) ≡ 256) × (length (now parts) ≡ 256) × (n < 256) × (count ≤ 512) × Ready count (now rooms) (now targets) (now forms)
         × ((getD (now forms) n 0 ≡ 1 → ⊥) → getD (now parts) n 0 ≤ getD (now wholes) n 0) ⌝ }
-    ensures { λ _. ⌜ FillsPages (cond here (widenNode (sizes (now (wholes .entry)) (now (parts .entry))) (packingOf (take count (now (rooms .entry))) (now (targets .entry)) (now (forms .entry))) n)
+    ensures { λ _. ⌜ FillsPages (λ (units : ℕ). cond here (widenNode (sizesIn units (now (wholes .entry)) (now (parts .entry))) (packingOf (take count (now (rooms .entry))) (now (targets .entry)) (now (forms .entry))) n)
         (packingOf (take count (now (rooms .entry))) (now (targets .entry)) (now (forms .entry))))
         count (now (forms .entry)) (now (rooms .exit)) (now (targets .entry)) (now (forms .exit)) ⌝ }
 {
@@ -73,7 +73,7 @@ pub fn widen_all(
 )
     requires { ⌜ (length (now lens) ≡ 256) × (limit ≤ 256) × (length (now wholes) ≡ 256) × (length (now parts) ≡ 256) × (count ≤ 512)
         × Ready count (now rooms) (now targets) (now forms) × Short limit (now wholes) (now parts) (now forms) ⌝ }
-    ensures { λ _. ⌜ FillsPages (widened (sizes (now (wholes .entry)) (now (parts .entry))) (λ (n : ℕ). getD (now (lens .entry)) n 0) limit d
+    ensures { λ _. ⌜ FillsPages (λ (units : ℕ). widened (sizesIn units (now (wholes .entry)) (now (parts .entry))) (λ (n : ℕ). getD (now (lens .entry)) n 0) limit d
         (packingOf (take count (now (rooms .entry))) (now (targets .entry)) (now (forms .entry))))
         count (now (forms .entry)) (now (rooms .exit)) (now (targets .entry)) (now (forms .exit)) ⌝ }
 {

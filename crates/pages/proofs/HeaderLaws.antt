@@ -1,13 +1,13 @@
 -- Headers and pages laid out: the own rules taken apart, and what is laid out is read back. Assumes nothing.
 use mathlib.Core.Path.{_≡_, refl, sym, ap, ap₂, _∙_, subst}
 use mathlib.Core.Bool.{Bool, true, false, _&&_}
-use mathlib.Core.List.{List, _++_, map, append-assoc, append-nil}
-use Prim.Native.Nat.{ℕ, suc, _+_, _-_, _*_, _^_, _<_, _≤_}
-use native.Mathlib.Numerals.{add-one}
+use mathlib.Core.List.{List, _++_, map}
+use Prim.Native.Nat.{ℕ, _+_, _-_, _*_, _^_, _<_, _≤_}
+use native.Mathlib.Nat.{sub-zero}
 use native.Mathlib.Omega.{arith}
 use lib.Dec.{eqb}
-use lib.ListN.{length, take, drop, set, replicate, length-append, length-drop, length-replicate}
-use lib.Seq.{drop-at, drop-drop, take-all, take-length, take-suc-set, length-take-le}
+use lib.ListN.{length, take, drop, replicate, length-append, length-drop, length-replicate}
+use lib.Seq.{drop-at, drop-drop, take-all, take-length, length-take-le}
 use borrow.Author.Tests.{lt-ltb, le-leb, ltb-true, leb-true}
 use Rattle.lists.specs.Lists.{all, All, flat, part, patch}
 use Rattle.lists.proofs.Tests.{cases, and-left, and-right}
@@ -18,6 +18,7 @@ use Rattle.chip.specs.Page.{isFree}
 use Rattle.pages.specs.declared.unit.Unit.{Unit}
 use Rattle.pages.specs.declared.unit.Decoded.the-variants.{Good}
 use Rattle.pages.specs.declared.header.Head.{Head}
+use Rattle.pages.specs.declared.header.Header.{Header}
 use Rattle.pages.specs.declared.header.Header.the-variants.{Obeys, Breaks}
 use Rattle.pages.specs.Units.{encode, decodes, Valid}
 use Rattle.pages.specs.Data.{headOf, obeys, headerOf, headBytes, laid, dataOf}
@@ -95,19 +96,9 @@ pub rest-free : (d : List ℕ) (a : ℕ) (t : Bool) → t ≡ isFree (take (leng
 unfolding isFree
 rest-free d a t e = rw e (rw (take-all (length d - a) (drop a d) (omega (arith, length-drop a d))))
 
--- ---- the loop of blank_from
--- one more byte made 255
-pub blank-turn : (n i : ℕ) (page whole : List ℕ) → length page ≡ n → i < n → take i page ++ replicate (n - i) 255 ≡ whole
-    → take (i + 1) (set page i 255) ++ replicate (n - (i + 1)) 255 ≡ whole
-blank-turn n i page whole l h e =
-    let s : n - i ≡ suc (n - (i + 1)) = omega arith in
-    rw (add-one, take-suc-set page i 255 (omega arith), append-assoc) (rw (s, add-one) at e)
-
--- all made 255
-pub blank-end : (n i : ℕ) (page whole : List ℕ) → length page ≡ n → n ≤ i → take i page ++ replicate (n - i) 255 ≡ whole → page ≡ whole
-blank-end n i page whole l h e =
-    let z : n - i ≡ 0 = omega arith in
-    sym (ap₂ (λ (p : List ℕ) (m : ℕ). p ++ replicate m 255) (take-all i page (omega arith)) z ∙ append-nil page) ∙ e
+-- the data area of the page x, as a part of it
+pub header-part : (g : Geometry) (x : List ℕ) (r : Header) → r ≡ headerOf g (take (g .area - 0) x) → r ≡ headerOf g (take (g .area) x)
+header-part g x r e = e ∙ ap (λ (n : ℕ). headerOf g (take n x)) (sub-zero (g .area))
 
 -- ---- the steps of lay_out: the bytes behind the units made 255, the units copied, the header copied
 module _ (g : Geometry) (c i n k : ℕ) (units page : List ℕ) (l : length page ≡ g .area) (fits : 8 + 12 * k ≤ g .area) (lu : length units ≡ 12 * k) where

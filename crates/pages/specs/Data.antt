@@ -16,7 +16,7 @@ use Rattle.pages.specs.Units.{half, word, encode}
 abbrev pub headOf : List ℕ → Head
 headOf d = record { commit = word d 0; index = getD d 4 0; count = getD d 5 0; units = half d 6 }
 
--- a page's own rules in step 2: commit number 1 or more, count 1 or more, index below count, 1 to 42 units, 255 after them
+-- a page's own rules in step 2: commit number 1 or more, count 1 or more, index below count, 1 unit or more and no more than a page holds, 255 after them
 unfoldable pub obeys : Geometry → List ℕ → Bool
 obeys g d =
     ltb 0 (headOf d .commit) && (ltb 0 (headOf d .count) && (ltb (headOf d .index) (headOf d .count)

@@ -1,13 +1,12 @@
 // A page's header and its own rules.
 ghost use mathlib.Core.Path.{_≡_};
-ghost use mathlib.Core.List.{_++_};
-ghost use Prim.Native.Nat.{_<_, _≤_, _-_, _*_};
-ghost use lib.ListN.{length, take, replicate};
-ghost use Rattle.chip.specs.Geometry.{small};
+ghost use Prim.Native.Nat.{_<_, _≤_, _*_};
+ghost use lib.ListN.{length};
+ghost use Rattle.chip.specs.Geometry.{Fits};
 ghost use Rattle.pages.specs.Data.{headOf, headerOf, headBytes, laid};
 use crate::unit;
-use chip::geometry::UNITS;
-use chip::page::is_free;
+use chip::geometry::Geometry;
+use chip::page;
 
 // Commit number, page index, page count of that commit, unit count.
 pub struct Head {
@@ -41,9 +40,9 @@ fn read_head(page: &[u8]) -> Head
 }
 
 // The header of a page's data, where the data obeys the page's own rules.
-pub fn read_header(page: &[u8]) -> Header
-    requires { ⌜ length (now page) ≡ 512 ⌝ }
-    ensures { λ r. ⌜ r ≡ headerOf small (now (page .entry)) ⌝ }
+pub fn read_header(geometry: Geometry, page: &[u8]) -> Header
+    requires { ⌜ (length (now page) ≡ geometry .area) × Fits geometry ⌝ }
+    ensures { λ r. ⌜ r ≡ headerOf geometry (now (page .entry)) ⌝ }
 {
     let head = read_head(page);
     let units = head.units as usize;
@@ -56,10 +55,10 @@ pub fn read_header(page: &[u8]) -> Header
     if units == 0 {
         return Header::Breaks;
     }
-    if UNITS < units {
+    if geometry.units < units {
         return Header::Breaks;
     }
-    if is_free(&page[8 + 12 * units..]) {
+    if page::is_free(&page[8 + 12 * units..]) {
         return Header::Obeys(head);
     }
     Header::Breaks
@@ -82,25 +81,21 @@ fn head_bytes(commit: u32, index: u32, count: u32, units: usize) -> [u8; 8]
     ]
 }
 
-// Every byte from `at` on made 255.
-fn blank_from(page: &mut [u8], at: usize)
-    requires { ⌜ at ≤ length (now page) ⌝ }
-    ensures { λ _. ⌜ now (page .exit) ≡ take at (now (page .entry)) ++ replicate (length (now (page .entry)) - at) 255 ⌝ }
-{
-    let mut i = at;
-    while i < page.len() {
-        page[i] = 255;
-        i += 1;
-    }
-}
-
 // A page's data written whole: page `index` of `count` of commit `commit`, with `k` units whose bytes are `units`.
-pub fn lay_out(page: &mut [u8], commit: u32, index: u32, count: u32, k: usize, units: &[u8])
-    requires { ⌜ (length (now page) ≡ 512) × (index < 256) × (count < 256) × (k ≤ 42) × (length (now units) ≡ 12 * k) ⌝ }
-    ensures { λ _. ⌜ now (page .exit) ≡ laid small commit index count k (now (units .entry)) ⌝ }
+pub fn lay_out(
+    geometry: Geometry,
+    page: &mut [u8],
+    commit: u32,
+    index: u32,
+    count: u32,
+    k: usize,
+    units: &[u8],
+)
+    requires { ⌜ (length (now page) ≡ geometry .area) × (index < 256) × (count < 256) × (k ≤ geometry .units) × (length (now units) ≡ 12 * k) × Fits geometry ⌝ }
+    ensures { λ _. ⌜ now (page .exit) ≡ laid geometry commit index count k (now (units .entry)) ⌝ }
 {
     let head = head_bytes(commit, index, count, k);
-    blank_from(page, 8 + 12 * k);
+    page::blank_from(page, 8 + 12 * k);
     bytes::copy(units, &mut page[8..8 + 12 * k]);
     bytes::copy(&head, page);
 }

@@ -13,7 +13,7 @@ use Rattle.lists.specs.Lists.{part, All, none, more, insert}
 use Rattle.lists.proofs.Tests.{cases}
 use Rattle.lists.proofs.Alls.{All-map}
 use Rattle.lists.proofs.Sorts.{All-sort, Sorted, end, then, sorted}
-use Rattle.chip.specs.Geometry.{Geometry, small}
+use Rattle.chip.specs.Geometry.{Geometry, Fits, pageSize}
 use Rattle.chip.specs.Page.{Page, isLive}
 use Rattle.chip.specs.Chip.{pagesOf}
 use Rattle.chip.proofs.ImageLaws.{length-pages, page-at}
@@ -102,98 +102,101 @@ head-on g B ps pos b e n =
     div-lt-iff-lt-mul pos .1 l
 
 -- ---- the pages from place n on
-abbrev pub liveAt : List Page → ℕ → List Live
-liveAt ps n = liveFrom small n (drop n ps)
+abbrev pub liveAt : Geometry → List Page → ℕ → List Live
+liveAt g ps n = liveFrom g n (drop n ps)
 
-live-step : (ps : List Page) (n : ℕ) → n < length ps
-    → liveAt ps n ≡ cond (isLive small (getD ps n [])) (live small n (getD ps n []) ∷ liveAt ps (suc n)) (liveAt ps (suc n))
-live-step ps n h = rw (drop-cons ps n [] h)
+module _ (g : Geometry) (ps : List Page) (n : ℕ) where
+  live-step : n < length ps → liveAt g ps n ≡ cond (isLive g (getD ps n [])) (live g n (getD ps n []) ∷ liveAt g ps (suc n)) (liveAt g ps (suc n))
+  live-step h = rw (drop-cons ps n [] h)
 
--- a live page, and one that is not
-live-on : (ps : List Page) (n : ℕ) → n < length ps → isLive small (getD ps n []) ≡ true → liveAt ps n ≡ live small n (getD ps n []) ∷ liveAt ps (suc n)
-live-on ps n h t = live-step ps n h ∙ ap (λ (b : Bool). cond b (live small n (getD ps n []) ∷ liveAt ps (suc n)) (liveAt ps (suc n))) t
+  -- a live page, and one that is not
+  live-on : n < length ps → isLive g (getD ps n []) ≡ true → liveAt g ps n ≡ live g n (getD ps n []) ∷ liveAt g ps (suc n)
+  live-on h t = live-step h ∙ ap (λ (b : Bool). cond b (live g n (getD ps n []) ∷ liveAt g ps (suc n)) (liveAt g ps (suc n))) t
 
-live-off : (ps : List Page) (n : ℕ) → n < length ps → isLive small (getD ps n []) ≡ false → liveAt ps n ≡ liveAt ps (suc n)
-live-off ps n h t = live-step ps n h ∙ ap (λ (b : Bool). cond b (live small n (getD ps n []) ∷ liveAt ps (suc n)) (liveAt ps (suc n))) t
+  live-off : n < length ps → isLive g (getD ps n []) ≡ false → liveAt g ps n ≡ liveAt g ps (suc n)
+  live-off h t = live-step h ∙ ap (λ (b : Bool). cond b (live g n (getD ps n []) ∷ liveAt g ps (suc n)) (liveAt g ps (suc n))) t
+
+  -- before the first turn no page is seen
+  pub look-start : length ps ≤ n → liveAt g ps n ≡ []
+  look-start h = rw (drop-of-length-le ps {i = n} h)
 
 -- the marks of a live page
-one-mark : (c n : ℕ) (x : Page) (m : List ℕ) → isLive small x ≡ true
-    → cond (isOf small c x) (mark small m n) m ≡ cond (eqb (commit (live small n x)) c) (mark small m n) m
+one-mark : (g : Geometry) (c n : ℕ) (x : Page) (m : List ℕ) → isLive g x ≡ true
+    → cond (isOf g c x) (mark g m n) m ≡ cond (eqb (commit (live g n x)) c) (mark g m n) m
 unfolding commit
-one-mark c n x m t = rw t
+one-mark g c n x m t = rw t
 
-module _ (c : ℕ) (ps : List Page) (m₀ : List ℕ) (n at : ℕ) (e : at ≡ suc n) (h : n < length ps) (z : Newest) (m : List ℕ)
-    (ez : z ≡ lastIn (ordered (liveAt ps at))) (em : m ≡ markHeld small c (liveAt ps at) m₀)
-    (r : Newest) (m' : List ℕ) (k : LooksAtPage c n (getD ps n []) z m r m') where
-  was-z : z ≡ lastIn (ordered (liveAt ps (suc n)))
-  was-z = ez ∙ ap (λ (i : ℕ). lastIn (ordered (liveAt ps i))) e
+module _ (g : Geometry) (c : ℕ) (ps : List Page) (m₀ : List ℕ) (n at : ℕ) (e : at ≡ suc n) (h : n < length ps) (z : Newest) (m : List ℕ)
+    (ez : z ≡ lastIn (ordered (liveAt g ps at))) (em : m ≡ markHeld g c (liveAt g ps at) m₀)
+    (r : Newest) (m' : List ℕ) (k : LooksAtPage g c n (getD ps n []) z m r m') where
+  was-z : z ≡ lastIn (ordered (liveAt g ps (suc n)))
+  was-z = ez ∙ ap (λ (i : ℕ). lastIn (ordered (liveAt g ps i))) e
 
-  was-m : m ≡ markHeld small c (liveAt ps (suc n)) m₀
-  was-m = em ∙ ap (λ (i : ℕ). markHeld small c (liveAt ps i) m₀) e
+  was-m : m ≡ markHeld g c (liveAt g ps (suc n)) m₀
+  was-m = em ∙ ap (λ (i : ℕ). markHeld g c (liveAt g ps i) m₀) e
 
-  pub look-newest : r ≡ lastIn (ordered (liveAt ps n))
+  pub look-newest : r ≡ lastIn (ordered (liveAt g ps n))
   look-newest =
       let x : Page = getD ps n [] in
-      let y : Live = live small n x in
-      let to : (b : Bool) → isLive small x ≡ b → r ≡ cond b (later z (commit y) (index y) n) z =
+      let y : Live = live g n x in
+      let to : (b : Bool) → isLive g x ≡ b → r ≡ cond b (later z (commit y) (index y) n) z =
       λ b t. k .newest ∙ ap (λ (b : Bool). cond b (later z (commit y) (index y) n) z) t in
-      cases (isLive small x)
-      (λ t. to true t ∙ ap (λ (w : Newest). later w (commit y) (index y) n) was-z ∙ sym (last-more y (liveAt ps (suc n)))
-      ∙ ap (λ (l : List Live). lastIn (ordered l)) (sym (live-on ps n h t)))
-      (λ t. to false t ∙ was-z ∙ ap (λ (l : List Live). lastIn (ordered l)) (sym (live-off ps n h t)))
+      cases (isLive g x)
+      (λ t. to true t ∙ ap (λ (w : Newest). later w (commit y) (index y) n) was-z ∙ sym (last-more y (liveAt g ps (suc n)))
+      ∙ ap (λ (l : List Live). lastIn (ordered l)) (sym (live-on g ps n h t)))
+      (λ t. to false t ∙ was-z ∙ ap (λ (l : List Live). lastIn (ordered l)) (sym (live-off g ps n h t)))
 
-  pub look-marks : m' ≡ markHeld small c (liveAt ps n) m₀
+  pub look-marks : m' ≡ markHeld g c (liveAt g ps n) m₀
   look-marks =
       let x : Page = getD ps n [] in
-      let y : Live = live small n x in
-      cases (isLive small x)
-      (λ t. k .marks ∙ one-mark c n x m t ∙ ap (λ (w : List ℕ). cond (eqb (commit y) c) (mark small w n) w) was-m
-      ∙ ap (λ (l : List Live). markHeld small c l m₀) (sym (live-on ps n h t)))
-      (λ t. k .marks ∙ ap (λ (b : Bool). cond (b && eqb (headOf (take 512 x) .commit) c) (mark small m n) m) t ∙ was-m
-      ∙ ap (λ (l : List Live). markHeld small c l m₀) (sym (live-off ps n h t)))
-
--- before the first turn no page is seen
-pub look-start : (ps : List Page) (n : ℕ) → length ps ≤ n → liveAt ps n ≡ []
-look-start ps n h = rw (drop-of-length-le ps {i = n} h)
+      let y : Live = live g n x in
+      cases (isLive g x)
+      (λ t. k .marks ∙ one-mark g c n x m t ∙ ap (λ (w : List ℕ). cond (eqb (commit y) c) (mark g w n) w) was-m
+      ∙ ap (λ (l : List Live). markHeld g c l m₀) (sym (live-on g ps n h t)))
+      (λ t. k .marks ∙ ap (λ (b : Bool). cond (b && eqb (headOf (take (g .area) x) .commit) c) (mark g m n) m) t ∙ was-m
+      ∙ ap (λ (l : List Live). markHeld g c l m₀) (sym (live-off g ps n h t)))
 
 -- ---- one page
-module _ (c p : ℕ) (x : Page) (z : Newest) (m : List ℕ) where
+module _ (g : Geometry) (c p : ℕ) (x : Page) (z : Newest) (m : List ℕ) where
   -- it is not live
-  pub look-dead : isLive small x ≡ false → LooksAtPage c p x z m z m
+  pub look-dead : isLive g x ≡ false → LooksAtPage g c p x z m z m
   look-dead t = record { newest = rw t; marks = rw t }
 
   -- it is live, with commit number w and index i
-  pub look-live : (r : Newest) (m' : List ℕ) (w i : ℕ) → isLive small x ≡ true → w ≡ word x 0 → i ≡ getD x 4 0
-      → m' ≡ cond (eqb w c) (mark small m p) m → r ≡ later z w i p → LooksAtPage c p x z m r m'
+  pub look-live : Fits g → (r : Newest) (m' : List ℕ) (w i : ℕ) → isLive g x ≡ true → w ≡ word x 0 → i ≡ getD x 4 0
+      → m' ≡ cond (eqb w c) (mark g m p) m → r ≡ later z w i p → LooksAtPage g c p x z m r m'
   unfolding commit index
-  look-live r m' w i t ew ei em er =
-      let ec : headOf (take 512 x) .commit ≡ w = word-front x ∙ sym ew in
-      let eo : getD (take 512 x) 4 0 ≡ i = getD-take 512 x 4 0 (omega arith) ∙ sym ei in
+  look-live f r m' w i t ew ei em er =
+      let d : List ℕ = take (g .area) x in
+      let ec : headOf d .commit ≡ w = word-front (g .area) x (omega (arith, f .holds)) ∙ sym ew in
+      let eo : getD d 4 0 ≡ i = getD-take (g .area) x 4 0 (omega (arith, f .holds)) ∙ sym ei in
       record {
         newest =
             er ∙ ap₂ (λ (a b : ℕ). later z a b p) (sym ec) (sym eo)
-            ∙ ap (λ (b : Bool). cond b (later z (headOf (take 512 x) .commit) (getD (take 512 x) 4 0) p) z) (sym t);
+            ∙ ap (λ (b : Bool). cond b (later z (headOf d .commit) (getD d 4 0) p) z) (sym t);
         marks =
-            em ∙ ap (λ (a : ℕ). cond (eqb a c) (mark small m p) m) (sym ec)
-            ∙ ap (λ (b : Bool). cond (b && eqb (headOf (take 512 x) .commit) c) (mark small m p) m) (sym t);
+            em ∙ ap (λ (a : ℕ). cond (eqb a c) (mark g m p) m) (sym ec)
+            ∙ ap (λ (b : Bool). cond (b && eqb (headOf d .commit) c) (mark g m p) m) (sym t);
       }
 
 -- the page at place n as a part of the image
-pub page-is : (image : List ℕ) (n : ℕ) → n < length image / 528 → part (n * 528) (n * 528 + 528 - n * 528) image ≡ getD (pagesOf small image) n []
-page-is image n h = ap (λ (k : ℕ). part (n * 528) k image) (add-sub-cancel-left (n * 528) 528) ∙ sym (page-at small image n h)
+pub page-is : (g : Geometry) (image : List ℕ) (n : ℕ) → n < length image / pageSize g
+    → part (n * pageSize g) (n * pageSize g + pageSize g - n * pageSize g) image ≡ getD (pagesOf g image) n []
+page-is g image n h =
+    ap (λ (k : ℕ). part (n * pageSize g) k image) (add-sub-cancel-left (n * pageSize g) (pageSize g)) ∙ sym (page-at g image n h)
 
 -- a turn of the pass over an image
-module _ (c : ℕ) (image : List ℕ) (m₀ : List ℕ) (n at : ℕ) (e : at ≡ suc n) (h : n < length image / 528) (z : Newest) (m : List ℕ)
-    (ez : z ≡ lastIn (ordered (liveAt (pagesOf small image) at))) (em : m ≡ markHeld small c (liveAt (pagesOf small image) at) m₀)
-    (r : Newest) (m' : List ℕ) (k : LooksAtPage c n (part (n * 528) (n * 528 + 528 - n * 528) image) z m r m') where
-  on-chip : n < length (pagesOf small image)
-  on-chip = omega (arith, length-pages small image)
+module _ (g : Geometry) (c : ℕ) (image : List ℕ) (m₀ : List ℕ) (n at : ℕ) (e : at ≡ suc n) (h : n < length image / pageSize g) (z : Newest) (m : List ℕ)
+    (ez : z ≡ lastIn (ordered (liveAt g (pagesOf g image) at))) (em : m ≡ markHeld g c (liveAt g (pagesOf g image) at) m₀)
+    (r : Newest) (m' : List ℕ) (k : LooksAtPage g c n (part (n * pageSize g) (n * pageSize g + pageSize g - n * pageSize g) image) z m r m') where
+  on-chip : n < length (pagesOf g image)
+  on-chip = omega (arith, length-pages g image)
 
-  looked : LooksAtPage c n (getD (pagesOf small image) n []) z m r m'
-  looked = rw (← page-is image n h) k
+  looked : LooksAtPage g c n (getD (pagesOf g image) n []) z m r m'
+  looked = rw (← page-is g image n h) k
 
-  pub turn-newest : r ≡ lastIn (ordered (liveAt (pagesOf small image) n))
-  turn-newest = look-newest c (pagesOf small image) m₀ n at e on-chip z m ez em r m' looked
+  pub turn-newest : r ≡ lastIn (ordered (liveAt g (pagesOf g image) n))
+  turn-newest = look-newest g c (pagesOf g image) m₀ n at e on-chip z m ez em r m' looked
 
-  pub turn-marks : m' ≡ markHeld small c (liveAt (pagesOf small image) n) m₀
-  turn-marks = look-marks c (pagesOf small image) m₀ n at e on-chip z m ez em r m' looked
+  pub turn-marks : m' ≡ markHeld g c (liveAt g (pagesOf g image) n) m₀
+  turn-marks = look-marks g c (pagesOf g image) m₀ n at e on-chip z m ez em r m' looked

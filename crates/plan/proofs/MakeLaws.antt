@@ -3,7 +3,8 @@ use mathlib.Core.Path.{_≡_, sym, ap, ap₂, _∙_, subst}
 use mathlib.Core.Logic.{⊎-elim}
 use mathlib.Core.Bool.{true, false}
 use mathlib.Core.List.{List, [], _∷_}
-use Prim.Native.Nat.{ℕ, suc, _+_, _-_, _*_, _/_, _<_, _≤_}
+use Prim.Native.Nat.{ℕ, suc, _+_, _-_, _*_, _<_, _≤_}
+use native.Mathlib.Nat.{mul-le-mul-right}
 use native.Mathlib.Omega.{arith}
 use lib.Dec.{leb}
 use lib.ListN.{length, take}
@@ -11,7 +12,7 @@ use lib.Seq.{length-take-le, take-all}
 use borrow.Author.Tests.{leb-true}
 use Rattle.lists.specs.Lists.{any}
 use Rattle.lists.proofs.Tests.{below-or-not, cases}
-use Rattle.chip.specs.Geometry.{small}
+use Rattle.chip.specs.Geometry.{Geometry}
 use Rattle.chip.specs.Page.{Page}
 use Rattle.chip.specs.Chip.{inBlock}
 use Rattle.pages.specs.Steps.{liveFrom}
@@ -27,17 +28,17 @@ use Rattle.plan.specs.MakeCode.{Chooses, HoldsDecision, LaysPlan, Makes,
 use Rattle.plan.proofs.PlaceLaws.{places-size}
 
 -- the first of the used blocks
-first-is : (us : List ℕ) (oldest : ℕ) → oldest ≡ firstOr 4294967295 us → (N : Contents) (n : ℕ) → any (inBlock small 4294967295) (N .listed n) ≡ false
-    → inFirst small N us n ≡ any (inBlock small oldest) (N .listed n)
-first-is [] oldest e N n h = sym (ap (λ (b : ℕ). any (inBlock small b) (N .listed n)) e ∙ h)
-first-is (b ∷ us) oldest e N n h = ap (λ (b : ℕ). any (inBlock small b) (N .listed n)) (sym e)
+first-is : (g : Geometry) (us : List ℕ) (oldest : ℕ) → oldest ≡ firstOr 4294967295 us → (N : Contents) (n : ℕ) → any (inBlock g 4294967295) (N .listed n) ≡ false
+    → inFirst g N us n ≡ any (inBlock g oldest) (N .listed n)
+first-is g [] oldest e N n h = sym (ap (λ (b : ℕ). any (inBlock g b) (N .listed n)) e ∙ h)
+first-is g (b ∷ us) oldest e N n h = ap (λ (b : ℕ). any (inBlock g b) (N .listed n)) (sym e)
 
 -- ---- a decision with pages has places for them and one more
-pub chosen-within : (limit wide narrow w : ℕ) (us : List ℕ) (N : Contents) → wide ≤ w → narrow ≤ w → 0 < pageCount (chosen small limit wide narrow us N)
-    → suc (pageCount (chosen small limit wide narrow us N)) ≤ w
-chosen-within limit wide narrow w us N hw hn =
-    let d = deltaAssignment small limit us N in
-    let s = snapshotAssignment small limit N in
+pub chosen-within : (g : Geometry) (limit wide narrow w : ℕ) (us : List ℕ) (N : Contents) → wide ≤ w → narrow ≤ w → 0 < pageCount (chosen g limit wide narrow us N)
+    → suc (pageCount (chosen g limit wide narrow us N)) ≤ w
+chosen-within g limit wide narrow w us N hw hn =
+    let d = deltaAssignment g limit us N in
+    let s = snapshotAssignment g limit N in
     cases (leb (suc (d .count)) wide)
     (λ t. rw t (λ p. below (d .count) wide w (leb-true (suc (d .count)) wide t) hw))
     (λ t. cases (leb (suc (s .count)) narrow)
@@ -56,62 +57,53 @@ take-least n xs =
     (λ (l : n ≤ length xs). let e : length xs - (length xs - n) ≡ n = omega arith in ap (λ (k : ℕ). take k xs) e)
     (below-or-not (length xs) n)
 
-spare-is : (B : ℕ) → B / 8 + 1 ≡ spareBlocks small B
-spare-is B = let e : 4 * B / 32 ≡ B / 8 = omega arith in ap (λ (k : ℕ). k + 1) (sym e)
-
 -- ---- a survey
-module _ {limit B : ℕ} {lens slots : List ℕ} {G : ℕ} {ps : List Page} {ring : List ℕ} {g : Surveyed} (sv : Surveys B limit lens slots G ps ring g) where
+module _ {g : Geometry} {limit B : ℕ} {lens slots : List ℕ} {G : ℕ} {ps : List Page} {ring : List ℕ} {s : Surveyed} (sv : Surveys g B limit lens slots G ps ring s) where
   abbrev un : List ℕ
-  un = unusedOf limit B lens slots G ps
+  un = unusedOf g limit B lens slots G ps
 
-  un-is : un ≡ unusedIn small B limit lens slots G (liveFrom small 0 ps) (g .head)
-  un-is = ap (unusedIn small B limit lens slots G (liveFrom small 0 ps)) (sym (sv .head))
+  un-is : un ≡ unusedIn g B limit lens slots G (liveFrom g 0 ps) (s .head)
+  un-is = ap (unusedIn g B limit lens slots G (liveFrom g 0 ps)) (sym (sv .head))
 
-  un-many : length un ≡ g .unused
+  un-many : length un ≡ s .unused
   un-many = ap length un-is ∙ sv .size
 
   abbrev free : ℕ
-  free = length (freePages small ps (g .head))
-
-  free-is : free ≡ length (freePages small ps (headBlock small ps))
-  free-is = ap (λ (h : ℕ). length (freePages small ps h)) (sv .head)
+  free = length (freePages g ps (s .head))
 
   -- how many places there are on the head and the first n unused blocks
-  room-on : (n : ℕ) → n ≤ length un → length (places small ps (headBlock small ps) (take n un)) ≡ free + 32 * n
-  room-on n h = go (length (places small ps (headBlock small ps) (take n un))) (length (freePages small ps (headBlock small ps))) (length (take n un))
-      (places-size small ps (headBlock small ps) (take n un)) free free-is (length-take-le n un h)
-    where
-      go : (x y k : ℕ) → x ≡ y + k * 32 → (f : ℕ) → f ≡ y → k ≡ n → x ≡ f + 32 * n
-      go x y k a f b c = omega arith
+  room-on : (n : ℕ) → n ≤ length un → length (places g ps (headBlock g ps) (take n un)) ≡ free + n * g .pages
+  room-on n h =
+      places-size g ps (headBlock g ps) (take n un)
+      ∙ ap₂ (λ (b k : ℕ). length (freePages g ps b) + k * g .pages) (sym (sv .head)) (length-take-le n un h)
 
-  room-delta : (spare : ℕ) → length (places small ps (headBlock small ps) (take (length un - spare) un)) ≡ free + 32 * (g .unused - spare)
-  room-delta spare = room-on (length un - spare) (omega arith) ∙ ap (λ (k : ℕ). free + 32 * (k - spare)) un-many
+  room-delta : (spare : ℕ) → length (places g ps (headBlock g ps) (take (length un - spare) un)) ≡ free + (s .unused - spare) * g .pages
+  room-delta spare = room-on (length un - spare) (omega arith) ∙ ap (λ (k : ℕ). free + (k - spare) * g .pages) un-many
 
-  room-snapshot : (spare : ℕ) → length (places small ps (headBlock small ps) (take spare un)) ≡ free + 32 * (g .unused - (g .unused - spare))
+  room-snapshot : (spare : ℕ) → length (places g ps (headBlock g ps) (take spare un)) ≡ free + (s .unused - (s .unused - spare)) * g .pages
   room-snapshot spare =
-      ap (λ (xs : List ℕ). length (places small ps (headBlock small ps) xs)) (sym (take-least spare un))
-      ∙ room-on (length un - (length un - spare)) (omega arith) ∙ ap (λ (k : ℕ). free + 32 * (k - (k - spare))) un-many
+      ap (λ (xs : List ℕ). length (places g ps (headBlock g ps) xs)) (sym (take-least spare un))
+      ∙ room-on (length un - (length un - spare)) (omega arith) ∙ ap (λ (k : ℕ). free + (k - (k - spare)) * g .pages) un-many
 
   -- ---- a choice on it
-  module _ (wide narrow : ℕ) (w : wide ≡ free + 32 * (g .unused - (B / 8 + 1))) (v : narrow ≡ free + 32 * (g .unused - (g .unused - (B / 8 + 1))))
+  module _ (wide narrow : ℕ) (w : wide ≡ free + (s .unused - spareBlocks g B) * g .pages) (v : narrow ≡ free + (s .unused - (s .unused - spareBlocks g B)) * g .pages)
       (count : ℕ) (bytes targets sizes units : List ℕ) (n : ℕ)
-      (ch : Chooses limit (g .oldest) wide narrow (contentsIn small limit ps lens slots count bytes) targets sizes units n) where
+      (ch : Chooses g limit (s .oldest) wide narrow (contentsIn g limit ps lens slots count bytes) targets sizes units n) where
     abbrev N : Contents
-    N = contentsIn small limit ps lens slots count bytes
+    N = contentsIn g limit ps lens slots count bytes
 
     abbrev us : List ℕ
-    us = usedOf limit B lens slots G ps
+    us = usedOf g limit B lens slots G ps
 
-    oldest-is : g .oldest ≡ firstOr 4294967295 us
-    oldest-is = sv .oldest ∙ ap (λ (h : ℕ). firstOr 4294967295 (usedAround small B limit lens slots G (liveFrom small 0 ps) h)) (sv .head)
+    oldest-is : s .oldest ≡ firstOr 4294967295 us
+    oldest-is = sv .oldest ∙ ap (λ (h : ℕ). firstOr 4294967295 (usedAround g B limit lens slots G (liveFrom g 0 ps) h)) (sv .head)
 
-    decision-is : chosen small limit wide narrow us N ≡ decisionOf limit B lens slots count bytes G ps
+    decision-is : chosen g limit wide narrow us N ≡ decisionOf g limit B lens slots count bytes G ps
     decision-is =
-        ap₂ (λ (x y : ℕ). chosen small limit x y us N) (w ∙ ap (λ (k : ℕ). free + 32 * (g .unused - k)) (spare-is B) ∙ sym (room-delta (spareBlocks small B)))
-        (v ∙ ap (λ (k : ℕ). free + 32 * (g .unused - (g .unused - k))) (spare-is B) ∙ sym (room-snapshot (spareBlocks small B)))
+        ap₂ (λ (x y : ℕ). chosen g limit x y us N) (w ∙ sym (room-delta (spareBlocks g B))) (v ∙ sym (room-snapshot (spareBlocks g B)))
 
-    held : HoldsDecision limit N targets sizes units n (chosen small limit wide narrow us N)
-    held = ch us (λ m l. first-is us (g .oldest) oldest-is N m (sv .nowhere m))
+    held : HoldsDecision g limit N targets sizes units n (chosen g limit wide narrow us N)
+    held = ch us (λ m l. first-is g us (s .oldest) oldest-is N m (sv .nowhere m))
 
     pub pages-few : limit ≤ 256 → n < 160
     pages-few m = go (held .few)
@@ -119,31 +111,36 @@ module _ {limit B : ℕ} {lens slots : List ℕ} {G : ℕ} {ps : List Page} {rin
         go : 2 * n ≤ suc limit → n < 160
         go h = omega arith
 
-    pub pages-fit : 0 < n → n + 1 ≤ free + g .unused * 32
+    pub pages-fit : 0 < n → n + 1 ≤ free + s .unused * g .pages
     pages-fit p =
-        go free (pageCount (chosen small limit wide narrow us N)) (held .count)
-        (chosen-within limit wide narrow (free + 32 * g .unused) us N (low free wide (B / 8 + 1) w) (low free narrow (g .unused - (B / 8 + 1)) v)
+        go (pageCount (chosen g limit wide narrow us N)) (free + s .unused * g .pages) (held .count)
+        (chosen-within g limit wide narrow (free + s .unused * g .pages) us N (low wide (spareBlocks g B) w) (low narrow (s .unused - spareBlocks g B) v)
         (subst (λ (k : ℕ). 0 < k) (held .count) p))
       where
-        low : (f x k : ℕ) → x ≡ f + 32 * (g .unused - k) → x ≤ f + 32 * g .unused
-        low f x k e = omega arith
+        low : (x k : ℕ) → x ≡ free + (s .unused - k) * g .pages → x ≤ free + s .unused * g .pages
+        low x k e =
+            let l : s .unused - k ≤ s .unused = omega arith in
+            over free ((s .unused - k) * g .pages) (s .unused * g .pages) e (mul-le-mul-right (g .pages) l)
+          where
+            over : (f a b : ℕ) → x ≡ f + a → a ≤ b → x ≤ f + b
+            over f a b e l = omega arith
 
-        go : (f c : ℕ) → n ≡ c → suc c ≤ f + 32 * g .unused → n + 1 ≤ f + g .unused * 32
-        go f c e h = omega arith
+        go : (c m : ℕ) → n ≡ c → suc c ≤ m → n + 1 ≤ m
+        go c m e h = omega arith
 
-    pub made-none : (r : Plan) → r .pages ≡ 0 → n ≡ 0 → Makes limit B lens slots count bytes G ps targets sizes units r
+    pub made-none : (r : Plan) → r .pages ≡ 0 → n ≡ 0 → Makes g limit B lens slots count bytes G ps targets sizes units r
     made-none r e z =
         record {
-          decision = subst (λ (k : ℕ). HoldsDecision limit N targets sizes units k (decisionOf limit B lens slots count bytes G ps)) (z ∙ sym e)
-              (subst (HoldsDecision limit N targets sizes units n) decision-is held);
+          decision = subst (λ (k : ℕ). HoldsDecision g limit N targets sizes units k (decisionOf g limit B lens slots count bytes G ps)) (z ∙ sym e)
+              (subst (HoldsDecision g limit N targets sizes units n) decision-is held);
           laid = λ h. absurd (omega arith);
         }
 
-    pub made : (r : Plan) → LaysPlan B (g .head) (take (g .unused) ring) n ps r → Makes limit B lens slots count bytes G ps targets sizes units r
+    pub made : (r : Plan) → LaysPlan g B (s .head) (take (s .unused) ring) n ps r → Makes g limit B lens slots count bytes G ps targets sizes units r
     made r l =
         record {
-          decision = subst (λ (k : ℕ). HoldsDecision limit N targets sizes units k (decisionOf limit B lens slots count bytes G ps)) (sym (l .pages))
-              (subst (HoldsDecision limit N targets sizes units n) decision-is held);
-          laid = λ h. subst (λ (k : ℕ). LaysPlan B (headBlock small ps) un k ps r) (sym (l .pages))
-              (subst (λ (b : ℕ). LaysPlan B b un n ps r) (sv .head) (subst (λ (bs : List ℕ). LaysPlan B (g .head) bs n ps r) (sv .list ∙ sym un-is) l));
+          decision = subst (λ (k : ℕ). HoldsDecision g limit N targets sizes units k (decisionOf g limit B lens slots count bytes G ps)) (sym (l .pages))
+              (subst (HoldsDecision g limit N targets sizes units n) decision-is held);
+          laid = λ h. subst (λ (k : ℕ). LaysPlan g B (headBlock g ps) un k ps r) (sym (l .pages))
+              (subst (λ (b : ℕ). LaysPlan g B b un n ps r) (sv .head) (subst (λ (bs : List ℕ). LaysPlan g B (s .head) bs n ps r) (sv .list ∙ sym un-is) l));
         }

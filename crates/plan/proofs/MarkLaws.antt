@@ -15,7 +15,7 @@ use Rattle.lists.specs.Lists.{filter, any, flat}
 use Rattle.lists.proofs.Places.{getD-same}
 use Rattle.lists.proofs.Tests.{cases}
 use Rattle.lists.proofs.Anys.{any-append}
-use Rattle.chip.specs.Geometry.{Geometry, small}
+use Rattle.chip.specs.Geometry.{Geometry}
 use Rattle.chip.specs.Chip.{inBlock}
 use Rattle.chip.specs.Page.{Page}
 use Rattle.pages.specs.Steps.{Live, commit, liveFrom}
@@ -76,24 +76,24 @@ any-flat p f [] = refl
 any-flat p f (x ∷ xs) = any-append p (f x) (flat f xs) ∙ ap (λ (t : Bool). any p (f x) || t) (any-flat p f xs)
 
 -- what both passes leave unmarked is unused
-pub marked-all : (limit : ℕ) (lens slots : List ℕ) (c : ℕ) (ps : List Page) (m : List ℕ)
-    → m ≡ markHeld small c (liveFrom small 0 ps) (foldl (mark small) (replicate 32 0) (flat (storedList lens slots) (countFrom 0 limit)))
-    → Marked limit lens slots c ps m
+pub marked-all : (g : Geometry) → 0 < g .pages → (limit : ℕ) (lens slots : List ℕ) (c : ℕ) (ps : List Page) (m : List ℕ)
+    → m ≡ markHeld g c (liveFrom g 0 ps) (foldl (mark g) (replicate 32 0) (flat (storedList lens slots) (countFrom 0 limit)))
+    → Marked g limit lens slots c ps m
 unfolding usedIn
-marked-all limit lens slots c ps m e =
+marked-all g pos limit lens slots c ps m e =
     record {
       are = λ b h.
-          let xs : List Live = liveFrom small 0 ps in
+          let xs : List Live = liveFrom g 0 ps in
           let z : List ℕ = replicate 32 0 in
           let f : List ℕ = flat (storedList lens slots) (countFrom 0 limit) in
           let lz : length z ≡ 32 = length-replicate {A = ℕ} 32 0 in
-          let a : getD m b 0 ≡ cond (holdsCommit small c xs b) 1 (cond (listedIn small limit lens slots b) 1 0) =
+          let a : getD m b 0 ≡ cond (holdsCommit g c xs b) 1 (cond (listedIn g limit lens slots b) 1 0) =
           ap (λ (w : List ℕ). getD w b 0) e
-          ∙ held-at small (omega arith) c xs (foldl (mark small) z f) b (rw (length-marks small (omega arith) f z, lz) h)
-          ∙ ap (cond (holdsCommit small c xs b) 1)
-          (marks-at small (omega arith) f z b (rw lz h)
-          ∙ ap₂ (λ (t : Bool) (v : ℕ). cond t 1 v) (any-flat (inBlock small b) (storedList lens slots) (countFrom 0 limit)) (getD-same 32 b 0)) in
-          rw a (ends (holdsCommit small c xs b) (listedIn small limit lens slots b));
+          ∙ held-at g pos c xs (foldl (mark g) z f) b (rw (length-marks g pos f z, lz) h)
+          ∙ ap (cond (holdsCommit g c xs b) 1)
+          (marks-at g pos f z b (rw lz h)
+          ∙ ap₂ (λ (t : Bool) (v : ℕ). cond t 1 v) (any-flat (inBlock g b) (storedList lens slots) (countFrom 0 limit)) (getD-same 32 b 0)) in
+          rw a (ends (holdsCommit g c xs b) (listedIn g limit lens slots b));
     }
   where
     ends : (x y : Bool) → eqb (cond x 1 (cond y 1 0)) 0 ≡ not (y || x)
@@ -111,22 +111,22 @@ list-is lens slots n used e =
     (λ t. let l = ltb-true used 4 t in let q : k ≡ used = omega arith in rw q (take-take used 4 d (omega arith)))
     (λ t. let l = ltb-false used 4 t in let q : used ≡ 4 = omega arith in rw q (take-all k (take 4 d) (rw length-take (omega arith))))
 
-module _ (lens slots : List ℕ) (n used : ℕ) (list-length : length (storedList lens slots n) ≡ used) (size : length slots ≡ 1024) (on : n < 256) (i : ℕ) (m : List ℕ) where
+module _ (g : Geometry) (lens slots : List ℕ) (n used : ℕ) (list-length : length (storedList lens slots n) ≡ used) (size : length slots ≡ 1024) (on : n < 256) (i : ℕ) (m : List ℕ) where
   e : used ≡ min (getD lens n 0) 4
   e = sym list-length ∙ (let q : length (storedList lens slots n) ≡ min (getD lens n 0) 4 = simp (length-take, length-drop) (omega arith) in q)
 
-  pub slot-next : (target : List ℕ) → i < used → foldl (mark small) m (drop i (storedList lens slots n)) ≡ target
-      → foldl (mark small) (mark small m (getD slots (4 * n + i) 0)) (drop (i + 1) (storedList lens slots n)) ≡ target
+  pub slot-next : (target : List ℕ) → i < used → foldl (mark g) m (drop i (storedList lens slots n)) ≡ target
+      → foldl (mark g) (mark g m (getD slots (4 * n + i) 0)) (drop (i + 1) (storedList lens slots n)) ≡ target
   slot-next target h left =
       let l : List ℕ = storedList lens slots n in
       let d : List ℕ = drop (4 * n) slots in
       let p : ℕ = getD slots (4 * n + i) 0 in
       let at : getD l i 0 ≡ p = ap (λ (k : List ℕ). getD k i 0) (list-is lens slots n used e) ∙ getD-take used d i 0 h ∙ getD-drop (4 * n) slots i 0 in
       let next : drop i l ≡ p ∷ drop (suc i) l = drop-cons l i 0 (rw list-length h) ∙ ap (λ (k : ℕ). k ∷ drop (suc i) l) at in
-      ap (λ (k : ℕ). foldl (mark small) (mark small m p) (drop k l)) (add-one i) ∙ ap (foldl (mark small) m) (sym next) ∙ left
+      ap (λ (k : ℕ). foldl (mark g) (mark g m p) (drop k l)) (add-one i) ∙ ap (foldl (mark g) m) (sym next) ∙ left
 
-  pub slots-done : (target : List ℕ) → used ≤ i → foldl (mark small) m (drop i (storedList lens slots n)) ≡ target → m ≡ target
-  slots-done target h left = ap (foldl (mark small) m) (sym (drop-of-length-le (storedList lens slots n) {i = i} (omega (arith, list-length)))) ∙ left
+  pub slots-done : (target : List ℕ) → used ≤ i → foldl (mark g) m (drop i (storedList lens slots n)) ≡ target → m ≡ target
+  slots-done target h left = ap (foldl (mark g) m) (sym (drop-of-length-le (storedList lens slots n) {i = i} (omega (arith, list-length)))) ∙ left
 
 -- ---- the lists of all nodes
 -- the next number of a range
@@ -138,18 +138,18 @@ from-next i e h =
 pub from-done : (i e : ℕ) → e ≤ i → countFrom i (e - i) ≡ []
 from-done i e h = let q : e - i ≡ 0 = omega arith in ap (countFrom i) q
 
-module _ (lens slots : List ℕ) (limit n : ℕ) (m : List ℕ) (target : List ℕ) (left : foldl (mark small) m (flat (storedList lens slots) (countFrom n (limit - n))) ≡ target) where
-  pub node-next : n < limit → (m' : List ℕ) → m' ≡ foldl (mark small) m (storedList lens slots n)
-      → foldl (mark small) m' (flat (storedList lens slots) (countFrom (n + 1) (limit - (n + 1)))) ≡ target
+module _ (g : Geometry) (lens slots : List ℕ) (limit n : ℕ) (m : List ℕ) (target : List ℕ) (left : foldl (mark g) m (flat (storedList lens slots) (countFrom n (limit - n))) ≡ target) where
+  pub node-next : n < limit → (m' : List ℕ) → m' ≡ foldl (mark g) m (storedList lens slots n)
+      → foldl (mark g) m' (flat (storedList lens slots) (countFrom (n + 1) (limit - (n + 1)))) ≡ target
   node-next h m' e =
       let rest : List ℕ = flat (storedList lens slots) (countFrom (n + 1) (limit - (n + 1))) in
-      ap (λ (w : List ℕ). foldl (mark small) w rest) e
-      ∙ sym (foldl-append (mark small) m (storedList lens slots n) rest)
-      ∙ ap (λ (k : List ℕ). foldl (mark small) m (flat (storedList lens slots) k)) (sym (from-next n limit h))
+      ap (λ (w : List ℕ). foldl (mark g) w rest) e
+      ∙ sym (foldl-append (mark g) m (storedList lens slots n) rest)
+      ∙ ap (λ (k : List ℕ). foldl (mark g) m (flat (storedList lens slots) k)) (sym (from-next n limit h))
       ∙ left
 
   pub nodes-done : limit ≤ n → m ≡ target
-  nodes-done h = ap (λ (k : List ℕ). foldl (mark small) m (flat (storedList lens slots) k)) (sym (from-done n limit h)) ∙ left
+  nodes-done h = ap (λ (k : List ℕ). foldl (mark g) m (flat (storedList lens slots) k)) (sym (from-done n limit h)) ∙ left
 
 -- ---- numbers kept by a test
 pub push-next : (q : ℕ → Bool) (i e n r : ℕ) (list after target : List ℕ) → i < e → take n list ++ filter q (countFrom i (e - i)) ≡ target

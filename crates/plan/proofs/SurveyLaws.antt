@@ -3,18 +3,20 @@ use mathlib.Core.Path.{_≡_, refl, sym, ap, ap₂, _∙_}
 use mathlib.Core.Bool.{Bool, true, false, _||_, not}
 use mathlib.Core.List.{List, [], _∷_, _++_, reverse, reverseAux}
 use Prim.Native.Nat.{ℕ, zero, suc, _+_, _-_, _*_, _<_, _≤_}
+use native.Mathlib.Nat.{mul-le-mul}
 use native.Mathlib.Numerals.{add-one}
 use native.Mathlib.Omega.{arith}
 use lib.ListN.{length, take, getD}
 use borrow.Author.Tests.{lt-leb}
 use lib.Seq.{take-take}
 use Rattle.lists.specs.Lists.{All, filter, any, more}
-use Rattle.lists.proofs.Alls.{All-drop, All-map, All-take, All-filter, false-any}
+use Rattle.lists.proofs.Alls.{All-drop, All-head, All-map, All-take, All-filter, false-any}
 use Rattle.lists.proofs.Filters.{filter-append}
-use Rattle.chip.specs.Geometry.{Geometry, small}
+use Rattle.chip.specs.Geometry.{Geometry, Fits, blockSize}
 use Rattle.chip.specs.Page.{Page}
 use Rattle.chip.specs.Chip.{inBlock, pagesOf}
 use Rattle.chip.proofs.ImageLaws.{length-pages}
+use Rattle.chip.proofs.Sizes.{blocks-pages, pages-pos}
 use Rattle.pages.specs.Steps.{Live, liveFrom}
 use Rattle.views.specs.Table.{Node, fresh}
 use Rattle.views.specs.Stored.{storedList}
@@ -103,41 +105,56 @@ all-below : (m : ℕ) (xs : List ℕ) → ((j : ℕ) → getD xs j 0 < m) → Al
 all-below m [] h = All.none
 all-below m (x ∷ xs) h = more (h 0) (all-below m xs (λ j. h (suc j)))
 
-out-of : (p : ℕ) → p < 4294967296 → inBlock small 4294967295 p ≡ false
+out-of : (g : Geometry) → Fits g → (p : ℕ) → p < 4294967296 → inBlock g 4294967295 p ≡ false
 unfolding inBlock
-out-of p l = rw (lt-leb (4294967295 * 32) p (omega arith))
+out-of g f p l = rw (lt-leb (4294967295 * g .pages) p (omega (arith, f .many)))
 
-pub no-block : (slots : List ℕ) → ((j : ℕ) → getD slots j 0 < 4294967296) → (lens : List ℕ) (n : ℕ) → any (inBlock small 4294967295) (storedList lens slots n) ≡ false
-no-block slots h lens n =
-    false-any (inBlock small 4294967295)
-    (All-map (λ p l. out-of p l) (All-take (getD lens n 0) (All-take 4 (All-drop (4 * n) (all-below 4294967296 slots h)))))
+pub no-block : (g : Geometry) → Fits g → (slots : List ℕ) → ((j : ℕ) → getD slots j 0 < 4294967296) → (lens : List ℕ) (n : ℕ)
+    → any (inBlock g 4294967295) (storedList lens slots n) ≡ false
+no-block g f slots h lens n =
+    false-any (inBlock g 4294967295)
+    (All-map (λ p l. out-of g f p l) (All-take (getD lens n 0) (All-take 4 (All-drop (4 * n) (all-below 4294967296 slots h)))))
 
 -- ---- the survey
 -- the head of an image of B blocks
-pub survey-on : (B : ℕ) (image : List ℕ) → length image ≡ B * 16896 → 3 ≤ B → headBlock small (pagesOf small image) < B
-survey-on B image e h =
-    let l : length (pagesOf small image) ≡ B * 32 = length-pages small image ∙ omega arith in
-    head-on small B (pagesOf small image) (omega arith) (omega arith) l (omega (arith, l))
+pub survey-on : (g : Geometry) → Fits g → (B : ℕ) (image : List ℕ) → length image ≡ B * blockSize g → 3 ≤ B → headBlock g (pagesOf g image) < B
+survey-on g f B image e h =
+    let l : length (pagesOf g image) ≡ B * g .pages = length-pages g image ∙ blocks-pages g f (length image) B e in
+    let b : 0 < B = omega arith in
+    head-on g B (pagesOf g image) (pages-pos g f) b l (rw l (mul-le-mul b (pages-pos g f)))
 
 -- the unmarked blocks are the unused ones
-pub unmarked-unused : (B limit : ℕ) (lens slots : List ℕ) (c : ℕ) (ps : List Page) (m : List ℕ) (head : ℕ) → head < B → B ≤ 32
-    → Marked limit lens slots c ps m → filter (isUnmarked m) (ring B head) ≡ unusedIn small B limit lens slots c (liveFrom small 0 ps) head
+pub unmarked-unused : (g : Geometry) (B limit : ℕ) (lens slots : List ℕ) (c : ℕ) (ps : List Page) (m : List ℕ) (head : ℕ) → head < B → B ≤ 32
+    → Marked g limit lens slots c ps m → filter (isUnmarked m) (ring B head) ≡ unusedIn g B limit lens slots c (liveFrom g 0 ps) head
 unfolding unusedIn
-unmarked-unused B limit lens slots c ps m head h k a =
-    filter-same (isUnmarked m) (λ (b : ℕ). not (usedIn small limit lens slots c (liveFrom small 0 ps) b))
+unmarked-unused g B limit lens slots c ps m head h k a =
+    filter-same (isUnmarked m) (λ (b : ℕ). not (usedIn g limit lens slots c (liveFrom g 0 ps) b))
     (All-map (λ b r. a .are b (omega (arith, r .0))) (ring-range B head h))
 
 -- the marked blocks are the used ones
-pub marked-used : (B limit : ℕ) (lens slots : List ℕ) (c : ℕ) (ps : List Page) (m : List ℕ) (head : ℕ) → head < B → B ≤ 32
-    → Marked limit lens slots c ps m → filter (isHeld m) (ring B head) ≡ usedAround small B limit lens slots c (liveFrom small 0 ps) head
+pub marked-used : (g : Geometry) (B limit : ℕ) (lens slots : List ℕ) (c : ℕ) (ps : List Page) (m : List ℕ) (head : ℕ) → head < B → B ≤ 32
+    → Marked g limit lens slots c ps m → filter (isHeld m) (ring B head) ≡ usedAround g B limit lens slots c (liveFrom g 0 ps) head
 unfolding usedAround
-marked-used B limit lens slots c ps m head h k a =
-    filter-same (isHeld m) (usedIn small limit lens slots c (liveFrom small 0 ps))
-    (All-map (λ b r. ap not (a .are b (omega (arith, r .0))) ∙ twice (usedIn small limit lens slots c (liveFrom small 0 ps) b)) (ring-range B head h))
+marked-used g B limit lens slots c ps m head h k a =
+    filter-same (isHeld m) (usedIn g limit lens slots c (liveFrom g 0 ps))
+    (All-map (λ b r. ap not (a .are b (omega (arith, r .0))) ∙ twice (usedIn g limit lens slots c (liveFrom g 0 ps) b)) (ring-range B head h))
   where
     twice : (t : Bool) → not (not t) ≡ t
     twice true = refl
     twice false = refl
+
+-- ---- the first of a list, or d, is below m where all are and d is
+first-low : (m d : ℕ) (bs : List ℕ) → d < m → All (λ (b : ℕ). b < m) bs → firstOr d bs < m
+first-low m d [] h a = h
+first-low m d (b ∷ bs) h a = All-head a
+
+-- so the oldest block is a number of 32 bits
+pub oldest-bits : (g : Geometry) (B limit : ℕ) (lens slots : List ℕ) (c : ℕ) (xs : List Live) (head : ℕ) → head < B → B ≤ 32
+    → firstOr 4294967295 (usedAround g B limit lens slots c xs head) < 4294967296
+unfolding usedAround
+oldest-bits g B limit lens slots c xs head h k =
+    first-low 4294967296 4294967295 (filter (usedIn g limit lens slots c xs) (ring B head)) (omega arith)
+    (All-filter (usedIn g limit lens slots c xs) (All-map (λ b r. omega (arith, r .0)) (ring-range B head h)))
 
 -- ---- the first of two lists, one behind the other
 pub first-append : (d : ℕ) (xs ys : List ℕ) → firstOr d (xs ++ ys) ≡ firstOr (firstOr d ys) xs
@@ -182,11 +199,11 @@ ring-halves m B head r₀ r₁ r₂ n k a b =
     ∙ sym (filter-append (isUnmarked m) (countFrom (suc head) (B - suc head)) (countFrom 0 head))
 
 -- ---- what a survey tells of the first w blocks that it wrote
-module _ {B limit : ℕ} {lens slots : List ℕ} {c : ℕ} {ps : List Page} {blocks : List ℕ} {r : Surveyed} (s : Surveys B limit lens slots c ps blocks r) (w : ℕ) (h : w ≤ r .unused) where
-  pub survey-take : take w blocks ≡ take w (unusedIn small B limit lens slots c (liveFrom small 0 ps) (r .head))
+module _ {g : Geometry} {B limit : ℕ} {lens slots : List ℕ} {c : ℕ} {ps : List Page} {blocks : List ℕ} {r : Surveyed} (s : Surveys g B limit lens slots c ps blocks r) (w : ℕ) (h : w ≤ r .unused) where
+  pub survey-take : take w blocks ≡ take w (unusedIn g B limit lens slots c (liveFrom g 0 ps) (r .head))
   survey-take = sym (take-take w (r .unused) blocks h) ∙ ap (take w) (s .list)
 
   pub survey-spare : Spare B (r .head) (take w blocks)
   survey-spare =
-      let us : List ℕ = unusedIn small B limit lens slots c (liveFrom small 0 ps) (r .head) in
-      rw survey-take (spare-take B (r .head) w us (unused-spare small B limit lens slots c (liveFrom small 0 ps) (r .head) (s .on)))
+      let us : List ℕ = unusedIn g B limit lens slots c (liveFrom g 0 ps) (r .head) in
+      rw survey-take (spare-take B (r .head) w us (unused-spare g B limit lens slots c (liveFrom g 0 ps) (r .head) (s .on)))

@@ -6,7 +6,7 @@ use Prim.Native.Nat.{ℕ, _-_, _*_, _<_}
 use lib.Dec.{ltb}
 use lib.ListN.{length, take}
 use Rattle.lists.specs.Lists.{filter, All, Diff}
-use Rattle.chip.specs.Geometry.{Geometry, small}
+use Rattle.chip.specs.Geometry.{Geometry}
 use Rattle.chip.specs.Page.{Page}
 use Rattle.log.specs.Plan.{freeAt, pagesIn, places, erases, whollyFree}
 
@@ -35,7 +35,7 @@ pub record Spare (B head : ℕ) (bs : List ℕ) : Type 0 where
   pub differ : Diff bs
 
 -- the first n places on the head and on the first w blocks, written; r of them are not on the head
-pub record Lays (B head w n : ℕ) (ps : List Page) (blocks after : List ℕ) (r : ℕ) : Type 0 where
-  pub list : take n after ≡ firstPlaces small ps head (take w blocks) n
-  pub on : All (λ (p : ℕ). p < B * 32) (take n after)
-  pub reach : r ≡ n - length (freePages small ps head)
+pub record Lays (g : Geometry) (B head w n : ℕ) (ps : List Page) (blocks after : List ℕ) (r : ℕ) : Type 0 where
+  pub list : take n after ≡ firstPlaces g ps head (take w blocks) n
+  pub on : All (λ (p : ℕ). p < B * g .pages) (take n after)
+  pub reach : r ≡ n - length (freePages g ps head)

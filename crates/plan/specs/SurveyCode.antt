@@ -6,7 +6,7 @@ use Prim.Native.Nat.{ℕ, _+_, _/_, _<_, _≤_}
 use lib.Dec.{ltb, eqb}
 use lib.ListN.{length, take, set, getD}
 use Rattle.lists.specs.Lists.{filter, any}
-use Rattle.chip.specs.Geometry.{Geometry, small}
+use Rattle.chip.specs.Geometry.{Geometry}
 use Rattle.chip.specs.Page.{Page, isLive}
 use Rattle.chip.specs.Chip.{inBlock}
 use Rattle.pages.specs.Steps.{Live, live, liveFrom, commit, index, lastFrom, ordered}
@@ -38,14 +38,15 @@ firstOr d [] = d
 firstOr d (b ∷ bs) = b
 
 -- ---- what a survey tells: the head, how many blocks are unused and which, the oldest block
-pub record Surveys (B limit : ℕ) (lens slots : List ℕ) (c : ℕ) (ps : List Page) (blocks : List ℕ) (r : Surveyed) : Type 0 where
-  pub head : r .head ≡ headBlock small ps
+pub record Surveys (g : Geometry) (B limit : ℕ) (lens slots : List ℕ) (c : ℕ) (ps : List Page) (blocks : List ℕ) (r : Surveyed) : Type 0 where
+  pub head : r .head ≡ headBlock g ps
   pub on : r .head < B
-  pub list : take (r .unused) blocks ≡ unusedIn small B limit lens slots c (liveFrom small 0 ps) (r .head)
-  pub size : length (unusedIn small B limit lens slots c (liveFrom small 0 ps) (r .head)) ≡ r .unused
+  pub list : take (r .unused) blocks ≡ unusedIn g B limit lens slots c (liveFrom g 0 ps) (r .head)
+  pub size : length (unusedIn g B limit lens slots c (liveFrom g 0 ps) (r .head)) ≡ r .unused
   pub few : r .unused < B
-  pub nowhere : (n : ℕ) → any (inBlock small 4294967295) (storedList lens slots n) ≡ false
-  pub oldest : r .oldest ≡ firstOr 4294967295 (usedAround small B limit lens slots c (liveFrom small 0 ps) (r .head))
+  pub nowhere : (n : ℕ) → any (inBlock g 4294967295) (storedList lens slots n) ≡ false
+  pub oldest : r .oldest ≡ firstOr 4294967295 (usedAround g B limit lens slots c (liveFrom g 0 ps) (r .head))
+  pub bits : r .oldest < 4294967296
 
 -- ---- marks, one number a block
 -- the block of page p marked
@@ -83,18 +84,18 @@ abbrev pub later : Newest → ℕ → ℕ → ℕ → Newest
 later z c i p = cond (z .found && not (isBehind z c i)) z (record { found = true; commit = c; index = i; place = p })
 
 -- what one page more, at place p, makes of the last page z and of the marks m
-pub record LooksAtPage (c p : ℕ) (x : Page) (z : Newest) (m : List ℕ) (r : Newest) (n : List ℕ) : Type 0 where
-  pub newest : r ≡ cond (isLive small x) (later z (commit (live small p x)) (index (live small p x)) p) z
-  pub marks : n ≡ cond (isOf small c x) (mark small m p) m
+pub record LooksAtPage (g : Geometry) (c p : ℕ) (x : Page) (z : Newest) (m : List ℕ) (r : Newest) (n : List ℕ) : Type 0 where
+  pub newest : r ≡ cond (isLive g x) (later z (commit (live g p x)) (index (live g p x)) p) z
+  pub marks : n ≡ cond (isOf g c x) (mark g m p) m
 
 -- what all pages make of the marks m
-pub record LooksAtAll (c : ℕ) (ps : List Page) (m : List ℕ) (r : Newest) (n : List ℕ) : Type 0 where
-  pub newest : r ≡ lastIn (ordered (liveFrom small 0 ps))
-  pub marks : n ≡ markHeld small c (liveFrom small 0 ps) m
+pub record LooksAtAll (g : Geometry) (c : ℕ) (ps : List Page) (m : List ℕ) (r : Newest) (n : List ℕ) : Type 0 where
+  pub newest : r ≡ lastIn (ordered (liveFrom g 0 ps))
+  pub marks : n ≡ markHeld g c (liveFrom g 0 ps) m
 
 -- the marks say which blocks are used
-pub record Marked (limit : ℕ) (lens slots : List ℕ) (c : ℕ) (ps : List Page) (m : List ℕ) : Type 0 where
-  pub are : (b : ℕ) → b < 32 → isUnmarked m b ≡ not (usedIn small limit lens slots c (liveFrom small 0 ps) b)
+pub record Marked (g : Geometry) (limit : ℕ) (lens slots : List ℕ) (c : ℕ) (ps : List Page) (m : List ℕ) : Type 0 where
+  pub are : (b : ℕ) → b < 32 → isUnmarked m b ≡ not (usedIn g limit lens slots c (liveFrom g 0 ps) b)
 
 -- x behind the first n of a list, where keep says so
 pub record Pushes (keep : Bool) (x : ℕ) (before after : List ℕ) (n r : ℕ) : Type 0 where

@@ -1,8 +1,8 @@
 // The nodes that a commit writes and their pages: a delta, a snapshot, or nothing.
-ghost use Prim.Native.Nat.{_+_, _*_, _%_, _<_, _≤_};
+ghost use Prim.Native.Nat.{_+_, _*_, _/_, _%_, _<_, _≤_};
 ghost use mathlib.Core.Path.{_≡_};
 ghost use lib.ListN.{length};
-ghost use Rattle.chip.specs.Geometry.{small};
+ghost use Rattle.chip.specs.Geometry.{Fits, pageSize};
 ghost use Rattle.chip.specs.Chip.{pagesOf};
 ghost use Rattle.contents.specs.ContentsCode.{contentsIn};
 ghost use Rattle.plan.specs.PlacesCode.{freePages};
@@ -35,15 +35,21 @@ pub fn choose(
     sizes: &mut [u32; 256],
     units: &mut [u8; 52224],
 ) -> usize
-    requires { ⌜ (length (now image) % 528 ≡ 0) × (source .count ≤ 960) × (source .limit ≤ 256) × (room .head * 16896 + 16896 ≤ length (now image))
-        × (room .head < 32) × (room .others ≤ 32) × (room .spare ≤ 32) ⌝ }
-    ensures { λ r. ⌜ Chooses (source .limit) (source .oldest) (length (freePages small (pagesOf small (now (image .entry))) (room .head)) + 32 * room .others)
-        (length (freePages small (pagesOf small (now (image .entry))) (room .head)) + 32 * room .spare)
-        (contentsIn small (source .limit) (pagesOf small (now (image .entry))) (now (lens .entry)) (now (slots .entry)) (source .count) (now (buffer .entry)))
+    requires { ⌜ (length (now image) % pageSize (source .scope .geometry) ≡ 0) × (source .scope .count ≤ 960) × (source .scope .limit ≤ 256) × (source .oldest < 4294967296)
+        × (room .head * source .scope .geometry .pages + source .scope .geometry .pages ≤ length (now image) / pageSize (source .scope .geometry))
+        × (room .head < 32) × (room .others ≤ 32) × (room .spare ≤ 32) × Fits (source .scope .geometry) ⌝ }
+    ensures { λ r. ⌜ Chooses (source .scope .geometry) (source .scope .limit) (source .oldest)
+        (length (freePages (source .scope .geometry) (pagesOf (source .scope .geometry) (now (image .entry))) (room .head)) + room .others * source .scope .geometry .pages)
+        (length (freePages (source .scope .geometry) (pagesOf (source .scope .geometry) (now (image .entry))) (room .head)) + room .spare * source .scope .geometry .pages)
+        (contentsIn (source .scope .geometry) (source .scope .limit) (pagesOf (source .scope .geometry) (now (image .entry)))
+        (now (lens .entry)) (now (slots .entry)) (source .scope .count) (now (buffer .entry)))
         (now (targets .exit)) (now (sizes .exit)) (now (units .exit)) r ⌝ }
 {
-    let count = source.count;
-    let limit = source.limit;
+    let scope = source.scope;
+    let geometry = scope.geometry;
+    let count = scope.count;
+    let limit = scope.limit;
+    let most = geometry.units as u32;
     let head = room.head;
     let all = &slots[..];
     let mut parts = [0; 256];
@@ -65,6 +71,7 @@ pub fn choose(
         units,
     );
     let d = delta::pack_delta(
+        most,
         limit,
         &wholes,
         &parts,
@@ -74,7 +81,7 @@ pub fn choose(
         targets,
         &mut rooms,
     );
-    if places::has_places(image, head, room.others, d + 1) {
+    if places::has_places(geometry, image, head, room.others, d + 1) {
         written::keep_written(
             buffer,
             source,
@@ -99,8 +106,8 @@ pub fn choose(
         &olds,
         units,
     );
-    let s = pack::pack_nodes(limit, &wholes, &parts, &forms, targets, &mut rooms);
-    if places::has_places(image, head, room.spare, s + 1) {
+    let s = pack::pack_nodes(most, limit, &wholes, &parts, &forms, targets, &mut rooms);
+    if places::has_places(geometry, image, head, room.spare, s + 1) {
         written::keep_written(
             buffer,
             source,

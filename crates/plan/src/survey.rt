@@ -2,16 +2,15 @@
 ghost use mathlib.Core.Path.{_≡_};
 ghost use mathlib.Core.Bool.{cond};
 ghost use mathlib.Core.List.{foldl};
-ghost use Prim.Native.Nat.{_+_, _-_, _*_, _%_, _<_, _≤_};
+ghost use Prim.Native.Nat.{_+_, _-_, _*_, _<_, _≤_};
 ghost use lib.ListN.{length, take, replicate};
 ghost use Rattle.lists.specs.Lists.{filter, flat};
-ghost use Rattle.chip.specs.Geometry.{small};
+ghost use Rattle.chip.specs.Geometry.{Fits, blockSize, pageSize};
 ghost use Rattle.chip.specs.Chip.{pagesOf};
 ghost use Rattle.views.specs.Stored.{storedList};
 ghost use Rattle.log.specs.Plan.{countFrom, ring as around, headBlock};
 ghost use Rattle.plan.specs.SurveyCode.{firstOr, isHeld, isUnmarked, Surveys, mark, nothing, later, LooksAtPage, LooksAtAll, Marked, KeepsUnmarked, Pushes};
-use chip::geometry::PAGE;
-use chip::geometry::PAGES;
+use chip::geometry::Geometry;
 use chip::page;
 use pages::unit;
 use views::view;
@@ -69,83 +68,92 @@ fn later_of(z: Newest, commit: u32, index: u32, place: usize) -> Newest
 }
 
 // The block of this page marked, if there is a mark for it.
-fn mark_page(marks: &mut [u32], page: usize)
-    requires { ⌜ length (now marks) ≡ 32 ⌝ }
-    ensures { λ _. ⌜ now (marks .exit) ≡ mark small (now (marks .entry)) page ⌝ }
+fn mark_page(geometry: Geometry, marks: &mut [u32], page: usize)
+    requires { ⌜ (length (now marks) ≡ 32) × Fits geometry ⌝ }
+    ensures { λ _. ⌜ now (marks .exit) ≡ mark geometry (now (marks .entry)) page ⌝ }
 {
-    let b = page / PAGES;
+    let b = page / geometry.pages;
     if b < 32 {
         marks[b] = 1;
     }
 }
 
 // The same where `here` says so.
-fn mark_if(here: bool, marks: &mut [u32], page: usize)
-    requires { ⌜ length (now marks) ≡ 32 ⌝ }
-    ensures { λ _. ⌜ now (marks .exit) ≡ cond here (mark small (now (marks .entry)) page) (now (marks .entry)) ⌝ }
+fn mark_if(geometry: Geometry, here: bool, marks: &mut [u32], page: usize)
+    requires { ⌜ (length (now marks) ≡ 32) × Fits geometry ⌝ }
+    ensures { λ _. ⌜ now (marks .exit) ≡ cond here (mark geometry (now (marks .entry)) page) (now (marks .entry)) ⌝ }
 {
     if here {
-        mark_page(marks, page);
+        mark_page(geometry, marks, page);
     }
 }
 
 // The blocks of the pages of a node's list marked.
-fn mark_list(lens: &[u32], slots: &[u32], node: u32, marks: &mut [u32])
-    requires { ⌜ (length (now lens) ≡ 256) × (length (now slots) ≡ 1024) × (node < 256) × (length (now marks) ≡ 32) ⌝ }
-    ensures { λ _. ⌜ now (marks .exit) ≡ foldl (mark small) (now (marks .entry)) (storedList (now (lens .entry)) (now (slots .entry)) node) ⌝ }
+fn mark_list(geometry: Geometry, lens: &[u32], slots: &[u32], node: u32, marks: &mut [u32])
+    requires { ⌜ (length (now lens) ≡ 256) × (length (now slots) ≡ 1024) × (node < 256) × (length (now marks) ≡ 32) × Fits geometry ⌝ }
+    ensures { λ _. ⌜ now (marks .exit) ≡ foldl (mark geometry) (now (marks .entry)) (storedList (now (lens .entry)) (now (slots .entry)) node) ⌝ }
 {
     let used = view::used_slots(lens, slots, node);
     let base = 4 * node as usize;
     let mut i = 0;
     while i < used {
-        mark_page(marks, slots[base + i] as usize);
+        mark_page(geometry, marks, slots[base + i] as usize);
         i += 1;
     }
 }
 
 // The blocks of the pages of all nodes' lists marked.
-fn mark_lists(lens: &[u32], slots: &[u32], limit: u32, marks: &mut [u32])
-    requires { ⌜ (length (now lens) ≡ 256) × (length (now slots) ≡ 1024) × (limit ≤ 256) × (length (now marks) ≡ 32) ⌝ }
-    ensures { λ _. ⌜ now (marks .exit) ≡ foldl (mark small) (now (marks .entry)) (flat (storedList (now (lens .entry)) (now (slots .entry))) (countFrom 0 limit)) ⌝ }
+fn mark_lists(geometry: Geometry, lens: &[u32], slots: &[u32], limit: u32, marks: &mut [u32])
+    requires { ⌜ (length (now lens) ≡ 256) × (length (now slots) ≡ 1024) × (limit ≤ 256) × (length (now marks) ≡ 32) × Fits geometry ⌝ }
+    ensures { λ _. ⌜ now (marks .exit) ≡ foldl (mark geometry) (now (marks .entry)) (flat (storedList (now (lens .entry)) (now (slots .entry))) (countFrom 0 limit)) ⌝ }
 {
     let mut n = 0;
     while n < limit {
-        mark_list(lens, slots, n, marks);
+        mark_list(geometry, lens, slots, n, marks);
         n += 1;
     }
 }
 
 // The page at place `at` taken into account: its block is marked if it is of the commit.
-fn look(page: &[u8], at: usize, commit: u32, z: Newest, marks: &mut [u32]) -> Newest
-    requires { ⌜ (length (now page) ≡ 528) × (length (now marks) ≡ 32) ⌝ }
-    ensures { λ r. ⌜ LooksAtPage commit at (now (page .entry)) z (now (marks .entry)) r (now (marks .exit)) ⌝ }
+fn look(
+    geometry: Geometry,
+    page: &[u8],
+    at: usize,
+    commit: u32,
+    z: Newest,
+    marks: &mut [u32],
+) -> Newest
+    requires { ⌜ (length (now page) ≡ pageSize geometry) × (length (now marks) ≡ 32) × Fits geometry ⌝ }
+    ensures { λ r. ⌜ LooksAtPage geometry commit at (now (page .entry)) z (now (marks .entry)) r (now (marks .exit)) ⌝ }
 {
-    if !page::is_live(page) {
+    if !page::is_live(geometry, page) {
         return z;
     }
     let number = unit::read_word(page, 0);
     let index = unit::wide(page[4]);
-    mark_if(number == commit, marks, at);
+    mark_if(geometry, number == commit, marks, at);
     later_of(z, number, index, at)
 }
 
 // All pages, the last first: the last in order of the live ones, and the blocks that hold a page of the commit marked.
-fn look_all(image: &[u8], commit: u32, marks: &mut [u32]) -> Newest
-    requires { ⌜ (length (now image) % 528 ≡ 0) × (length (now marks) ≡ 32) ⌝ }
-    ensures { λ r. ⌜ LooksAtAll commit (pagesOf small (now (image .entry))) (now (marks .entry)) r (now (marks .exit)) ⌝ }
+fn look_all(geometry: Geometry, image: &[u8], commit: u32, marks: &mut [u32]) -> Newest
+    requires { ⌜ (length (now marks) ≡ 32) × Fits geometry ⌝ }
+    ensures { λ r. ⌜ LooksAtAll geometry commit (pagesOf geometry (now (image .entry))) (now (marks .entry)) r (now (marks .exit)) ⌝ }
 {
+    let size = geometry.area + geometry.spare;
     let mut z = none_yet();
-    let mut at = image.len() / PAGE;
+    let mut at = image.len() / size;
     while at > 0 {
         at -= 1;
-        let a = at * PAGE;
-        z = look(&image[a..a + PAGE], at, commit, z, marks);
+        let a = at * size;
+        z = look(geometry, &image[a..a + size], at, commit, z, marks);
     }
     z
 }
 
 // Every used block marked; the head block.
 fn mark_used(
+    geometry: Geometry,
     image: &[u8],
     lens: &[u32],
     slots: &[u32],
@@ -153,13 +161,13 @@ fn mark_used(
     commit: u32,
     marks: &mut [u32],
 ) -> usize
-    requires { ⌜ (length (now image) % 528 ≡ 0) × (length (now lens) ≡ 256) × (length (now slots) ≡ 1024) × (limit ≤ 256) × (now marks ≡ replicate 32 0) ⌝ }
-    ensures { λ r. ⌜ (r ≡ headBlock small (pagesOf small (now (image .entry))))
-        × Marked limit (now (lens .entry)) (now (slots .entry)) commit (pagesOf small (now (image .entry))) (now (marks .exit)) ⌝ }
+    requires { ⌜ (length (now lens) ≡ 256) × (length (now slots) ≡ 1024) × (limit ≤ 256) × (now marks ≡ replicate 32 0) × Fits geometry ⌝ }
+    ensures { λ r. ⌜ (r ≡ headBlock geometry (pagesOf geometry (now (image .entry))))
+        × Marked geometry limit (now (lens .entry)) (now (slots .entry)) commit (pagesOf geometry (now (image .entry))) (now (marks .exit)) ⌝ }
 {
-    mark_lists(lens, slots, limit, marks);
-    let z = look_all(image, commit, marks);
-    z.place / PAGES
+    mark_lists(geometry, lens, slots, limit, marks);
+    let z = look_all(geometry, image, commit, marks);
+    z.place / geometry.pages
 }
 
 // `x` put behind the first `n` numbers of the list where `keep` says so; how many there are then.
@@ -223,6 +231,7 @@ fn oldest_of(marks: &[u32], head: usize, blocks: usize) -> usize
 
 // The survey, with the arrays as slices.
 fn survey_in(
+    geometry: Geometry,
     image: &[u8],
     lens: &[u32],
     slots: &[u32],
@@ -231,12 +240,12 @@ fn survey_in(
     commit: u32,
     ring: &mut [u32],
 ) -> Surveyed
-    requires { ⌜ (length (now image) ≡ blocks * 16896) × (3 ≤ blocks) × (blocks ≤ 32) × (limit ≤ 256)
-        × (length (now lens) ≡ 256) × (length (now slots) ≡ 1024) × (length (now ring) ≡ 32) ⌝ }
-    ensures { λ r. ⌜ Surveys blocks limit (now (lens .entry)) (now (slots .entry)) commit (pagesOf small (now (image .entry))) (now (ring .exit)) r ⌝ }
+    requires { ⌜ (length (now image) ≡ blocks * blockSize geometry) × (3 ≤ blocks) × (blocks ≤ 32) × (limit ≤ 256)
+        × (length (now lens) ≡ 256) × (length (now slots) ≡ 1024) × (length (now ring) ≡ 32) × Fits geometry ⌝ }
+    ensures { λ r. ⌜ Surveys geometry blocks limit (now (lens .entry)) (now (slots .entry)) commit (pagesOf geometry (now (image .entry))) (now (ring .exit)) r ⌝ }
 {
     let mut marks = [0; 32];
-    let head = mark_used(image, lens, slots, limit, commit, &mut marks);
+    let head = mark_used(geometry, image, lens, slots, limit, commit, &mut marks);
     let unused = list_unused(&marks, head, blocks, ring);
     let oldest = oldest_of(&marks, head, blocks);
     Surveyed {
@@ -248,6 +257,7 @@ fn survey_in(
 
 // The head block, the oldest block, and the unused blocks in circular order after the head, written to `ring`.
 pub fn survey(
+    geometry: Geometry,
     image: &[u8],
     lens: &[u32; 256],
     slots: &[u32; 1024],
@@ -256,8 +266,8 @@ pub fn survey(
     commit: u32,
     ring: &mut [u32; 32],
 ) -> Surveyed
-    requires { ⌜ (length (now image) ≡ blocks * 16896) × (3 ≤ blocks) × (blocks ≤ 32) × (limit ≤ 256) ⌝ }
-    ensures { λ r. ⌜ Surveys blocks limit (now (lens .entry)) (now (slots .entry)) commit (pagesOf small (now (image .entry))) (now (ring .exit)) r ⌝ }
+    requires { ⌜ (length (now image) ≡ blocks * blockSize geometry) × (3 ≤ blocks) × (blocks ≤ 32) × (limit ≤ 256) × Fits geometry ⌝ }
+    ensures { λ r. ⌜ Surveys geometry blocks limit (now (lens .entry)) (now (slots .entry)) commit (pagesOf geometry (now (image .entry))) (now (ring .exit)) r ⌝ }
 {
-    survey_in(image, lens, slots, limit, blocks, commit, ring)
+    survey_in(geometry, image, lens, slots, limit, blocks, commit, ring)
 }

@@ -4,6 +4,7 @@ use mathlib.Core.List.{List, _++_}
 use Prim.Native.Nat.{ℕ, min}
 use lib.ListN.{length, take, drop}
 use lib.Seq.{take-at, drop-at}
+use Rattle.chip.specs.Geometry.{small}
 use Rattle.chip.specs.Counts.{total}
 use Rattle.store.specs.declared.answer.Forecast as F
 use Rattle.store.specs.declared.answer.Look.{Look}
@@ -29,33 +30,33 @@ module _ (call : Call) (torn : List ℕ) (s : State) (i : List ℕ) (s' : State)
   by : (k : Call) → call ≡ k → (t : State) → s' ≡ t → (i' : List ℕ) → Makes k torn s i t i' → Makes call torn s i s' i'
   by k e t q i' h = subst (λ (c : Call). Makes c torn s i s' i') (sym e) (subst (λ (u : State). Makes k torn s i u i') (sym q) h)
 
-  pub makes-format : (n : ℕ) → call ≡ Format n → (w : Wrote) (i' : List ℕ) → s' ≡ w .state → Formats n torn s i w i' → Makes call torn s i s' i'
-  makes-format n e w i' q h = by (Format n) e (w .state) q i' (runs-one torn (S.Format n) s i (answerOf (w .answer)) (total (w .ops)) (w .state) i' (h .says))
+  pub makes-format : (n : ℕ) → call ≡ Format n → (w : Wrote) (i' : List ℕ) → s' ≡ w .state → Formats small n torn s i w i' → Makes call torn s i s' i'
+  makes-format n e w i' q h = by (Format n) e (w .state) q i' (runs-one small torn (S.Format n) s i (answerOf (w .answer)) (total (w .ops)) (w .state) i' (h .says))
 
-  pub makes-mount : (n : ℕ) → call ≡ Mount n → (w : Wrote) (i' : List ℕ) → s' ≡ w .state → Mounts n torn s i w i' → Makes call torn s i s' i'
-  makes-mount n e w i' q h = by (Mount n) e (w .state) q i' (runs-one torn (S.Mount n) s i (answerOf (w .answer)) (total (w .ops)) (w .state) i' (h .says))
+  pub makes-mount : (n : ℕ) → call ≡ Mount n → (w : Wrote) (i' : List ℕ) → s' ≡ w .state → Mounts small n torn s i w i' → Makes call torn s i s' i'
+  makes-mount n e w i' q h = by (Mount n) e (w .state) q i' (runs-one small torn (S.Mount n) s i (answerOf (w .answer)) (total (w .ops)) (w .state) i' (h .says))
 
-  pub makes-commit : (n : ℕ) → call ≡ Commit n → (w : Wrote) (i' : List ℕ) → s' ≡ w .state → Commits n torn s i w i' → Makes call torn s i s' i'
-  makes-commit n e w i' q h = by (Commit n) e (w .state) q i' (runs-one torn (S.Commit n) s i (answerOf (w .answer)) (total (w .ops)) (w .state) i' (h .says))
+  pub makes-commit : (n : ℕ) → call ≡ Commit n → (w : Wrote) (i' : List ℕ) → s' ≡ w .state → Commits small n torn s i w i' → Makes call torn s i s' i'
+  makes-commit n e w i' q h = by (Commit n) e (w .state) q i' (runs-one small torn (S.Commit n) s i (answerOf (w .answer)) (total (w .ops)) (w .state) i' (h .says))
 
-  pub makes-insert : (k v : ℕ) → call ≡ Insert k v → (u : Updated) → s' ≡ u .state → Inserts k v s i u → Makes call torn s i s' i
-  makes-insert k v e u q h = by (Insert k v) e (u .state) q i (runs-one torn (S.Insert k v) s i (answerOf (u .answer)) 0 (u .state) i (h .says))
+  pub makes-insert : (k v : ℕ) → call ≡ Insert k v → (u : Updated) → s' ≡ u .state → Inserts small k v s i u → Makes call torn s i s' i
+  makes-insert k v e u q h = by (Insert k v) e (u .state) q i (runs-one small torn (S.Insert k v) s i (answerOf (u .answer)) 0 (u .state) i (h .says))
 
-  pub makes-delete : (k : ℕ) → call ≡ Delete k → (u : Updated) → s' ≡ u .state → Deletes k s i u → Makes call torn s i s' i
-  makes-delete k e u q h = by (Delete k) e (u .state) q i (runs-one torn (S.Delete k) s i (answerOf (u .answer)) 0 (u .state) i (h .says))
+  pub makes-delete : (k : ℕ) → call ≡ Delete k → (u : Updated) → s' ≡ u .state → Deletes small k s i u → Makes call torn s i s' i
+  makes-delete k e u q h = by (Delete k) e (u .state) q i (runs-one small torn (S.Delete k) s i (answerOf (u .answer)) 0 (u .state) i (h .says))
 
-  pub makes-look : (k : ℕ) → call ≡ LookUp k → (l : Look) → s' ≡ s → Looks k s i l → Makes call torn s i s' i
-  makes-look k e l q h = by (LookUp k) e s q i (runs-one torn (S.LookUp k) s i (lookOf l) 0 s i (h .says))
+  pub makes-look : (k : ℕ) → call ≡ LookUp k → (l : Look) → s' ≡ s → Looks small k s i l → Makes call torn s i s' i
+  makes-look k e l q h = by (LookUp k) e s q i (runs-one small torn (S.LookUp k) s i (lookOf l) 0 s i (h .says))
 
-  pub makes-forecast : call ≡ Forecast → (f : F.Forecast) → s' ≡ s → Forecasts s i f → Makes call torn s i s' i
-  makes-forecast e f q h = by Forecast e s q i (runs-one torn S.Forecast s i (answerOf (f .answer)) (total (f .ops)) s i (h .says))
+  pub makes-forecast : call ≡ Forecast → (f : F.Forecast) → s' ≡ s → Forecasts small s i f → Makes call torn s i s' i
+  makes-forecast e f q h = by Forecast e s q i (runs-one small torn S.Forecast s i (answerOf (f .answer)) (total (f .ops)) s i (h .says))
 
   -- a block report and show leave state and image
   pub makes-report : (b : ℕ) → call ≡ Report b → s' ≡ s → Makes call torn s i s' i
-  makes-report b e q = by (Report b) e s q i (runs-none torn s i)
+  makes-report b e q = by (Report b) e s q i (runs-none small torn s i)
 
   pub makes-show : (p : ℕ) → call ≡ Show p → s' ≡ s → Makes call torn s i s' i
-  makes-show p e q = by (Show p) e s q i (runs-none torn s i)
+  makes-show p e q = by (Show p) e s q i (runs-none small torn s i)
 
 -- ---- an order carried out
 module _ (o : Order) (b : Bed) (torn : List ℕ) (s : State) (i : List ℕ) where

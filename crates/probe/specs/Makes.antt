@@ -3,6 +3,7 @@ use mathlib.Core.Path.{_≡_}
 use mathlib.Core.List.{List, [], _∷_}
 use Prim.Native.Nat.{ℕ, min}
 use lib.ListN.{length, take, drop}
+use Rattle.chip.specs.Geometry.{small}
 use Rattle.store.specs.declared.state.State.{State}
 use Rattle.store.specs.declared.step.Call as Step
 use Rattle.store.specs.declared.step.Call.the-variants as S
@@ -31,7 +32,7 @@ storeCalls Forecast = S.Forecast ∷ []
 
 -- a call on what it is lent
 abbrev pub Makes : Call → (torn : List ℕ) (s : State) (i : List ℕ) (s' : State) (i' : List ℕ) → Type 0
-Makes c torn s i s' i' = RunsTo torn (storeCalls c) s i s' i'
+Makes c torn s i s' i' = RunsTo small torn (storeCalls c) s i s' i'
 
 -- what the probe has between two lines: how much is lent, the torn bytes, the state and the image
 pub record Rig : Type 0 where

@@ -7,7 +7,7 @@ use native.Mathlib.Omega.{arith}
 use lib.ListN.{length, getD}
 use Rattle.lists.specs.Lists.{all, none, tab}
 use Rattle.lists.proofs.Flats.{tab-same}
-use Rattle.chip.specs.Geometry.{small}
+use Rattle.chip.specs.Geometry.{Geometry}
 use Rattle.chip.specs.Chip.{pagesOf}
 use Rattle.pages.specs.Units.{decodes}
 use Rattle.pages.specs.Steps.{liveFrom, ordered, stand, steps}
@@ -35,45 +35,45 @@ use Rattle.store.specs.Contracts.{index}
 use Rattle.store.proofs.BegunViews.{map-tab, views-at, views-all, views-size, view-at, image-bytes, fair-entries, fair-level, some-there, none-there, next-is}
 
 -- ---- the arrays hold the lists of the nodes that the image means
-module _ (s : State) (i : List ℕ) (nodes : List Node) (k : Kept small (8 * s .blocks) (pagesOf small i) nodes (s .commit))
+module _ (g : Geometry) (s : State) (i : List ℕ) (nodes : List Node) (k : Kept g (8 * s .blocks) (pagesOf g i) nodes (s .commit))
     (lists : (n : ℕ) → n < 8 * s .blocks → Stores (s .lens) (s .slots) n (nodeAt nodes n .pages)) where
   -- node n of the image
   abbrev imageNode : ℕ → Node
-  imageNode n = nodeIn small (8 * s .blocks) (pagesOf small i) n
+  imageNode n = nodeIn g (8 * s .blocks) (pagesOf g i) n
 
   -- its list is the one stored, and has at most 4 pages
   node-stores : (n : ℕ) → n < 8 * s .blocks → Stores (s .lens) (s .slots) n (imageNode n .pages)
   node-stores n l =
       subst (λ (x : Node). Stores (s .lens) (s .slots) n (x .pages))
-      (kept-node small (8 * s .blocks) (pagesOf small i) nodes (s .commit) k n fresh l) (lists n l)
+      (kept-node g (8 * s .blocks) (pagesOf g i) nodes (s .commit) k n fresh l) (lists n l)
 
   node-rules : (n : ℕ) → n < 8 * s .blocks → (isWhole (imageNode n .now) ≡ true) × (length (imageNode n .pages) ≤ 4)
-  node-rules n l = well-is (imageNode n) (kept-well small (8 * s .blocks) (pagesOf small i) nodes (s .commit) k n l)
+  node-rules n l = well-is (imageNode n) (kept-well g (8 * s .blocks) (pagesOf g i) nodes (s .commit) k n l)
 
   -- it is the node of the table
-  node-read : (n : ℕ) → n < 8 * s .blocks → nodeFrom small s i n ≡ imageNode n
+  node-read : (n : ℕ) → n < 8 * s .blocks → nodeFrom g s i n ≡ imageNode n
   node-read n l =
       ap₂ (λ (w : View) (ps : List ℕ). record { now = w; pages = ps })
-      (view-stored small (8 * s .blocks) (pagesOf small i) nodes (s .commit) k n (s .lens) (s .slots) l (node-stores n l))
+      (view-stored g (8 * s .blocks) (pagesOf g i) nodes (s .commit) k n (s .lens) (s .slots) l (node-stores n l))
       (ap reverse (node-stores n l .pages (node-rules n l .1)) ∙ reverse-reverse (imageNode n .pages))
 
   tables : nodes ≡ tab 0 (8 * s .blocks) imageNode
-  tables = opened small (8 * s .blocks) (pagesOf small i) nodes (s .commit) k .tables
+  tables = opened g (8 * s .blocks) (pagesOf g i) nodes (s .commit) k .tables
 
   -- the nodes of the table are those that the image means
-  held-nodes : nodesOf small s i ≡ nodes
+  held-nodes : nodesOf g s i ≡ nodes
   unfolding nodesOf
-  held-nodes = tab-same (nodeFrom small s i) imageNode 0 (8 * s .blocks) (λ n l. node-read n (omega arith)) ∙ sym tables
+  held-nodes = tab-same (nodeFrom g s i) imageNode 0 (8 * s .blocks) (λ n l. node-read n (omega arith)) ∙ sym tables
 
   -- a list is empty exactly where there is no node
   lens-some : (n : ℕ) → n < 8 * s .blocks → 0 < getD (s .lens) n 0 → there (imageNode n .now) ≡ 1
   unfolding nodeIn
-  lens-some n l h = some-there n (events (8 * s .blocks) (inOrder small (pagesOf small i))) (node-rules n l .0) (omega (arith, node-stores n l .size))
+  lens-some n l h = some-there n (events (8 * s .blocks) (inOrder g (pagesOf g i))) (node-rules n l .0) (omega (arith, node-stores n l .size))
 
   lens-none : (n : ℕ) → n < 8 * s .blocks → getD (s .lens) n 0 ≡ 0 → there (imageNode n .now) ≡ 0
   unfolding nodeIn
   lens-none n l h =
-      none-there n (events (8 * s .blocks) (inOrder small (pagesOf small i))) (node-rules n l .0)
+      none-there n (events (8 * s .blocks) (inOrder g (pagesOf g i))) (node-rules n l .0)
       (omega (arith, node-stores n l .size, node-rules n l .1))
 
   image-view : (n : ℕ) → n < 8 * s .blocks → at (viewsOf (tab 0 (8 * s .blocks) imageNode)) n ≡ imageNode n .now
@@ -90,11 +90,11 @@ module _ (s : State) (i : List ℕ) (nodes : List Node) (k : Kept small (8 * s .
       ∙ ap (λ (ns : List Node). next (viewsOf ns)) (sym tables)
 
 -- ---- nothing is pending, the table holds the lists of the nodes that the image means, and those are a tree
-pub record Settled (s : State) (i : List ℕ) (nodes : List Node) : Type 0 where
-  pub chip : ChipOf (s .blocks) (length i)
+pub record Settled (g : Geometry) (s : State) (i : List ℕ) (nodes : List Node) : Type 0 where
+  pub chip : ChipOf g (s .blocks) (length i)
   pub bytes : (j : ℕ) → getD i j 0 < 256
-  pub means : Views.meaning small (8 * s .blocks) (pagesOf small i) ≡ Views.means nodes (s .commit)
-  pub clean : steps small (pagesOf small i) ≡ stand [] (ordered (liveFrom small 0 (pagesOf small i)))
+  pub means : Views.meaning g (8 * s .blocks) (pagesOf g i) ≡ Views.means nodes (s .commit)
+  pub clean : steps g (pagesOf g i) ≡ stand [] (ordered (liveFrom g 0 (pagesOf g i)))
   pub tree : step6 (viewsOf nodes) ≡ true
   pub lists : (n : ℕ) → n < 8 * s .blocks → Stores (s .lens) (s .slots) n (nodeAt nodes n .pages)
   pub next : s .next ≡ next (viewsOf nodes)
@@ -103,57 +103,57 @@ pub record Settled (s : State) (i : List ℕ) (nodes : List Node) : Type 0 where
   pub count : s .count ≡ 0
   pub past : (b : ℕ) → s .blocks ≤ b → getD (s .erases) b 0 ≡ 0
 
-module _ (s : State) (i : List ℕ) (nodes : List Node) (b : Settled s i nodes) where
+module _ (g : Geometry) (s : State) (i : List ℕ) (nodes : List Node) (b : Settled g s i nodes) where
   -- the image keeps its meaning
-  pub settled-kept : Kept small (8 * s .blocks) (pagesOf small i) nodes (s .commit)
+  pub settled-kept : Kept g (8 * s .blocks) (pagesOf g i) nodes (s .commit)
   settled-kept = record { is = b .means; clean = b .clean }
 
   -- the nodes of the table are those that the image means
-  pub settled-nodes : nodesOf small s i ≡ nodes
-  settled-nodes = held-nodes s i nodes settled-kept (b .lists)
+  pub settled-nodes : nodesOf g s i ≡ nodes
+  settled-nodes = held-nodes g s i nodes settled-kept (b .lists)
 
   -- an empty buffer changes no view
   none-buffered : (count : ℕ) → count ≡ 0 → (n : ℕ)
-      → nodeView small (8 * s .blocks) (pagesOf small i) (s .lens) (s .slots) count (s .buffer) n ≡ nodeFrom small s i n .now
+      → nodeView g (8 * s .blocks) (pagesOf g i) (s .lens) (s .slots) count (s .buffer) n ≡ nodeFrom g s i n .now
   unfolding bufferView
   none-buffered count e n = rw e
 
   -- K and P are their views
-  pub settled-present : presentOf small s i ≡ viewsOf nodes
+  pub settled-present : presentOf g s i ≡ viewsOf nodes
   unfolding presentOf shown nodesOf
   settled-present =
-      tab-same (nodeView small (8 * s .blocks) (pagesOf small i) (s .lens) (s .slots) (s .count) (s .buffer)) (λ n. nodeFrom small s i n .now) 0
+      tab-same (nodeView g (8 * s .blocks) (pagesOf g i) (s .lens) (s .slots) (s .count) (s .buffer)) (λ n. nodeFrom g s i n .now) 0
       (8 * s .blocks) (λ n l. none-buffered (s .count) (b .count) n)
-      ∙ sym (map-tab (λ (x : Node). x .now) (nodeFrom small s i) 0 (8 * s .blocks)) ∙ ap viewsOf settled-nodes
+      ∙ sym (map-tab (λ (x : Node). x .now) (nodeFrom g s i) 0 (8 * s .blocks)) ∙ ap viewsOf settled-nodes
 
-  pub settled-meaning : imageMeaning small i ≡ P.means (viewsOf nodes) (s .commit)
+  pub settled-meaning : imageMeaning g i ≡ P.means (viewsOf nodes) (s .commit)
   unfolding imageMeaning
   settled-meaning =
-      ap (λ (B : ℕ). bySix (Views.meaning small (8 * B) (pagesOf small i))) (sym (b .chip .blocks)) ∙ ap bySix (b .means) ∙ rw (b .tree)
+      ap (λ (B : ℕ). bySix (Views.meaning g (8 * B) (pagesOf g i))) (sym (b .chip .blocks)) ∙ ap bySix (b .means) ∙ rw (b .tree)
 
-  pub settled-state : P.stateOf (index small) s i
+  pub settled-state : P.stateOf (index g) s i
       ≡ record { kept = viewsOf nodes; present = viewsOf nodes; pending = 0; number = s .commit; on = s .on; blocks = s .blocks }
   unfolding P.stateOf
   settled-state = rw (settled-meaning, settled-present, b .pending)
 
   -- ---- P as the views of the image's nodes
   abbrev settledNode : ℕ → Node
-  settledNode n = nodeIn small (8 * s .blocks) (pagesOf small i) n
+  settledNode n = nodeIn g (8 * s .blocks) (pagesOf g i) n
 
-  present-is : presentOf small s i ≡ viewsOf (tab 0 (8 * s .blocks) settledNode)
-  present-is = settled-present ∙ ap viewsOf (tables s i nodes settled-kept (b .lists))
+  present-is : presentOf g s i ≡ viewsOf (tab 0 (8 * s .blocks) settledNode)
+  present-is = settled-present ∙ ap viewsOf (tables g s i nodes settled-kept (b .lists))
 
   -- every view of the image is fair
   node-fair : (n : ℕ) → n < 8 * s .blocks → Fair (settledNode n .now)
-  node-fair n l = fair-kept small (8 * s .blocks) (pagesOf small i) nodes (s .commit) settled-kept (image-bytes small i (b .bytes)) n l
+  node-fair n l = fair-kept g (8 * s .blocks) (pagesOf g i) nodes (s .commit) settled-kept (image-bytes g i (b .bytes)) n l
 
-  present-fair : (n : ℕ) → Fair (at (presentOf small s i) n)
+  present-fair : (n : ℕ) → Fair (at (presentOf g s i) n)
   present-fair n = rw present-is (views-at Fair nothing settledNode 0 (8 * s .blocks) (λ j l. node-fair j (omega arith)) n)
 
-  present-whole : all isWhole (presentOf small s i) ≡ true
+  present-whole : all isWhole (presentOf g s i) ≡ true
   present-whole =
       rw present-is
-      (views-all isWhole settledNode 0 (8 * s .blocks) (λ j l. node-rules s i nodes settled-kept (b .lists) j (omega arith) .0))
+      (views-all isWhole settledNode 0 (8 * s .blocks) (λ j l. node-rules g s i nodes settled-kept (b .lists) j (omega arith) .0))
 
   -- no unit
   units-none : unitsOf s ≡ []
@@ -164,9 +164,9 @@ module _ (s : State) (i : List ℕ) (nodes : List Node) (b : Settled s i nodes) 
       go count e = rw e
 
   short : (n : ℕ) → n < 8 * s .blocks → getD (s .lens) n 0 ≤ 4
-  short n l = omega (arith, node-stores s i nodes settled-kept (b .lists) n l .size, node-rules s i nodes settled-kept (b .lists) n l .1)
+  short n l = omega (arith, node-stores g s i nodes settled-kept (b .lists) n l .size, node-rules g s i nodes settled-kept (b .lists) n l .1)
 
-  pub settled-good : Good small s i
+  pub settled-good : Good g s i
   settled-good =
       let m = settled-meaning in
       record {
@@ -181,7 +181,7 @@ module _ (s : State) (i : List ℕ) (nodes : List Node) (b : Settled s i nodes) 
         few = rw (b .count) (omega arith);
         some = λ h. absurd (omega (arith, b .pending));
         pending = rw (b .pending) (omega arith);
-        tree = rw settled-present (image-tree small i (viewsOf nodes) (s .commit) settled-meaning .tree);
+        tree = rw settled-present (image-tree g i (viewsOf nodes) (s .commit) settled-meaning .tree);
         small = λ n. fair-entries (present-fair n);
         whole = present-whole;
         levels = fair-level (present-fair 0);
@@ -191,11 +191,11 @@ module _ (s : State) (i : List ℕ) (nodes : List Node) (b : Settled s i nodes) 
       }
 
 -- ---- the same with a next number counted from the lists: what a finished format and a finished mount give
-pub record Begun (s : State) (i : List ℕ) (nodes : List Node) : Type 0 where
-  pub chip : ChipOf (s .blocks) (length i)
+pub record Begun (g : Geometry) (s : State) (i : List ℕ) (nodes : List Node) : Type 0 where
+  pub chip : ChipOf g (s .blocks) (length i)
   pub bytes : (j : ℕ) → getD i j 0 < 256
-  pub means : Views.meaning small (8 * s .blocks) (pagesOf small i) ≡ Views.means nodes (s .commit)
-  pub clean : steps small (pagesOf small i) ≡ stand [] (ordered (liveFrom small 0 (pagesOf small i)))
+  pub means : Views.meaning g (8 * s .blocks) (pagesOf g i) ≡ Views.means nodes (s .commit)
+  pub clean : steps g (pagesOf g i) ≡ stand [] (ordered (liveFrom g 0 (pagesOf g i)))
   pub tree : step6 (viewsOf nodes) ≡ true
   pub lists : (n : ℕ) → n < 8 * s .blocks → Stores (s .lens) (s .slots) n (nodeAt nodes n .pages)
   pub next : NextOf (8 * s .blocks) (s .lens) (s .next)
@@ -203,11 +203,11 @@ pub record Begun (s : State) (i : List ℕ) (nodes : List Node) : Type 0 where
   pub count : s .count ≡ 0
   pub past : (b : ℕ) → s .blocks ≤ b → getD (s .erases) b 0 ≡ 0
 
-module _ (s : State) (i : List ℕ) (nodes : List Node) (b : Begun s i nodes) where
-  pub begun-kept : Kept small (8 * s .blocks) (pagesOf small i) nodes (s .commit)
+module _ (g : Geometry) (s : State) (i : List ℕ) (nodes : List Node) (b : Begun g s i nodes) where
+  pub begun-kept : Kept g (8 * s .blocks) (pagesOf g i) nodes (s .commit)
   begun-kept = record { is = b .means; clean = b .clean }
 
-  pub begun-settled : Settled s i nodes
+  pub begun-settled : Settled g s i nodes
   begun-settled =
       record {
         chip = b .chip;
@@ -216,19 +216,19 @@ module _ (s : State) (i : List ℕ) (nodes : List Node) (b : Begun s i nodes) wh
         clean = b .clean;
         tree = b .tree;
         lists = b .lists;
-        next = next-of s i nodes begun-kept (b .lists) (b .next);
+        next = next-of g s i nodes begun-kept (b .lists) (b .next);
         numbers = b .next .most;
         pending = b .pending;
         count = b .count;
         past = b .past;
       }
 
-  pub begun-meaning : imageMeaning small i ≡ P.means (viewsOf nodes) (s .commit)
-  begun-meaning = settled-meaning s i nodes begun-settled
+  pub begun-meaning : imageMeaning g i ≡ P.means (viewsOf nodes) (s .commit)
+  begun-meaning = settled-meaning g s i nodes begun-settled
 
-  pub begun-state : P.stateOf (index small) s i
+  pub begun-state : P.stateOf (index g) s i
       ≡ record { kept = viewsOf nodes; present = viewsOf nodes; pending = 0; number = s .commit; on = s .on; blocks = s .blocks }
-  begun-state = settled-state s i nodes begun-settled
+  begun-state = settled-state g s i nodes begun-settled
 
-  pub begun-good : Good small s i
-  begun-good = settled-good s i nodes begun-settled
+  pub begun-good : Good g s i
+  begun-good = settled-good g s i nodes begun-settled

@@ -14,7 +14,7 @@ use Rattle.lists.proofs.Alls.{All-head, All-left, All-right}
 use Rattle.lists.proofs.Ends.{End, nil, snoc, endOf}
 use Rattle.lists.proofs.Flats.{map-append, tab-same, tab-all, getD-tab}
 use Rattle.lists.proofs.Sorts.{All-sort}
-use Rattle.chip.specs.Geometry.{Geometry, small, blocksOf}
+use Rattle.chip.specs.Geometry.{Geometry, Fits, blocksOf, mostPages, pageSize}
 use Rattle.chip.specs.Page.{Page}
 use Rattle.chip.specs.Chip.{pagesOf}
 use Rattle.pages.specs.declared.standing.Standing.the-variants.{Refused, Stands}
@@ -40,37 +40,38 @@ use Rattle.log.proofs.MountLaws.{void-pages, void-scan}
 use Rattle.promise.specs.Calls.{invalid}
 use Rattle.promise.specs.Image.{viewsOf, bySix, imageMeaning}
 use Rattle.store.proofs.BegunViews.{map-tab}
+use Rattle.store.proofs.SizeLaws.{chip-pages}
 use Rattle.store.specs.declared.check.Judged.the-variants as J
 use Rattle.store.specs.AdmitCode.{ChipOf}
 use Rattle.store.specs.CheckCode.{isRead, isTree, Passed, JudgesKeys, commitAt, meansBy, Numbered, refusedBy, marksOf, Checks}
 
-module _ (image lens slots : List ℕ) (limit : ℕ) (few : limit ≤ 256) (v xs : List Live) (st : steps small (pagesOf small image) ≡ stand v xs)
+module _ (g : Geometry) (image lens slots : List ℕ) (limit : ℕ) (few : limit ≤ 256) (v xs : List Live) (st : steps g (pagesOf g image) ≡ stand v xs)
     (read : isRead limit xs ≡ true) (lists : (n : ℕ) → n < 256 → Stores lens slots n (nodeOf n (events limit xs) .pages)) where
   -- the view of a node from its stored list
-  view-at : (n : ℕ) → n < limit → listView small limit (pagesOf small image) n (storedList lens slots n) ≡ nodeOf n (events limit xs) .now
+  view-at : (n : ℕ) → n < limit → listView g limit (pagesOf g image) n (storedList lens slots n) ≡ nodeOf n (events limit xs) .now
   view-at n l =
       let es = events limit xs in
       let z : 0 + n ≡ n = omega arith in
       let w : isWell (nodeOf (0 + n) es) ≡ true = tab-all isWell (λ (m : ℕ). nodeOf m es) 0 limit n (and-right (all isSound es) (all isWell (table limit es)) read) l in
       let q : isWell (nodeOf n es) ≡ true = (rw z at w) in
-      ap (listView small limit (pagesOf small image) n) (lists n (omega arith) .pages (well-is (nodeOf n es) q .1))
-      ∙ sym (view-listed small limit (pagesOf small image) v xs st (and-left (all isSound es) (all isWell (table limit es)) read) n)
+      ap (listView g limit (pagesOf g image) n) (lists n (omega arith) .pages (well-is (nodeOf n es) q .1))
+      ∙ sym (view-listed g limit (pagesOf g image) v xs st (and-left (all isSound es) (all isWell (table limit es)) read) n)
 
   -- the table of the stored lists is that of the standing pages
-  pub views-listed : pagesTable image lens slots limit ≡ viewsOf (table limit (events limit xs))
+  pub views-listed : pagesTable g image lens slots limit ≡ viewsOf (table limit (events limit xs))
   unfolding shown bufferView
   views-listed =
-      tab-same (nodeView small limit (pagesOf small image) lens slots 0 []) (λ (n : ℕ). nodeOf n (events limit xs) .now) 0 limit (λ n l. view-at n (omega arith))
+      tab-same (nodeView g limit (pagesOf g image) lens slots 0 []) (λ (n : ℕ). nodeOf n (events limit xs) .now) 0 limit (λ n l. view-at n (omega arith))
       ∙ sym (map-tab (λ (s : Node). s .now) (λ (n : ℕ). nodeOf n (events limit xs)) 0 limit)
 
-module _ (image lens slots : List ℕ) (limit : ℕ) (few : limit ≤ 256) (v xs : List Live) (st : steps small (pagesOf small image) ≡ stand v xs)
+module _ (g : Geometry) (image lens slots : List ℕ) (limit : ℕ) (few : limit ≤ 256) (v xs : List Live) (st : steps g (pagesOf g image) ≡ stand v xs)
     (r : Bool) (t : ReadTable limit xs lens slots r) where
   pub judged-layout : r ≡ false → isRead limit xs ≡ false
   judged-layout e = sym (t .good) ∙ e
 
-  module _ (e : r ≡ true) (q : Bool) (k : q ≡ step6 (pagesTable image lens slots limit)) where
+  module _ (e : r ≡ true) (q : Bool) (k : q ≡ step6 (pagesTable g image lens slots limit)) where
     judged-same : q ≡ isTree limit xs
-    judged-same = k ∙ ap step6 (views-listed image lens slots limit few v xs st (sym (t .good) ∙ e) (t .lists e))
+    judged-same = k ∙ ap step6 (views-listed g image lens slots limit few v xs st (sym (t .good) ∙ e) (t .lists e))
 
     pub judged-shape : q ≡ false → (isRead limit xs ≡ true) × (isTree limit xs ≡ false)
     judged-shape h = (sym (t .good) ∙ e, sym judged-same ∙ h)
@@ -103,36 +104,36 @@ refused-number g ps n e d =
     (λ t. let l : refused 8 ≡ refused n = (rw t at k) in let q : 8 ≡ n = cc in sym q)
 
 -- such an image means the refusal
-pub refused-checks : (image lens slots : List ℕ) (n : ℕ) → steps small (pagesOf small image) ≡ refused n → Checks image lens slots (refusedBy n)
+pub refused-checks : (g : Geometry) (image lens slots : List ℕ) (n : ℕ) → steps g (pagesOf g image) ≡ refused n → Checks g image lens slots (refusedBy n)
 unfolding imageMeaning Views.meaning
-refused-checks image lens slots n e =
-    let limit = 8 * blocksOf small (length image) in
-    let m : imageMeaning small image ≡ invalid n = ap (λ (s : Stood). bySix (readStood limit s)) e in
+refused-checks g image lens slots n e =
+    let limit = 8 * blocksOf g (length image) in
+    let m : imageMeaning g image ≡ invalid n = ap (λ (s : Stood). bySix (readStood limit s)) e in
     cases (eqb n 7)
     (λ t. let q = eqb-true n 7 t in rw t (m ∙ ap invalid q))
-    (λ t. let q = refused-number small (pagesOf small image) n e (eqb-false n 7 t) in rw t (m ∙ ap invalid q))
+    (λ t. let q = refused-number g (pagesOf g image) n e (eqb-false n 7 t) in rw t (m ∙ ap invalid q))
 
 -- ---- the keys of the standing pages xs and of the void pages v behind them
 module _ (order : List ℕ) (first voids : ℕ) (v xs : List Live) (k : Shown (Stands first voids) order v xs) where
   voids-is : voids ≡ length v
   voids-is = let e = k .answer in cc
 
-  first-is : first + (length xs + length v) ≡ 1024
+  first-is : first + (length xs + length v) ≡ mostPages
   first-is =
-      let e : Stands first voids ≡ Stands (1024 - length (xs ++ v)) (length v) = k .answer in
-      let q : first ≡ 1024 - length (xs ++ v) = cc in
+      let e : Stands first voids ≡ Stands (mostPages - length (xs ++ v)) (length v) = k .answer in
+      let q : first ≡ mostPages - length (xs ++ v) = cc in
       omega (arith, length-append xs v, k .few)
 
   keys-from : drop first order ≡ map keyOf (xs ++ v)
   keys-from =
-      let e : Stands first voids ≡ Stands (1024 - length (xs ++ v)) (length v) = k .answer in
-      let q : first ≡ 1024 - length (xs ++ v) = cc in
+      let e : Stands first voids ≡ Stands (mostPages - length (xs ++ v)) (length v) = k .answer in
+      let q : first ≡ mostPages - length (xs ++ v) = cc in
       rw q (k .keys)
 
   -- where the keys of the standing pages stand
-  pub keys-part : part first (1024 - voids - first) order ≡ map keyOf xs
+  pub keys-part : part first (mostPages - voids - first) order ≡ map keyOf xs
   keys-part =
-      let n : 1024 - voids - first ≡ length xs = omega (arith, voids-is, first-is) in
+      let n : mostPages - voids - first ≡ length xs = omega (arith, voids-is, first-is) in
       rw (n, keys-from, map-append keyOf xs v) (take-at (map keyOf xs) (map keyOf v) (length xs) (length-map xs keyOf))
 
   -- the key of a page
@@ -143,24 +144,24 @@ module _ (order : List ℕ) (first voids : ℕ) (v xs : List Live) (k : Shown (S
       ∙ ap (λ (l : List ℕ). getD l (length a) 0) (keys-from ∙ ap (map keyOf) e ∙ map-append keyOf a (y ∷ b))
       ∙ getD-at (map keyOf a) (keyOf y) (map keyOf b) 0 (length a) (length-map a keyOf)
 
-module _ (image order : List ℕ) (first voids : ℕ) (bytes : (i : ℕ) → getD image i 0 < 256) (size : length image / 528 ≤ 1024)
-    (v xs : List Live) (st : steps small (pagesOf small image) ≡ stand v xs) (k : Shown (Stands first voids) order v xs) where
+module _ (g : Geometry) (image order : List ℕ) (first voids : ℕ) (bytes : (i : ℕ) → getD image i 0 < 256) (size : length image / pageSize g ≤ mostPages)
+    (v xs : List Live) (st : steps g (pagesOf g image) ≡ stand v xs) (k : Shown (Stands first voids) order v xs) where
   abbrev ps : List Page
-  ps = pagesOf small image
+  ps = pagesOf g image
 
-  parts : Found small ps v xs
-  parts = found small ps v xs st
+  parts : Found g ps v xs
+  parts = found g ps v xs st
 
   bounds : All Bounded ((parts .s ++ (parts .z ∷ [])) ++ v)
   bounds =
-      let b : All Bounded (inOrder small ps) = All-sort _ (image-bounded image 0 bytes size (omega arith)) in
+      let b : All Bounded (inOrder g ps) = All-sort _ (image-bounded g image 0 bytes size (omega arith)) in
       rw (parts .order) at b
 
   some : length xs ≡ length (parts .s) + 1
   some = ap length (parts .ends) ∙ length-append (parts .s) (parts .z ∷ [])
 
   -- how many keys there are
-  pub room : (first + voids < 1024) × (first ≤ 1024 - voids) × (voids < 1024)
+  pub room : (first + voids < mostPages) × (first ≤ mostPages - voids) × (voids < mostPages)
   room =
       let a = voids-is order first voids v xs k in
       let b = first-is order first voids v xs k in
@@ -175,17 +176,17 @@ module _ (image order : List ℕ) (first voids : ℕ) (bytes : (i : ℕ) → get
   last-bound : Bounded (parts .z)
   last-bound = All-head (All-right (parts .s) (parts .z ∷ []) (All-left (parts .s ++ (parts .z ∷ [])) v bounds))
 
-  last-number : commitAt order (1023 - voids) ≡ commit (parts .z)
+  last-number : commitAt order (mostPages - 1 - voids) ≡ commit (parts .z)
   last-number =
       let a = voids-is order first voids v xs k in
       let b = first-is order first voids v xs k in
       let c = some in
       let e : xs ++ v ≡ parts .s ++ parts .z ∷ v = ap (λ (l : List Live). l ++ v) (parts .ends) ∙ append-assoc (parts .s) (parts .z ∷ []) v in
-      ap (λ (n : ℕ). n / 67108864) (key-at order first voids v xs k (parts .s) (parts .z) v (1023 - voids) e (omega arith))
+      ap (λ (n : ℕ). n / (256 * (256 * mostPages))) (key-at order first voids v xs k (parts .s) (parts .z) v (mostPages - 1 - voids) e (omega arith))
       ∙ key-commit last-bound
 
   -- the last void page
-  void-number : (t : List Live) (y : Live) → v ≡ t ++ (y ∷ []) → (commitAt order 1023 ≡ parts .c) × (commitAt order 1023 < 4294967296)
+  void-number : (t : List Live) (y : Live) → v ≡ t ++ (y ∷ []) → (commitAt order (mostPages - 1) ≡ parts .c) × (commitAt order (mostPages - 1) < 4294967296)
   void-number t y e =
       let a = voids-is order first voids v xs k in
       let b = first-is order first voids v xs k in
@@ -197,27 +198,27 @@ module _ (image order : List ℕ) (first voids : ℕ) (bytes : (i : ℕ) → get
       let s : All (λ (x : Live). (commit x ≡ parts .c) × (count x ≡ parts .n)) (t ++ (y ∷ [])) =
       subst (λ (w : List Live). All (λ (x : Live). (commit x ≡ parts .c) × (count x ≡ parts .n)) w) e (parts .voided .same) in
       let c : commit y ≡ parts .c = All-head (All-right t (y ∷ []) s) .0 in
-      let n : commitAt order 1023 ≡ commit y =
-      ap (λ (n : ℕ). n / 67108864) (key-at order first voids v xs k (xs ++ t) y [] 1023 q (omega arith)) ∙ key-commit by in
+      let n : commitAt order (mostPages - 1) ≡ commit y =
+      ap (λ (n : ℕ). n / (256 * (256 * mostPages))) (key-at order first voids v xs k (xs ++ t) y [] (mostPages - 1) q (omega arith)) ∙ key-commit by in
       (n ∙ c, rw n (number-small y by))
 
   -- both numbers have 32 bits
   pub numbered : Numbered order voids
   numbered = by (endOf v) refl
     where
-      last : commitAt order (1023 - voids) < 4294967296
+      last : commitAt order (mostPages - 1 - voids) < 4294967296
       last = rw last-number (number-small (parts .z) last-bound)
 
       by : {w : List Live} → End w → w ≡ v → Numbered order voids
       by nil e =
           let a = voids-is order first voids v xs k in
           let l : length v ≡ 0 = ap length (sym e) in
-          let q : 1023 - voids ≡ 1023 = omega arith in
+          let q : mostPages - 1 - voids ≡ mostPages - 1 = omega arith in
           record { few = room .2; last = last; end = rw (← q) last }
       by (snoc t y) e = record { few = room .2; last = last; end = void-number t y (sym e) .1 }
 
   -- what steps 4 and 5 make of it
-  meaning-is : (limit : ℕ) → Views.meaning small limit ps ≡ read limit xs (commit (parts .z))
+  meaning-is : (limit : ℕ) → Views.meaning g limit ps ≡ read limit xs (commit (parts .z))
   unfolding Views.meaning
   meaning-is limit =
       ap (readStood limit) st
@@ -225,38 +226,38 @@ module _ (image order : List ℕ) (first voids : ℕ) (bytes : (i : ℕ) → get
       ∙ stood limit v (parts .s) (parts .z)
       ∙ ap (λ (l : List Live). read limit l (commit (parts .z))) (sym (parts .ends))
 
-  meaning-read : (limit : ℕ) → isRead limit xs ≡ true → Views.meaning small limit ps ≡ Views.means (table limit (events limit xs)) (commit (parts .z))
+  meaning-read : (limit : ℕ) → isRead limit xs ≡ true → Views.meaning g limit ps ≡ Views.means (table limit (events limit xs)) (commit (parts .z))
   meaning-read limit e = meaning-is limit ∙ ap (λ (b : Bool). cond b (Views.means (table limit (events limit xs)) (commit (parts .z))) (Views.refusal 8)) e
 
   -- the marks of a mount, by the number of the void pages
-  marks-by : {w : List Live} → End w → w ≡ v → mountOps small ps ≡ marksOf (cond (eqb voids 0) 0 (commitAt order 1023)) ps
+  marks-by : {w : List Live} → End w → w ≡ v → mountOps g ps ≡ marksOf g (cond (eqb voids 0) 0 (commitAt order (mostPages - 1))) ps
   marks-by nil e =
       let a = voids-is order first voids v xs k in
       let l : length v ≡ 0 = ap length (sym e) in
       let t : eqb voids 0 ≡ true = eq-eqb voids 0 (omega arith) in
-      rw t (ap (map retire) (void-pages small ps v xs st ∙ ap (sort lowerPlace) (sym e)))
+      rw t (ap (map retire) (void-pages g ps v xs st ∙ ap (sort lowerPlace) (sym e)))
   marks-by (snoc s y) e =
       let a = voids-is order first voids v xs k in
       let l : length v ≡ length s + 1 = ap length (sym e) ∙ length-append s (y ∷ []) in
       let t : eqb voids 0 ≡ false = ne-eqb voids 0 (λ q. omega arith) in
       let n = void-number s y (sym e) .0 in
       let d : eqb (parts .c) 0 ≡ false = ne-eqb (parts .c) 0 (λ q. omega (arith, parts .voided .above)) in
-      rw (t, n, d) (ap (map retire) (void-scan small ps v xs st (parts .c) (parts .newest)))
+      rw (t, n, d) (ap (map retire) (void-scan g ps v xs st (parts .c) (parts .newest)))
 
-  module _ (limit : ℕ) (is : limit ≡ 8 * blocksOf small (length image)) (few : limit ≤ 256) (lens slots : List ℕ) where
-    pub layout-checks : isRead limit xs ≡ false → imageMeaning small image ≡ invalid 8
+  module _ (limit : ℕ) (is : limit ≡ 8 * blocksOf g (length image)) (few : limit ≤ 256) (lens slots : List ℕ) where
+    pub layout-checks : isRead limit xs ≡ false → imageMeaning g image ≡ invalid 8
     unfolding imageMeaning
     layout-checks e =
-        ap (λ (n : ℕ). bySix (Views.meaning small n ps)) (sym is)
+        ap (λ (n : ℕ). bySix (Views.meaning g n ps)) (sym is)
         ∙ ap bySix (meaning-is limit ∙ ap (λ (b : Bool). cond b (Views.means (table limit (events limit xs)) (commit (parts .z))) (Views.refusal 8)) e)
 
-    pub shape-checks : (isRead limit xs ≡ true) × (isTree limit xs ≡ false) → imageMeaning small image ≡ invalid 9
+    pub shape-checks : (isRead limit xs ≡ true) × (isTree limit xs ≡ false) → imageMeaning g image ≡ invalid 9
     unfolding imageMeaning
     shape-checks h =
         let e = h .1 in
-        ap (λ (n : ℕ). bySix (Views.meaning small n ps)) (sym is) ∙ ap bySix (meaning-read limit (h .0)) ∙ rw e
+        ap (λ (n : ℕ). bySix (Views.meaning g n ps)) (sym is) ∙ ap bySix (meaning-read limit (h .0)) ∙ rw e
 
-    pub tree-checks : Passed limit xs lens slots → Checks image lens slots (meansBy order voids)
+    pub tree-checks : Passed limit xs lens slots → Checks g image lens slots (meansBy order voids)
     tree-checks p =
         record {
           nodes = table limit (events limit xs);
@@ -287,32 +288,32 @@ pub says-stands : (q : Stood) (order : List ℕ) (first voids : ℕ) → Says (S
 says-stands (refused m) order first voids e = let u : _≡_ {A = ℕ} 0 1 = cc in absurd (omega arith)
 says-stands (stand v s) order first voids k = record { v = v; xs = s; is = refl; keys = k }
 
-module _ (image order : List ℕ) (first voids blocks : ℕ) (chip : ChipOf blocks (length image)) (bytes : (i : ℕ) → getD image i 0 < 256)
-    (t : StandsBy (steps small (pagesOf small image)) order first voids) where
-  pages-few : length image / 528 ≤ 1024
-  pages-few = omega (arith, chip .size, chip .most)
+module _ (g : Geometry) (fit : Fits g) (image order : List ℕ) (first voids blocks : ℕ) (chip : ChipOf g blocks (length image)) (bytes : (i : ℕ) → getD image i 0 < 256)
+    (t : StandsBy (steps g (pagesOf g image)) order first voids) where
+  pages-few : length image / pageSize g ≤ mostPages
+  pages-few = chip-pages g fit blocks (length image) chip
 
   nodes-few : 8 * blocks ≤ 256
   nodes-few = omega (arith, chip .most)
 
-  pub stands-room : (first + voids < 1024) × (first ≤ 1024 - voids) × (voids < 1024)
-  stands-room = room image order first voids bytes pages-few (t .v) (t .xs) (t .is) (t .keys)
+  pub stands-room : (first + voids < mostPages) × (first ≤ mostPages - voids) × (voids < mostPages)
+  stands-room = room g image order first voids bytes pages-few (t .v) (t .xs) (t .is) (t .keys)
 
   pub stands-numbered : Numbered order voids
-  stands-numbered = numbered image order first voids bytes pages-few (t .v) (t .xs) (t .is) (t .keys)
+  stands-numbered = numbered g image order first voids bytes pages-few (t .v) (t .xs) (t .is) (t .keys)
 
   module _ (lens slots : List ℕ) where
-    pub stands-layout : JudgesKeys image (part first (1024 - voids - first) order) (8 * blocks) lens slots J.Layout → imageMeaning small image ≡ invalid 8
+    pub stands-layout : JudgesKeys g image (part first (mostPages - voids - first) order) (8 * blocks) lens slots J.Layout → imageMeaning g image ≡ invalid 8
     stands-layout j =
-        layout-checks image order first voids bytes pages-few (t .v) (t .xs) (t .is) (t .keys) (8 * blocks) (ap (λ (b : ℕ). 8 * b) (chip .blocks)) nodes-few lens slots
+        layout-checks g image order first voids bytes pages-few (t .v) (t .xs) (t .is) (t .keys) (8 * blocks) (ap (λ (b : ℕ). 8 * b) (chip .blocks)) nodes-few lens slots
         (j (t .v) (t .xs) (t .is) (keys-part order first voids (t .v) (t .xs) (t .keys)))
 
-    pub stands-shape : JudgesKeys image (part first (1024 - voids - first) order) (8 * blocks) lens slots J.Shape → imageMeaning small image ≡ invalid 9
+    pub stands-shape : JudgesKeys g image (part first (mostPages - voids - first) order) (8 * blocks) lens slots J.Shape → imageMeaning g image ≡ invalid 9
     stands-shape j =
-        shape-checks image order first voids bytes pages-few (t .v) (t .xs) (t .is) (t .keys) (8 * blocks) (ap (λ (b : ℕ). 8 * b) (chip .blocks)) nodes-few lens slots
+        shape-checks g image order first voids bytes pages-few (t .v) (t .xs) (t .is) (t .keys) (8 * blocks) (ap (λ (b : ℕ). 8 * b) (chip .blocks)) nodes-few lens slots
         (j (t .v) (t .xs) (t .is) (keys-part order first voids (t .v) (t .xs) (t .keys)))
 
-    pub stands-tree : JudgesKeys image (part first (1024 - voids - first) order) (8 * blocks) lens slots J.Tree → Checks image lens slots (meansBy order voids)
+    pub stands-tree : JudgesKeys g image (part first (mostPages - voids - first) order) (8 * blocks) lens slots J.Tree → Checks g image lens slots (meansBy order voids)
     stands-tree j =
-        tree-checks image order first voids bytes pages-few (t .v) (t .xs) (t .is) (t .keys) (8 * blocks) (ap (λ (b : ℕ). 8 * b) (chip .blocks)) nodes-few lens slots
+        tree-checks g image order first voids bytes pages-few (t .v) (t .xs) (t .is) (t .keys) (8 * blocks) (ap (λ (b : ℕ). 8 * b) (chip .blocks)) nodes-few lens slots
         (j (t .v) (t .xs) (t .is) (keys-part order first voids (t .v) (t .xs) (t .keys)))

@@ -12,7 +12,7 @@ use Rattle.lists.specs.Lists.{count}
 use Rattle.lists.proofs.Tests.{clash}
 use Rattle.chip.specs.declared.power.Power.the-variants.{Left}
 use Rattle.chip.specs.declared.progress.Progress.{Progress}
-use Rattle.chip.specs.Geometry.{small}
+use Rattle.chip.specs.Geometry.{Geometry, Fits, pageSize}
 use Rattle.chip.specs.Power.{isGone, takesEffect}
 use Rattle.chip.specs.Counts.{countsOf, nothing, total}
 use Rattle.chip.specs.Chip.{Legal, Machine, kindOf, kindsOf, pagesOf, run}
@@ -26,7 +26,7 @@ use Rattle.views.specs.Stored.{Stores}
 use Rattle.views.specs.Groups.{Distinct}
 use Rattle.log.specs.Commit.{groupsOf}
 use Rattle.log.specs.Plan.{Plan, newsOf, nodeAt, opsOf, stuck, isEmpty}
-use Rattle.log.proofs.PlanKept.{few-small}
+use Rattle.log.proofs.PlanKept.{few-ops}
 use Rattle.log.proofs.EraseLaws.{commit-erases, erased-most}
 use Rattle.promise.specs.Plain.{Answer, refuses, accepted, Call, commits, firstRefusal, numbersRefusal}
 use Rattle.promise.specs.Plain as Plain
@@ -68,15 +68,15 @@ none-told n = ap countsOf (sym (wholes-none (Left n)))
 all-done : (t n m : ℕ) → m ≤ n → takesEffect t n m ≡ true
 all-done t n m h = rw (le-leb m n h)
 
-module _ (n : ℕ) (torn : List ℕ) (s : State) (i : List ℕ) where
+module _ (g : Geometry) (n : ℕ) (torn : List ℕ) (s : State) (i : List ℕ) where
   abbrev call : Call
   call = commits n (length i) (length torn)
 
-  still : P.Same (index small) s i s i
+  still : P.Same (index g) s i s i
   still = record { state = refl; image = refl }
 
   -- ---- nothing is begun: what a commit says that its tests end
-  not-begun : (a : A.Answer) → EndedBy call s i a → (answerOf a ≡ refuses 10 → ⊥) → Commits n torn s i (record { answer = a; ops = nothing; state = s }) i
+  not-begun : (a : A.Answer) → EndedBy g call s i a → (answerOf a ≡ refuses 10 → ⊥) → Commits g n torn s i (record { answer = a; ops = nothing; state = s }) i
   not-begun a d t =
       record {
         says = record {
@@ -85,7 +85,7 @@ module _ (n : ℕ) (torn : List ℕ) (s : State) (i : List ℕ) where
           quiet = λ m e t. (refl, still);
           last = d .last;
           idle = λ p q. (d .idle p q, refl, still);
-          none = λ h. ap length (ops-none s i h);
+          none = λ h. ap length (ops-none g s i h);
           bound = omega arith;
           stuck = λ c. absurd (d .never c);
           able = λ c. absurd (d .never (c .proceeds));
@@ -110,31 +110,31 @@ module _ (n : ℕ) (torn : List ℕ) (s : State) (i : List ℕ) where
       }
 
   -- refused by 2, 1 or 6
-  commit-refused : (a : A.Answer) → answerOf a ≡ answerFor (commitTests small (s .on) (s .blocks) (s .pending) (s .commit) (length i) (length torn))
-      → 0 < commitTests small (s .on) (s .blocks) (s .pending) (s .commit) (length i) (length torn) → Commits n torn s i (record { answer = a; ops = nothing; state = s }) i
+  commit-refused : (a : A.Answer) → answerOf a ≡ answerFor (commitTests g (s .on) (s .blocks) (s .pending) (s .commit) (length i) (length torn))
+      → 0 < commitTests g (s .on) (s .blocks) (s .pending) (s .commit) (length i) (length torn) → Commits g n torn s i (record { answer = a; ops = nothing; state = s }) i
   commit-refused a e h =
-      let d = ended-refused call s i (first-most small (commit n torn) (length i) (s .on) (s .blocks)) refl a e h in
+      let d = ended-refused g call s i (first-most g (commit n torn) (length i) (s .on) (s .blocks)) refl a e h in
       not-begun a (d .0) (d .1)
 
   -- ---- they pass
-  module _ (passes : firstRefusal small (s .on) (s .blocks) call ≡ 0) where
+  module _ (passes : firstRefusal g (s .on) (s .blocks) call ≡ 0) where
     tests : (a : Answer) (s' : State) (i' : List ℕ) → (a ≡ refuses 1 → ⊥) → (a ≡ refuses 2 → ⊥) → length i' ≡ length i
-        → FirstTests small (index small) call s i a s' i'
+        → FirstTests g (index g) call s i a s' i'
     tests a s' i' h k z = record { refused = λ m e. absurd (omega arith); not1 = λ p. h; not2 = λ p. k; sameSize = z }
 
     -- nothing is pending
-    commit-idle : s .pending ≡ 0 → Commits n torn s i (record { answer = Accepted; ops = nothing; state = s }) i
-    commit-idle h = not-begun Accepted (ended-idle call s i refl passes h) (λ e. not-refused 10 e)
+    commit-idle : s .pending ≡ 0 → Commits g n torn s i (record { answer = Accepted; ops = nothing; state = s }) i
+    commit-idle h = not-begun Accepted (ended-idle g call s i refl passes h) (λ e. not-refused 10 e)
 
     -- ---- with updates pending and a number left, the plan is to do nothing: refused with 6
-    module _ (pending : 0 < s .pending) (number : s .commit < 4294967295) (is-stuck : thePlan s i ≡ stuck) (no-room : Good small s i → Room small i → ⊥) where
-      no-plan : {Q : Type 0} → not (isEmpty (thePlan s i .written)) ≡ true → Q
+    module _ (pending : 0 < s .pending) (number : s .commit < 4294967295) (is-stuck : thePlan g s i ≡ stuck) (no-room : Good g s i → Room g i → ⊥) where
+      no-plan : {Q : Type 0} → not (isEmpty (thePlan g s i .written)) ≡ true → Q
       no-plan b = clash b (ap (λ (q : Plan). not (isEmpty (q .written))) is-stuck)
 
-      no-ops : theOps s i ≡ []
-      no-ops = ap (opsOf small (s .commit)) is-stuck
+      no-ops : theOps g s i ≡ []
+      no-ops = ap (opsOf g (s .commit)) is-stuck
 
-      nothing-done : Commits n torn s i (record { answer = Last; ops = nothing; state = s }) i
+      nothing-done : Commits g n torn s i (record { answer = Last; ops = nothing; state = s }) i
       nothing-done =
           record {
             says = record {
@@ -143,7 +143,7 @@ module _ (n : ℕ) (torn : List ℕ) (s : State) (i : List ℕ) where
               quiet = λ m e t. (refl, still);
               last = λ p m e. absurd (omega (arith, later-low (s .pending) (s .commit) pending number));
               idle = λ p q. absurd (omega arith);
-              none = λ q. ap length (ops-none s i q);
+              none = λ q. ap length (ops-none g s i q);
               bound = omega arith;
               stuck = λ c b. refl;
               able = λ c r. absurd (no-room (c .good) r);
@@ -160,114 +160,114 @@ module _ (n : ℕ) (torn : List ℕ) (s : State) (i : List ℕ) where
             };
             kinds = λ c. none-told n ∙ ap (toldOf n) (sym no-ops);
             bytes = λ c.
-                sym (ap (λ os. run small torn (record { power = Left n; pages = pagesOf small i }) os .pages) no-ops
-                ∙ ap (λ (m : Machine). m .pages) (run-parts small torn n (pagesOf small i) []));
+                sym (ap (λ os. run g torn (record { power = Left n; pages = pagesOf g i }) os .pages) no-ops
+                ∙ ap (λ (m : Machine). m .pages) (run-parts g torn n (pagesOf g i) []));
             figures = λ c a. not-refused 6 (sym a);
-            legal = λ c. subst (λ (q : Plan). Legal small (pagesOf small i) (opsOf small (s .commit) q)) (sym is-stuck) tt;
+            legal = λ c. subst (λ (q : Plan). Legal g (pagesOf g i) (opsOf g (s .commit) q)) (sym is-stuck) tt;
             once = λ c. subst (λ (q : Plan). Distinct (groupsOf (q .written))) (sym is-stuck) tt;
             off = λ e. other 6 10 (λ u. omega arith) e;
             bounds = record { blocks = refl; units = omega arith };
           }
 
     -- more units than the buffer holds
-    commit-full : 0 < s .pending → s .commit < 4294967295 → 960 < s .count → Commits n torn s i (record { answer = Last; ops = nothing; state = s }) i
-    commit-full h low many = nothing-done h low (plan-none s i many) (λ g r. omega (arith, good-few s i g))
+    commit-full : 0 < s .pending → s .commit < 4294967295 → 960 < s .count → Commits g n torn s i (record { answer = Last; ops = nothing; state = s }) i
+    commit-full h low many = nothing-done h low (plan-none g s i many) (λ ok r. omega (arith, good-few g s i ok))
 
     -- ---- the plan is executed
-    module _ (pending : 0 < s .pending) (number : s .commit < 4294967295) (size : length torn ≡ 528) (fits : s .count ≤ 960) (slots : length (s .slots) ≡ 1024)
+    module _ (fit : Fits g) (pending : 0 < s .pending) (number : s .commit < 4294967295) (size : length torn ≡ pageSize g) (fits : s .count ≤ 960) (slots : length (s .slots) ≡ 1024)
         (figured : length (s .erases) ≡ 32) (bytes : (j : ℕ) → getD i j 0 < 256) (i' lens' slots' erases' : List ℕ) (e : Ended)
         (low : n < 2 ^ 32) (p : Progress) (from : p ≡ atStart n)
-        (begins : Executes (8 * s .blocks) (s .blocks) (s .lens) (s .slots) (s .count) (s .buffer) (s .commit) torn p i i' (s .lens) (s .slots) lens' slots' (s .erases) erases' e) where
-      x : Executes (8 * s .blocks) (s .blocks) (s .lens) (s .slots) (s .count) (s .buffer) (s .commit) torn (atStart n) i i' (s .lens) (s .slots) lens' slots' (s .erases) erases' e
+        (begins : Executes g (8 * s .blocks) (s .blocks) (s .lens) (s .slots) (s .count) (s .buffer) (s .commit) torn p i i' (s .lens) (s .slots) lens' slots' (s .erases) erases' e) where
+      x : Executes g (8 * s .blocks) (s .blocks) (s .lens) (s .slots) (s .count) (s .buffer) (s .commit) torn (atStart n) i i' (s .lens) (s .slots) lens' slots' (s .erases) erases' e
       x =
-          subst (λ (q : Progress). Executes (8 * s .blocks) (s .blocks) (s .lens) (s .slots) (s .count) (s .buffer) (s .commit) torn q i i' (s .lens) (s .slots) lens' slots' (s .erases) erases' e) from begins
+          subst (λ (q : Progress). Executes g (8 * s .blocks) (s .blocks) (s .lens) (s .slots) (s .count) (s .buffer) (s .commit) torn q i i' (s .lens) (s .slots) lens' slots' (s .erases) erases' e) from begins
 
       later-none : numbersRefusal (s .pending) (s .commit) call ≡ 0
       later-none = later-low (s .pending) (s .commit) pending number
 
       -- the commit is stuck exactly where its plan has no page
-      by-pages : e .stuck ≡ isEmpty (thePlan s i .written)
-      by-pages = x .stuck ∙ sym (ap (λ (q : Plan). isEmpty (q .written)) (plan-is s i fits) ∙ paged-empty (read s i))
+      by-pages : e .stuck ≡ isEmpty (thePlan g s i .written)
+      by-pages = x .stuck ∙ sym (ap (λ (q : Plan). isEmpty (q .written)) (plan-is g s i fits) ∙ paged-empty (read g s i))
 
       -- ---- no room: nothing was done
-      pub commit-stuck : e .stuck ≡ true → Commits n torn s i (record { answer = Last; ops = nothing; state = s }) i'
+      pub commit-stuck : e .stuck ≡ true → Commits g n torn s i (record { answer = Last; ops = nothing; state = s }) i'
       commit-stuck st =
-          subst (λ (j : List ℕ). Commits n torn s i (record { answer = Last; ops = nothing; state = s }) j) (sym (x .still st))
-          (nothing-done pending number (plan-is s i fits ∙ paged-none (read s i) (sym (x .stuck) ∙ st))
-          (λ g r. clash (sym by-pages ∙ st) (roomy-page torn size s i g bytes pending number r)))
+          subst (λ (j : List ℕ). Commits g n torn s i (record { answer = Last; ops = nothing; state = s }) j) (sym (x .still st))
+          (nothing-done pending number (plan-is g s i fits ∙ paged-none (read g s i) (sym (x .stuck) ∙ st))
+          (λ ok r. clash (sym by-pages ∙ st) (roomy-page g fit torn size s i ok bytes pending number r)))
 
       -- ---- the plan has pages
       module _ (st : e .stuck ≡ false) where
-        read-is : read s i ≡ thePlan s i
-        read-is = sym (plan-is s i fits ∙ paged-some (read s i) (sym (x .stuck) ∙ st))
+        read-is : read g s i ≡ thePlan g s i
+        read-is = sym (plan-is g s i fits ∙ paged-some (read g s i) (sym (x .stuck) ∙ st))
 
         -- on any state: the operations of the plan, as far as the power goes
-        ran : Ran small torn (theOps s i) (atStart n) (e .reached) i i'
-        ran = subst (λ (q : Plan). Ran small torn (opsOf small (s .commit) q) (atStart n) (e .reached) i i') read-is (x .ran st)
+        ran : Ran g torn (theOps g s i) (atStart n) (e .reached) i i'
+        ran = subst (λ (q : Plan). Ran g torn (opsOf g (s .commit) q) (atStart n) (e .reached) i i') read-is (x .ran st)
 
-        grown : erases' ≡ figuresAfter (theOps s i) (s .erases)
-        grown = x .figures st ∙ ap (λ (q : Plan). figuresAfter (opsOf small (s .commit) q) (s .erases)) read-is
+        grown : erases' ≡ figuresAfter (theOps g s i) (s .erases)
+        grown = x .figures st ∙ ap (λ (q : Plan). figuresAfter (opsOf g (s .commit) q) (s .erases)) read-is
 
-        by-plan : Good small s i → Executed (limitOf s) (s .commit) (nodesOf small s i) (thePlan s i) torn (atStart n) i i' lens' slots' (s .erases) erases' (e .reached)
-        by-plan g =
+        by-plan : Good g s i → Executed g (limitOf s) (s .commit) (nodesOf g s i) (thePlan g s i) torn (atStart n) i i' lens' slots' (s .erases) erases' (e .reached)
+        by-plan ok =
             record {
               ran = ran;
               lists = λ k l.
-                  subst (λ (q : Plan). Stores lens' slots' k (foldl (turn k) (nodeAt (nodesOf small s i) k) (events (limitOf s) (newsOf small (s .commit) q)) .pages)) read-is
-                  (x .lists (nodesOf small s i) (unitsOf s) (good-plannable s i g bytes slots pending number) refl refl st k l);
+                  subst (λ (q : Plan). Stores lens' slots' k (foldl (turn k) (nodeAt (nodesOf g s i) k) (events (limitOf s) (newsOf g (s .commit) q)) .pages)) read-is
+                  (x .lists (nodesOf g s i) (unitsOf s) (good-plannable g s i ok fit bytes slots pending number) refl refl st k l);
               figures = grown;
             }
 
-        run-is : pagesOf small i' ≡ run small torn (record { power = Left n; pages = pagesOf small i }) (theOps s i) .pages
+        run-is : pagesOf g i' ≡ run g torn (record { power = Left n; pages = pagesOf g i }) (theOps g s i) .pages
         run-is = ap (λ (m : Machine). m .pages) (ran .is)
 
-        has-plan : not (isEmpty (thePlan s i .written)) ≡ true
+        has-plan : not (isEmpty (thePlan g s i .written)) ≡ true
         has-plan = ap not (sym by-pages ∙ st)
 
-        not-stuck : {Q : Type 0} → thePlan s i ≡ stuck → Q
+        not-stuck : {Q : Type 0} → thePlan g s i ≡ stuck → Q
         not-stuck q = clash has-plan (ap (λ (p : Plan). not (isEmpty (p .written))) q)
 
-        secure : (g : Good small s i) → Secure torn s i
-        secure g = ⊎-elim (λ q. not-stuck q) (λ sf. sf) (stuck-or-safe torn size s i g bytes pending number)
+        secure : (ok : Good g s i) → Secure g torn s i
+        secure ok = ⊎-elim (λ q. not-stuck q) (λ sf. sf) (stuck-or-safe g fit torn size s i ok bytes pending number)
 
-        need : length (State.commitOps small s i) ≡ length (theOps s i)
-        need = ap length (ops-some s i pending)
+        need : length (State.commitOps g s i) ≡ length (theOps g s i)
+        need = ap length (ops-some g s i pending)
 
-        most : Good small s i → length (State.commitOps small s i) ≤ 389
-        most g = rw need (few-small (s .blocks) (length (theOps s i)) (good-chip s i g .most) (secure g .few))
+        most : Good g s i → length (State.commitOps g s i) ≤ 389
+        most ok = rw need (few-ops g fit (s .blocks) (length (theOps g s i)) (good-chip g s i ok .most) (secure ok .few))
 
-        gone : isGone (e .reached .left) ≡ ltb n (length (theOps s i))
-        gone = ap (λ (m : Machine). isGone (m .power)) (ran .is) ∙ run-gone small torn n (pagesOf small i) (theOps s i)
+        gone : isGone (e .reached .left) ≡ ltb n (length (theOps g s i))
+        gone = ap (λ (m : Machine). isGone (m .power)) (ran .is) ∙ run-gone g torn n (pagesOf g i) (theOps g s i)
 
-        kinds-are : e .reached .done ≡ toldOf n (theOps s i)
-        kinds-are = ran-told small torn n (theOps s i) (e .reached) i i' low ran
+        kinds-are : e .reached .done ≡ toldOf n (theOps g s i)
+        kinds-are = ran-told g torn n (theOps g s i) (e .reached) i i' low ran
 
-        told : total (e .reached .done) ≡ min n (length (theOps s i))
-        told = ap total kinds-are ∙ told-sum n (kindsOf (theOps s i)) ∙ ap (min n) (length-map (theOps s i) kindOf)
+        told : total (e .reached .done) ≡ min n (length (theOps g s i))
+        told = ap total kinds-are ∙ told-sum n (kindsOf (theOps g s i)) ∙ ap (min n) (length-map (theOps g s i) kindOf)
 
-        chosen : (g : Good small s i)
-            → imageMeaning small i' ≡ cond (takesEffect (getD torn 0 0) n (length (theOps s i))) (P.means (presentOf small s i) (suc (s .commit))) (imageMeaning small i)
-        chosen g = after-meaning n torn s i i' lens' slots' erases' (e .reached) g (by-plan g) (secure g)
+        chosen : (ok : Good g s i)
+            → imageMeaning g i' ≡ cond (takesEffect (getD torn 0 0) n (length (theOps g s i))) (P.means (presentOf g s i) (suc (s .commit))) (imageMeaning g i)
+        chosen ok = after-meaning g n torn s i i' lens' slots' erases' (e .reached) ok (by-plan ok) (secure ok)
 
-        chosen-count : (g : Good small s i)
-            → imageMeaning small i' ≡ cond (takesEffect (getD torn 0 0) n (length (State.commitOps small s i))) (P.means (presentOf small s i) (suc (s .commit))) (imageMeaning small i)
-        chosen-count g = rw need (chosen g)
+        chosen-count : (ok : Good g s i)
+            → imageMeaning g i' ≡ cond (takesEffect (getD torn 0 0) n (length (State.commitOps g s i))) (P.means (presentOf g s i) (suc (s .commit))) (imageMeaning g i)
+        chosen-count ok = rw need (chosen ok)
 
-        room-after : (g : Good small s i) → Room small i → Room small i'
-        room-after g r = after-room n torn s i i' lens' slots' erases' (e .reached) g (by-plan g) (secure g) r
+        room-after : (ok : Good g s i) → Room g i → Room g i'
+        room-after ok r = after-room g n torn s i i' lens' slots' erases' (e .reached) ok (by-plan ok) (secure ok) r
 
         -- ---- the erases: of each block at most one
-        erases-are : (b : ℕ) → erasesIn b (State.commitOps small s i) ≡ count (eqb b) (thePlan s i .erased)
-        erases-are b = ap (erasesIn b) (ops-some s i pending) ∙ commit-erases b (thePlan s i .erased) (newsOf small (s .commit) (thePlan s i))
+        erases-are : (b : ℕ) → erasesIn b (State.commitOps g s i) ≡ count (eqb b) (thePlan g s i .erased)
+        erases-are b = ap (erasesIn b) (ops-some g s i pending) ∙ commit-erases b (thePlan g s i .erased) (newsOf g (s .commit) (thePlan g s i))
 
-        once-each : Good small s i → (b : ℕ) → erasesIn b (State.commitOps small s i) ≤ 1
-        once-each g b = omega (arith, erases-are b, erased-most b (thePlan s i .erased) (secure g .erased-once))
+        once-each : Good g s i → (b : ℕ) → erasesIn b (State.commitOps g s i) ≤ 1
+        once-each ok b = omega (arith, erases-are b, erased-most b (thePlan g s i .erased) (secure ok .erased-once))
 
-        adds : (g : Good small s i) (b : ℕ) → getD (s .erases) b 0 ≤ s .commit → getD erases' b 0 ≡ getD (s .erases) b 0 + erasesIn b (State.commitOps small s i)
-        adds g b h =
-            let o = ap (erasesIn b) (ops-some s i pending) in
+        adds : (ok : Good g s i) (b : ℕ) → getD (s .erases) b 0 ≤ s .commit → getD erases' b 0 ≡ getD (s .erases) b 0 + erasesIn b (State.commitOps g s i)
+        adds ok b h =
+            let o = ap (erasesIn b) (ops-some g s i pending) in
             ap (λ (fs : List ℕ). getD fs b 0) grown
-            ∙ figure-grows (theOps s i) (s .erases) b (λ l. after-past n torn s i i' lens' slots' erases' (e .reached) g (by-plan g) (secure g) b (omega (arith, good-chip s i g .most, figured))) (omega (arith, o, once-each g b)) ∙ omega (arith, o)
+            ∙ figure-grows (theOps g s i) (s .erases) b (λ l. after-past g n torn s i i' lens' slots' erases' (e .reached) ok (by-plan ok) (secure ok) fit b (omega (arith, good-chip g s i ok .most, figured))) (omega (arith, o, once-each ok b)) ∙ omega (arith, o)
 
         -- one of two, by a test
         either : {M : Type 0} (b : Bool) (m u v : M) → m ≡ cond b u v → (m ≡ v) ⊎ (m ≡ u)
@@ -276,9 +276,9 @@ module _ (n : ℕ) (torn : List ℕ) (s : State) (i : List ℕ) where
 
         -- cut
         commit-cut : isGone (e .reached .left) ≡ true → (off : State) → off ≡ turnedOff s
-            → Commits n torn s i (record { answer = Cut; ops = e .reached .done; state = off }) i'
+            → Commits g n torn s i (record { answer = Cut; ops = e .reached .done; state = off }) i'
         commit-cut out off f =
-            subst (λ (y : State). Commits n torn s i (record { answer = Cut; ops = e .reached .done; state = y }) i') (sym f)
+            subst (λ (y : State). Commits g n torn s i (record { answer = Cut; ops = e .reached .done; state = y }) i') (sym f)
             (record {
               says = record {
                 first = tests (refuses 10) (turnedOff s) i' (λ e. other 10 1 (λ u. omega arith) e) (λ e. other 10 2 (λ u. omega arith) e) (x .size);
@@ -286,7 +286,7 @@ module _ (n : ℕ) (torn : List ℕ) (s : State) (i : List ℕ) where
                 quiet = λ m e t. other 10 m (λ u. t (sym u)) e;
                 last = λ p m q. absurd (omega (arith, later-none));
                 idle = λ p q. absurd (omega arith);
-                none = λ q. ap length (ops-none s i q);
+                none = λ q. ap length (ops-none g s i q);
                 bound = omega arith;
                 stuck = λ c b. clash has-plan b;
                 able = λ c r. has-plan;
@@ -311,43 +311,43 @@ module _ (n : ℕ) (torn : List ℕ) (s : State) (i : List ℕ) where
               bounds = record { blocks = refl; units = omega arith };
             })
           where
-            short : n < length (theOps s i)
-            short = ltb-true n (length (theOps s i)) (sym gone ∙ out)
+            short : n < length (theOps g s i)
+            short = ltb-true n (length (theOps g s i)) (sym gone ∙ out)
 
         -- finished
         module _ (left : isGone (e .reached .left) ≡ false) (bytes' : (j : ℕ) → getD i' j 0 < 256) where
           abbrev after : State
           after = committedState s lens' slots' erases'
 
-          enough : length (theOps s i) ≤ n
-          enough = ltb-false n (length (theOps s i)) (sym gone ∙ left)
+          enough : length (theOps g s i) ≤ n
+          enough = ltb-false n (length (theOps g s i)) (sym gone ∙ left)
 
-          abbrev nodes : Good small s i → List Node
-          nodes g = nextNodes n torn s i i' lens' slots' erases' (e .reached) g (by-plan g)
+          abbrev nodes : Good g s i → List Node
+          nodes ok = nextNodes g n torn s i i' lens' slots' erases' (e .reached) ok (by-plan ok)
 
-          settled : (g : Good small s i) → Settled after i' (nodes g)
-          settled g = after-settled n torn s i i' lens' slots' erases' (e .reached) g (by-plan g) (secure g) enough bytes'
+          settled : (ok : Good g s i) → Settled g after i' (nodes ok)
+          settled ok = after-settled g n torn s i i' lens' slots' erases' (e .reached) ok (by-plan ok) (secure ok) enough fit bytes'
 
-          means-new : (g : Good small s i) → imageMeaning small i' ≡ P.means (presentOf small s i) (suc (s .commit))
-          means-new g =
-              chosen g
-              ∙ ap (λ (b : Bool). cond b (P.means (presentOf small s i) (suc (s .commit))) (imageMeaning small i))
-              (all-done (getD torn 0 0) n (length (theOps s i)) enough)
+          means-new : (ok : Good g s i) → imageMeaning g i' ≡ P.means (presentOf g s i) (suc (s .commit))
+          means-new ok =
+              chosen ok
+              ∙ ap (λ (b : Bool). cond b (P.means (presentOf g s i) (suc (s .commit))) (imageMeaning g i))
+              (all-done (getD torn 0 0) n (length (theOps g s i)) enough)
 
-          state-new : (g : Good small s i) → P.stateOf (index small) after i' ≡ Plain.committed (P.stateOf (index small) s i)
+          state-new : (ok : Good g s i) → P.stateOf (index g) after i' ≡ Plain.committed (P.stateOf (index g) s i)
           unfolding P.stateOf Plain.committed
-          state-new g =
-              settled-state after i' (nodes g) (settled g)
-              ∙ rw (next-views n torn s i i' lens' slots' erases' (e .reached) g (by-plan g) (secure g), let z : s .commit + 1 ≡ suc (s .commit) = omega arith in z)
+          state-new ok =
+              settled-state g after i' (nodes ok) (settled ok)
+              ∙ rw (next-views g n torn s i i' lens' slots' erases' (e .reached) ok (by-plan ok) (secure ok), let z : s .commit + 1 ≡ suc (s .commit) = omega arith in z)
 
-          rests-after : Good small s i → (b : ℕ) → 0 < erasesIn b (State.commitOps small s i) → (t : State) → Good small t i' → erasesIn b (State.commitOps small t i') ≡ 0
-          rests-after g b h =
-              after-rests n torn s i i' lens' slots' erases' (e .reached) g (by-plan g) (secure g) enough b (omega (arith, ap (erasesIn b) (ops-some s i pending)))
+          rests-after : Good g s i → (b : ℕ) → 0 < erasesIn b (State.commitOps g s i) → (t : State) → Good g t i' → erasesIn b (State.commitOps g t i') ≡ 0
+          rests-after ok b h =
+              after-rests g n torn s i i' lens' slots' erases' (e .reached) ok (by-plan ok) (secure ok) enough b (omega (arith, ap (erasesIn b) (ops-some g s i pending)))
 
           commit-done : (new : State) → new ≡ committedState s lens' slots' erases'
-              → Commits n torn s i (record { answer = Accepted; ops = e .reached .done; state = new }) i'
+              → Commits g n torn s i (record { answer = Accepted; ops = e .reached .done; state = new }) i'
           commit-done new f =
-              subst (λ (y : State). Commits n torn s i (record { answer = Accepted; ops = e .reached .done; state = y }) i') (sym f)
+              subst (λ (y : State). Commits g n torn s i (record { answer = Accepted; ops = e .reached .done; state = y }) i') (sym f)
               (record {
                 says = record {
                   first = tests accepted after i' (λ e. not-refused 1 e) (λ e. not-refused 2 e) (x .size);
@@ -355,7 +355,7 @@ module _ (n : ℕ) (torn : List ℕ) (s : State) (i : List ℕ) where
                   quiet = λ m e t. not-refused m e;
                   last = λ p m q. absurd (omega (arith, later-none));
                   idle = λ p q. absurd (omega arith);
-                  none = λ q. ap length (ops-none s i q);
+                  none = λ q. ap length (ops-none g s i q);
                   bound = omega arith;
                   stuck = λ c b. clash has-plan b;
                   able = λ c r. has-plan;
@@ -364,10 +364,10 @@ module _ (n : ℕ) (torn : List ℕ) (s : State) (i : List ℕ) where
                       record { enough = λ m. (refl, omega (arith, told, enough, need)); short = λ m. absurd (omega (arith, enough, need)) };
                   choice = λ c b. chosen-count (c .good);
                   room = λ c b r. room-after (c .good) r;
-                  done = λ c b k. (state-new (c .good), settled-good after i' (nodes (c .good)) (settled (c .good)));
+                  done = λ c b k. (state-new (c .good), settled-good g after i' (nodes (c .good)) (settled (c .good)));
                   once = λ c b. once-each (c .good);
                   adds = λ c b k. adds (c .good);
-                  leavesFree = λ c b k. after-free n torn s i i' lens' slots' erases' (e .reached) (c .good) (by-plan (c .good)) (secure (c .good)) enough;
+                  leavesFree = λ c b k. after-free g n torn s i i' lens' slots' erases' (e .reached) (c .good) (by-plan (c .good)) (secure (c .good)) enough;
                   rests = λ c b k. rests-after (c .good);
                   cut = λ c b m. absurd (omega (arith, enough, need));
                 };
@@ -381,18 +381,18 @@ module _ (n : ℕ) (torn : List ℕ) (s : State) (i : List ℕ) where
               })
 
         -- either
-        pub commit-ended : ((j : ℕ) → getD i' j 0 < 256) → (r : Wrote) → r ≡ endedWith (e .reached) s (committedState s lens' slots' erases') → Commits n torn s i r i'
+        pub commit-ended : ((j : ℕ) → getD i' j 0 < 256) → (r : Wrote) → r ≡ endedWith (e .reached) s (committedState s lens' slots' erases') → Commits g n torn s i r i'
         commit-ended bytes' =
-            either-end (e .reached) s (committedState s lens' slots' erases') (λ (r : Wrote). Commits n torn s i r i')
+            either-end (e .reached) s (committedState s lens' slots' erases') (λ (r : Wrote). Commits g n torn s i r i')
             (λ t. commit-cut t (turnedOff s) refl)
             (λ t. commit-done t bytes' (committedState s lens' slots' erases') refl)
 
 -- ---- a commit that ends before its plan
-pub commit-ends : (m : Numbers) (buffer lens slots erases : List ℕ) (n : ℕ) (torn i : List ℕ) (a : A.Answer) → m .commit < 4294967296 → CommitBegins m (length i) (length torn) (Ends a)
-    → Commits n torn (joined m buffer lens slots erases) i (record { answer = a; ops = nothing; state = joined m buffer lens slots erases }) i
-commit-ends m buffer lens slots erases n torn i a u (denied b h e) = commit-refused n torn (joined m buffer lens slots erases) i b e h
-commit-ends m buffer lens slots erases n torn i a u (idle e p) =
-    commit-idle n torn (joined m buffer lens slots erases) i (commits-past (m .on) (m .blocks) (m .pending) (m .commit) n (length i) (length torn) u e .first) p
-commit-ends m buffer lens slots erases n torn i a u (full e p k) =
-    let w = commits-past (m .on) (m .blocks) (m .pending) (m .commit) n (length i) (length torn) u e in
-    commit-full n torn (joined m buffer lens slots erases) i (w .first) p (w .number p) k
+pub commit-ends : (g : Geometry) (m : Numbers) (buffer lens slots erases : List ℕ) (n : ℕ) (torn i : List ℕ) (a : A.Answer) → m .commit < 4294967296 → CommitBegins g m (length i) (length torn) (Ends a)
+    → Commits g n torn (joined m buffer lens slots erases) i (record { answer = a; ops = nothing; state = joined m buffer lens slots erases }) i
+commit-ends g m buffer lens slots erases n torn i a u (denied b h e) = commit-refused g n torn (joined m buffer lens slots erases) i b e h
+commit-ends g m buffer lens slots erases n torn i a u (idle e p) =
+    commit-idle g n torn (joined m buffer lens slots erases) i (commits-past g (m .on) (m .blocks) (m .pending) (m .commit) n (length i) (length torn) u e .first) p
+commit-ends g m buffer lens slots erases n torn i a u (full e p k) =
+    let w = commits-past g (m .on) (m .blocks) (m .pending) (m .commit) n (length i) (length torn) u e in
+    commit-full g n torn (joined m buffer lens slots erases) i (w .first) p (w .number p) k

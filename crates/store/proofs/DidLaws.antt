@@ -9,7 +9,7 @@ use lib.Seq.{take-all}
 use borrow.Author.Tests.{leb-true, leb-false}
 use Rattle.lists.proofs.Tests.{cases}
 use Rattle.chip.specs.declared.progress.Counts.{Counts}
-use Rattle.chip.specs.Geometry.{small}
+use Rattle.chip.specs.Geometry.{Geometry}
 use Rattle.chip.specs.Counts.{total}
 use Rattle.chip.specs.Chip.{Op, kindOf, kindsOf}
 use Rattle.chip.proofs.CountLaws.{told-sum}
@@ -37,17 +37,17 @@ first-told n os c e =
     let z : total c ≡ n = omega arith in
     rw z)
 
-module _ (n : ℕ) (torn : List ℕ) (s : State) (i : List ℕ) (r : Wrote) (i' : List ℕ) where
-  pub format-did : Formats n torn s i r i' → firstRefusal small (s .on) (s .blocks) (formats n (length i) (length torn)) ≡ 0
-      → Did (operationsOf small (index small) (format n torn) s i) n torn i (total (r .ops)) i'
+module _ (g : Geometry) (n : ℕ) (torn : List ℕ) (s : State) (i : List ℕ) (r : Wrote) (i' : List ℕ) where
+  pub format-did : Formats g n torn s i r i' → firstRefusal g (s .on) (s .blocks) (formats n (length i) (length torn)) ≡ 0
+      → Did g (operationsOf g (index g) (format n torn) s i) n torn i (total (r .ops)) i'
   format-did f z = record { whole = first-told n _ (r .ops) (f .kinds z); bytes = f .bytes z }
 
-  pub mount-did : Mounts n torn s i r i' → firstRefusal small (s .on) (s .blocks) (mounts n (length i) (length torn)) ≡ 0 → (K : Table) (G : ℕ) → imageMeaning small i ≡ means K G
-      → Did (operationsOf small (index small) (mount n torn) s i) n torn i (total (r .ops)) i'
+  pub mount-did : Mounts g n torn s i r i' → firstRefusal g (s .on) (s .blocks) (mounts n (length i) (length torn)) ≡ 0 → (K : Table) (G : ℕ) → imageMeaning g i ≡ means K G
+      → Did g (operationsOf g (index g) (mount n torn) s i) n torn i (total (r .ops)) i'
   mount-did f z K G e = record { whole = first-told n _ (r .ops) (f .kinds z K G e); bytes = f .bytes z K G e }
 
-  pub commit-did : Commits n torn s i r i' → Proceeds n torn s i
-      → Did (operationsOf small (index small) (commit n torn) s i) n torn i (total (r .ops)) i'
+  pub commit-did : Commits g n torn s i r i' → Proceeds g n torn s i
+      → Did g (operationsOf g (index g) (commit n torn) s i) n torn i (total (r .ops)) i'
   commit-did f c =
-      subst (λ (os : List Op). Did os n torn i (total (r .ops)) i') (sym (ops-some s i (c .pending)))
+      subst (λ (os : List Op). Did g os n torn i (total (r .ops)) i') (sym (ops-some g s i (c .pending)))
       (record { whole = first-told n _ (r .ops) (f .kinds c); bytes = f .bytes c })

@@ -4,10 +4,10 @@ use mathlib.Core.Bool.{true, false, not}
 use mathlib.Core.List.{List, []}
 use Prim.Native.Nat.{ℕ, _*_, _≤_, _<_}
 use native.Mathlib.Omega.{arith}
-use lib.ListN.{length, getD, length-map, replicate}
+use lib.ListN.{length, getD, length-map, replicate, length-replicate}
 use Rattle.lists.proofs.Tests.{clash}
 use Rattle.chip.specs.declared.progress.Counts.{Counts}
-use Rattle.chip.specs.Geometry.{small}
+use Rattle.chip.specs.Geometry.{Geometry, Fits, pageSize}
 use Rattle.chip.specs.Counts.{countsOf, nothing, total}
 use Rattle.chip.specs.Chip.{kindOf, kindsOf, pagesOf}
 use Rattle.chip.proofs.CountLaws.{total-counts}
@@ -36,15 +36,15 @@ use Rattle.store.proofs.PlanRead.{paged-none, paged-some, plan-is, plan
 use Rattle.store.proofs.CommitGood.{good-few, ops-some}
 use Rattle.store.proofs.GoodPlan.{roomy-page}
 
-module _ (s : State) (i : List ℕ) where
+module _ (g : Geometry) (s : State) (i : List ℕ) where
   abbrev call : Call
   call = forecasts (length i)
 
-  still : P.Same (index small) s i s i
+  still : P.Same (index g) s i s i
   still = record { state = refl; image = refl }
 
   -- ---- the tests end it
-  not-begun : (a : A.Answer) → EndedBy call s i a → Forecasts s i (record { answer = a; ops = nothing })
+  not-begun : (a : A.Answer) → EndedBy g call s i a → Forecasts g s i (record { answer = a; ops = nothing })
   not-begun a d =
       record {
         says = record {
@@ -55,38 +55,38 @@ module _ (s : State) (i : List ℕ) where
           last = d .last;
           idle = λ p q. (d .idle p q, refl);
           stuck = λ c. absurd (d .never c);
-          able = λ g c. absurd (d .never c);
+          able = λ ok c. absurd (d .never c);
           done = λ c. absurd (d .never c);
         };
         kinds = λ c. absurd (d .never c);
       }
 
   -- they are those of a commit with a torn slice of the right length
-  tests-are : commitTests small (s .on) (s .blocks) (s .pending) (s .commit) (length i) 528 ≡ orElse (firstRefusal small (s .on) (s .blocks) call) (numbersRefusal (s .pending) (s .commit) call)
-  tests-are = ap (λ (k : ℕ). orElse k (numbersRefusal (s .pending) (s .commit) call)) (first-torn small (s .on) (s .blocks) 0 (length i) 528 refl)
+  tests-are : commitTests g (s .on) (s .blocks) (s .pending) (s .commit) (length i) (pageSize g) ≡ orElse (firstRefusal g (s .on) (s .blocks) call) (numbersRefusal (s .pending) (s .commit) call)
+  tests-are = ap (λ (k : ℕ). orElse k (numbersRefusal (s .pending) (s .commit) call)) (first-torn g (s .on) (s .blocks) 0 (length i) (pageSize g) refl)
 
-  forecast-refused : (a : A.Answer) → answerOf a ≡ answerFor (commitTests small (s .on) (s .blocks) (s .pending) (s .commit) (length i) 528)
-      → 0 < commitTests small (s .on) (s .blocks) (s .pending) (s .commit) (length i) 528 → Forecasts s i (record { answer = a; ops = nothing })
+  forecast-refused : (a : A.Answer) → answerOf a ≡ answerFor (commitTests g (s .on) (s .blocks) (s .pending) (s .commit) (length i) (pageSize g))
+      → 0 < commitTests g (s .on) (s .blocks) (s .pending) (s .commit) (length i) (pageSize g) → Forecasts g s i (record { answer = a; ops = nothing })
   forecast-refused a e h =
-      not-begun a (ended-refused call s i (first-most small forecast (length i) (s .on) (s .blocks)) refl a (e ∙ ap answerFor tests-are) (subst (λ (k : ℕ). 0 < k) tests-are h) .0)
+      not-begun a (ended-refused g call s i (first-most g forecast (length i) (s .on) (s .blocks)) refl a (e ∙ ap answerFor tests-are) (subst (λ (k : ℕ). 0 < k) tests-are h) .0)
 
   -- ---- they pass
-  module _ (passes : firstRefusal small (s .on) (s .blocks) (commits 0 (length i) 528) ≡ 0) where
-    first-none : firstRefusal small (s .on) (s .blocks) call ≡ 0
-    first-none = sym (first-torn small (s .on) (s .blocks) 0 (length i) 528 refl) ∙ passes
+  module _ (passes : firstRefusal g (s .on) (s .blocks) (commits 0 (length i) (pageSize g)) ≡ 0) where
+    first-none : firstRefusal g (s .on) (s .blocks) call ≡ 0
+    first-none = sym (first-torn g (s .on) (s .blocks) 0 (length i) (pageSize g) refl) ∙ passes
 
-    tests : (a : Answer) → (a ≡ refuses 1 → ⊥) → (a ≡ refuses 2 → ⊥) → FirstTests small (index small) call s i a s i
+    tests : (a : Answer) → (a ≡ refuses 1 → ⊥) → (a ≡ refuses 2 → ⊥) → FirstTests g (index g) call s i a s i
     tests a h k = record { refused = λ m e. absurd (omega (arith, first-none)); not1 = λ p. h; not2 = λ p. k; sameSize = refl }
 
-    forecast-idle : s .pending ≡ 0 → Forecasts s i (record { answer = Accepted; ops = nothing })
-    forecast-idle h = not-begun Accepted (ended-idle call s i refl first-none h)
+    forecast-idle : s .pending ≡ 0 → Forecasts g s i (record { answer = Accepted; ops = nothing })
+    forecast-idle h = not-begun Accepted (ended-idle g call s i refl first-none h)
 
     module _ (pending : 0 < s .pending) (number : s .commit < 4294967295) where
       later-none : numbersRefusal (s .pending) (s .commit) call ≡ 0
       later-none = later-low (s .pending) (s .commit) pending number
 
       -- the plan is to do nothing
-      nothing-told : thePlan s i ≡ stuck → (Good small s i → Room small i → ⊥) → Forecasts s i (record { answer = Last; ops = nothing })
+      nothing-told : thePlan g s i ≡ stuck → (Good g s i → Room g i → ⊥) → Forecasts g s i (record { answer = Last; ops = nothing })
       nothing-told q no-room =
           record {
             says = record {
@@ -97,30 +97,30 @@ module _ (s : State) (i : List ℕ) where
               last = λ p m e. absurd (omega (arith, later-none));
               idle = λ p h. absurd (omega arith);
               stuck = λ c b. refl;
-              able = λ g c r. absurd (no-room g r);
+              able = λ ok c r. absurd (no-room ok r);
               done = λ c b. clash b (ap (λ (p : Plan). not (isEmpty (p .written))) q);
             };
-            kinds = λ c. sym (ap (λ (p : Plan). countsOf (kindsOf (opsOf small (s .commit) p))) q);
+            kinds = λ c. sym (ap (λ (p : Plan). countsOf (kindsOf (opsOf g (s .commit) p))) q);
           }
 
-      forecast-full : 960 < s .count → Forecasts s i (record { answer = Last; ops = nothing })
-      forecast-full many = nothing-told (plan-none s i many) (λ g r. omega (arith, good-few s i g))
+      forecast-full : 960 < s .count → Forecasts g s i (record { answer = Last; ops = nothing })
+      forecast-full many = nothing-told (plan-none g s i many) (λ ok r. omega (arith, good-few g s i ok))
 
       -- the plan is read
       module _ (fits : s .count ≤ 960) (bytes : (j : ℕ) → getD i j 0 < 256) (r : Cost)
-          (x : E.Costs (8 * s .blocks) (s .blocks) (s .lens) (s .slots) (s .count) (s .buffer) (s .commit) (pagesOf small i) r) where
-        pub forecast-stuck : r .stuck ≡ true → Forecasts s i (record { answer = Last; ops = nothing })
-        forecast-stuck st =
-            let q = plan-is s i fits ∙ paged-none (read s i) (sym (x .stuck) ∙ st) in
-            nothing-told q (λ g w. clash (ap (λ (p : Plan). isEmpty (p .written)) q) (roomy-page (replicate 528 0) refl s i g bytes pending number w))
+          (x : E.Costs g (8 * s .blocks) (s .blocks) (s .lens) (s .slots) (s .count) (s .buffer) (s .commit) (pagesOf g i) r) where
+        pub forecast-stuck : Fits g → r .stuck ≡ true → Forecasts g s i (record { answer = Last; ops = nothing })
+        forecast-stuck fit st =
+            let q = plan-is g s i fits ∙ paged-none (read g s i) (sym (x .stuck) ∙ st) in
+            nothing-told q (λ ok w. clash (ap (λ (p : Plan). isEmpty (p .written)) q) (roomy-page g fit (replicate (pageSize g) 0) (length-replicate (pageSize g) 0) s i ok bytes pending number w))
 
-        pub forecast-done : r .stuck ≡ false → (ops : Counts) → ops ≡ r .ops → Forecasts s i (record { answer = Accepted; ops = ops })
+        pub forecast-done : r .stuck ≡ false → (ops : Counts) → ops ≡ r .ops → Forecasts g s i (record { answer = Accepted; ops = ops })
         forecast-done st ops e =
-            let q = plan-is s i fits ∙ paged-some (read s i) (sym (x .stuck) ∙ st) in
-            let k : ops ≡ countsOf (kindsOf (theOps s i)) = e ∙ x .all st ∙ ap (λ (p : Plan). countsOf (kindsOf (opsOf small (s .commit) p))) (sym q) in
-            let able : not (isEmpty (thePlan s i .written)) ≡ true = ap not (ap (λ (p : Plan). isEmpty (p .written)) q ∙ sym (x .stuck) ∙ st) in
-            let many : total ops ≡ length (index small .commitOps s i) =
-            ap total k ∙ total-counts (kindsOf (theOps s i)) ∙ length-map (theOps s i) kindOf ∙ sym (ap length (ops-some s i pending)) in
+            let q = plan-is g s i fits ∙ paged-some (read g s i) (sym (x .stuck) ∙ st) in
+            let k : ops ≡ countsOf (kindsOf (theOps g s i)) = e ∙ x .all st ∙ ap (λ (p : Plan). countsOf (kindsOf (opsOf g (s .commit) p))) (sym q) in
+            let able : not (isEmpty (thePlan g s i .written)) ≡ true = ap not (ap (λ (p : Plan). isEmpty (p .written)) q ∙ sym (x .stuck) ∙ st) in
+            let many : total ops ≡ length (index g .commitOps s i) =
+            ap total k ∙ total-counts (kindsOf (theOps g s i)) ∙ length-map (theOps g s i) kindOf ∙ sym (ap length (ops-some g s i pending)) in
             record {
               says = record {
                 first = tests accepted (λ e. not-refused 1 e) (λ e. not-refused 2 e);
@@ -130,18 +130,18 @@ module _ (s : State) (i : List ℕ) where
                 last = λ p m e. absurd (omega (arith, later-none));
                 idle = λ p h. absurd (omega arith);
                 stuck = λ c b. clash able b;
-                able = λ g c r. able;
+                able = λ ok c r. able;
                 done = λ c b. (refl, many);
               };
               kinds = λ c. k;
             }
 
 -- ---- a forecast that ends before the plan
-pub forecast-ends : (m : Numbers) (buffer lens slots erases i : List ℕ) (a : A.Answer) → m .commit < 4294967296 → CommitBegins m (length i) 528 (Ends a)
-    → Forecasts (joined m buffer lens slots erases) i (record { answer = a; ops = nothing })
-forecast-ends m buffer lens slots erases i a u (denied b h e) = forecast-refused (joined m buffer lens slots erases) i b e h
-forecast-ends m buffer lens slots erases i a u (idle e p) =
-    forecast-idle (joined m buffer lens slots erases) i (commits-past (m .on) (m .blocks) (m .pending) (m .commit) 0 (length i) 528 u e .first) p
-forecast-ends m buffer lens slots erases i a u (full e p k) =
-    let w = commits-past (m .on) (m .blocks) (m .pending) (m .commit) 0 (length i) 528 u e in
-    forecast-full (joined m buffer lens slots erases) i (w .first) p (w .number p) k
+pub forecast-ends : (g : Geometry) (m : Numbers) (buffer lens slots erases i : List ℕ) (a : A.Answer) → m .commit < 4294967296 → CommitBegins g m (length i) (pageSize g) (Ends a)
+    → Forecasts g (joined m buffer lens slots erases) i (record { answer = a; ops = nothing })
+forecast-ends g m buffer lens slots erases i a u (denied b h e) = forecast-refused g (joined m buffer lens slots erases) i b e h
+forecast-ends g m buffer lens slots erases i a u (idle e p) =
+    forecast-idle g (joined m buffer lens slots erases) i (commits-past g (m .on) (m .blocks) (m .pending) (m .commit) 0 (length i) (pageSize g) u e .first) p
+forecast-ends g m buffer lens slots erases i a u (full e p k) =
+    let w = commits-past g (m .on) (m .blocks) (m .pending) (m .commit) 0 (length i) (pageSize g) u e in
+    forecast-full g (joined m buffer lens slots erases) i (w .first) p (w .number p) k

@@ -11,7 +11,8 @@ use Rattle.lists.specs.Lists.{tab}
 use Rattle.lists.proofs.Places.{getD-same}
 use Rattle.lists.proofs.Flats.{getD-tab}
 use Rattle.chip.specs.declared.progress.Progress.{Progress}
-use Rattle.chip.specs.Geometry.{small, blocksOf}
+use Rattle.chip.specs.Geometry.{Geometry, Fits, blocksOf}
+use Rattle.chip.proofs.Sizes.{block-on, blocks-pages, pages-pos}
 use Rattle.chip.specs.Power.{isGone}
 use Rattle.chip.specs.Counts.{nothing, total}
 use Rattle.chip.specs.Chip.{Legal, pagesOf, Machine}
@@ -26,9 +27,10 @@ use Rattle.views.specs.Stored.{Stores}
 use Rattle.views.proofs.Meanings.{inOrder, Kept}
 use Rattle.log.specs.Format.{formatData, formatOps, formattedBy, formatted, formatTable, formatNode}
 use Rattle.log.specs.Plan.{nodeAt, hasRoom, spareBlocks}
-use Rattle.log.proofs.FormatLaws.{format-legal, format-count, format-pages, format-gone, format-small, format-order}
+use Rattle.log.proofs.FormatLaws.{format-legal, format-count, format-pages, format-gone, format-begun, format-order}
 use Rattle.log.proofs.PlanBlocks.{has-room}
 use Rattle.log.proofs.PlanRoom.{room-first}
+use Rattle.log.proofs.PlanKept.{wide}
 use Rattle.promise.specs.Plain.{Answer, refuses, accepted, formats, firstRefusal, leaf, resting, fresh}
 use Rattle.promise.specs.Calls as P
 use Rattle.promise.specs.Calls.{FirstTests}
@@ -85,18 +87,18 @@ fresh-next limit k h = record { most = h; last = λ m e. last m e; rest = λ n a
     rest (suc n) a = getD-same k n 0
 
 -- ---- the one live page of a finished format
-pub small-order : (n : ℕ) → 0 < n → inOrder small (formatted small n) ≡ record { place = 0; bytes = formatData small } ∷ []
-small-order zero h = absurd (omega arith)
-small-order (suc n) h = format-order small (omega arith) (omega arith) (omega arith) n
+pub one-live : (g : Geometry) (fit : Fits g) (n : ℕ) → 0 < n → inOrder g (formatted g n) ≡ record { place = 0; bytes = formatData g } ∷ []
+one-live g fit zero h = absurd (omega arith)
+one-live g fit (suc n) h = format-order g (omega arith) (omega arith) (omega arith) n
 
 -- ---- refused: nothing is done
 one-not : {Q : Type 0} (m : ℕ) → m ≡ 1 → m ≡ 0 → Q
 one-not m e h = absurd (omega arith)
 
-pub format-size : (n : ℕ) (torn : List ℕ) (s : State) (i : List ℕ) (b : ℕ) → Sized (length i) (length torn) b → b ≡ 0
-    → Formats n torn s i (record { answer = Size; ops = nothing; state = s }) i
-format-size n torn s i b z h =
-    let f : firstRefusal small (s .on) (s .blocks) (formats n (length i) (length torn)) ≡ 1 = first-none (length i) (length torn) b z h in
+pub format-size : (g : Geometry) (n : ℕ) (torn : List ℕ) (s : State) (i : List ℕ) (b : ℕ) → Sized g (length i) (length torn) b → b ≡ 0
+    → Formats g n torn s i (record { answer = Size; ops = nothing; state = s }) i
+format-size g n torn s i b z h =
+    let f : firstRefusal g (s .on) (s .blocks) (formats n (length i) (length torn)) ≡ 1 = first-none g (length i) (length torn) b z h in
     record {
       says = record {
         first = record {
@@ -121,58 +123,61 @@ format-size n torn s i b z h =
     }
 
 -- ---- the sizes are right: its operations were done as far as the power went
-module _ (n : ℕ) (torn : List ℕ) (s : State) (i i' : List ℕ) (b : ℕ) (z : Sized (length i) (length torn) b) (pos : 0 < b) (low : n < 2 ^ 32) (p reached : Progress)
-    (from : p ≡ atStart n) (first : Ran small torn (formatOps small b) p reached i i') where
-  ran : Ran small torn (formatOps small b) (atStart n) reached i i'
-  ran = subst (λ (q : Progress). Ran small torn (formatOps small b) q reached i i') from first
+module _ (g : Geometry) (fit : Fits g) (n : ℕ) (torn : List ℕ) (s : State) (i i' : List ℕ) (b : ℕ) (z : Sized g (length i) (length torn) b) (pos : 0 < b) (low : n < 2 ^ 32) (p reached : Progress)
+    (from : p ≡ atStart n) (first : Ran g torn (formatOps g b) p reached i i') where
+  ran : Ran g torn (formatOps g b) (atStart n) reached i i'
+  ran = subst (λ (q : Progress). Ran g torn (formatOps g b) q reached i i') from first
 
-  passes : firstRefusal small (s .on) (s .blocks) (formats n (length i) (length torn)) ≡ 0
-  passes = first-some (length i) (length torn) b z pos
+  passes : firstRefusal g (s .on) (s .blocks) (formats n (length i) (length torn)) ≡ 0
+  passes = first-some g (length i) (length torn) b z pos
 
-  blocks-are : blocksOf small (length i) ≡ b
+  blocks-are : blocksOf g (length i) ≡ b
   blocks-are = sym (z .chip pos .blocks)
 
-  need-is : length (formatOps small (blocksOf small (length i))) ≡ b + 3
-  need-is = ap (λ (B : ℕ). length (formatOps small B)) blocks-are ∙ format-count small b
+  need-is : length (formatOps g (blocksOf g (length i))) ≡ b + 3
+  need-is = ap (λ (B : ℕ). length (formatOps g B)) blocks-are ∙ format-count g b
 
-  pages-are : pagesOf small i' ≡ formattedBy small torn b n (pagesOf small i) .pages
+  pages-are : pagesOf g i' ≡ formattedBy g torn b n (pagesOf g i) .pages
   pages-are = ap (λ (m : Machine). m .pages) (ran .is)
 
   gone-is : isGone (reached .left) ≡ ltb n (b + 3)
-  gone-is = ap (λ (m : Machine). isGone (m .power)) (ran .is) ∙ format-gone small torn b n (pagesOf small i)
+  gone-is = ap (λ (m : Machine). isGone (m .power)) (ran .is) ∙ format-gone g torn b n (pagesOf g i)
 
   told-is : total (reached .done) ≡ min n (b + 3)
-  told-is = ran-total small torn n (formatOps small b) reached i i' low ran ∙ ap (min n) (format-count small b)
+  told-is = ran-total g torn n (formatOps g b) reached i i' low ran ∙ ap (min n) (format-count g b)
 
-  kinds-are : reached .done ≡ toldOf n (formatOps small (blocksOf small (length i)))
-  kinds-are = ran-told small torn n (formatOps small b) reached i i' low ran ∙ ap (λ (B : ℕ). toldOf n (formatOps small B)) (sym blocks-are)
+  kinds-are : reached .done ≡ toldOf n (formatOps g (blocksOf g (length i)))
+  kinds-are = ran-told g torn n (formatOps g b) reached i i' low ran ∙ ap (λ (B : ℕ). toldOf n (formatOps g B)) (sym blocks-are)
 
   -- the bytes
-  format-bytes : pagesOf small i' ≡ formattedBy small torn (blocksOf small (length i)) n (pagesOf small i) .pages
-  format-bytes = pages-are ∙ ap (λ (B : ℕ). formattedBy small torn B n (pagesOf small i) .pages) (sym blocks-are)
+  format-bytes : pagesOf g i' ≡ formattedBy g torn (blocksOf g (length i)) n (pagesOf g i) .pages
+  format-bytes = pages-are ∙ ap (λ (B : ℕ). formattedBy g torn B n (pagesOf g i) .pages) (sym blocks-are)
 
-  few-ops : length (formatOps small (blocksOf small (length i))) ≤ 2000
+  few-ops : length (formatOps g (blocksOf g (length i))) ≤ 2000
   few-ops = omega (arith, need-is, z .chip pos .most)
 
-  long : length (pagesOf small i) ≡ b * 32
-  long = length-pages small i ∙ omega (arith, z .chip pos .size)
+  long : length (pagesOf g i) ≡ b * g .pages
+  long = length-pages g i ∙ blocks-pages g fit (length i) b (z .chip pos .size)
 
-  format-allowed : Legal small (pagesOf small i) (formatOps small (blocksOf small (length i)))
+  some : 0 < b * g .pages
+  some = omega (arith, block-on g 0 b pos, fit .many)
+
+  format-allowed : Legal g (pagesOf g i) (formatOps g (blocksOf g (length i)))
   format-allowed =
-      subst (λ (B : ℕ). Legal small (pagesOf small i) (formatOps small B)) (sym blocks-are)
-      (format-legal small (omega arith) (omega arith) b (pagesOf small i) long (omega (arith, long)))
+      subst (λ (B : ℕ). Legal g (pagesOf g i) (formatOps g B)) (sym blocks-are)
+      (format-legal g (omega arith) (omega arith) b (pagesOf g i) long (omega (arith, long, some)))
 
   -- neither 1 nor 2
-  tests : (a : Answer) (s' : State) → (a ≡ refuses 1 → ⊥) → (a ≡ refuses 2 → ⊥) → FirstTests small (index small) (formats n (length i) (length torn)) s i a s' i'
+  tests : (a : Answer) (s' : State) → (a ≡ refuses 1 → ⊥) → (a ≡ refuses 2 → ⊥) → FirstTests g (index g) (formats n (length i) (length torn)) s i a s' i'
   tests a s' h k =
       record { refused = λ m e. absurd (omega (arith, passes, e)); not1 = λ p. h; not2 = λ p. k; sameSize = ran .size }
 
   -- cut
   format-cut : isGone (reached .left) ≡ true → (off : State) → off ≡ turnedOff s
-      → Formats n torn s i (record { answer = A.Cut; ops = reached .done; state = off }) i'
-  format-cut g off f =
-      let l : n < b + 3 = ltb-true n (b + 3) (sym gone-is ∙ g) in
-      subst (λ (x : State). Formats n torn s i (record { answer = A.Cut; ops = reached .done; state = x }) i') (sym f)
+      → Formats g n torn s i (record { answer = A.Cut; ops = reached .done; state = off }) i'
+  format-cut ok off f =
+      let l : n < b + 3 = ltb-true n (b + 3) (sym gone-is ∙ ok) in
+      subst (λ (x : State). Formats g n torn s i (record { answer = A.Cut; ops = reached .done; state = x }) i') (sym f)
       (record {
         says = record {
           first = tests (refuses 10) (turnedOff s) (λ e. let u : _≡_ {A = ℕ} 10 1 = cc in omega arith) (λ e. let u : _≡_ {A = ℕ} 10 2 = cc in omega arith);
@@ -192,14 +197,14 @@ module _ (n : ℕ) (torn : List ℕ) (s : State) (i i' : List ℕ) (b : ℕ) (z 
       })
 
   -- ---- finished
-  module _ (g : isGone (reached .left) ≡ false) (bytes : (j : ℕ) → getD i' j 0 < 256) (buffer : List ℕ) where
+  module _ (ok : isGone (reached .left) ≡ false) (bytes : (j : ℕ) → getD i' j 0 < 256) (buffer : List ℕ) where
     enough : b + 3 ≤ n
-    enough = ltb-false n (b + 3) (sym gone-is ∙ g)
+    enough = ltb-false n (b + 3) (sym gone-is ∙ ok)
 
-    kept : Kept small (8 * b) (pagesOf small i') (formatTable (8 * b)) 1
-    kept = rw pages-are (format-small torn b n (pagesOf small i) pos long enough)
+    kept : Kept g (8 * b) (pagesOf g i') (formatTable (8 * b)) 1
+    kept = rw pages-are (format-begun g fit torn b n (pagesOf g i) pos long enough)
 
-    begun : Begun (freshState b buffer) i' (formatTable (8 * b))
+    begun : Begun g (freshState b buffer) i' (formatTable (8 * b))
     begun =
         record {
           chip = rw (ran .size) (z .chip pos);
@@ -215,37 +220,37 @@ module _ (n : ℕ) (torn : List ℕ) (s : State) (i i' : List ℕ) (b : ℕ) (z 
         }
 
     -- one page is live, so all blocks but the first are unused
-    order : inOrder small (pagesOf small i') ≡ record { place = 0; bytes = formatData small } ∷ []
-    order = rw (pages-are, format-pages small torn b n (pagesOf small i) long enough) (small-order (b * 32) (omega arith))
+    order : inOrder g (pagesOf g i') ≡ record { place = 0; bytes = formatData g } ∷ []
+    order = rw (pages-are, format-pages g torn b n (pagesOf g i) long enough) (one-live g fit (b * g .pages) some)
 
-    room-at : (B : ℕ) → suc (b - 1) ≡ B → hasRoom small B (spareBlocks small B) (formatTable (8 * b)) 1 (liveFrom small 0 (pagesOf small i')) ≡ true
+    room-at : (B : ℕ) → suc (b - 1) ≡ B → hasRoom g B (spareBlocks g B) (formatTable (8 * b)) 1 (liveFrom g 0 (pagesOf g i')) ≡ true
     room-at B e =
-        subst (λ (m : ℕ). hasRoom small m (spareBlocks small m) (formatTable (8 * b)) 1 (liveFrom small 0 (pagesOf small i')) ≡ true) e
-        (has-room small (suc (b - 1)) (spareBlocks small (suc (b - 1))) (formatTable (8 * b)) 1 (liveFrom small 0 (pagesOf small i'))
-        (room-first small (8 * b) (b - 1) (spareBlocks small (suc (b - 1))) (pagesOf small i') (formatTable (8 * b)) 1
-        (record { place = 0; bytes = formatData small }) (omega arith) (omega (arith, z .chip pos .least)) kept order refl))
+        subst (λ (m : ℕ). hasRoom g m (spareBlocks g m) (formatTable (8 * b)) 1 (liveFrom g 0 (pagesOf g i')) ≡ true) e
+        (has-room g (suc (b - 1)) (spareBlocks g (suc (b - 1))) (formatTable (8 * b)) 1 (liveFrom g 0 (pagesOf g i'))
+        (room-first g (8 * b) (b - 1) (spareBlocks g (suc (b - 1))) (pagesOf g i') (formatTable (8 * b)) 1
+        (record { place = 0; bytes = formatData g }) (pages-pos g fit) (omega (arith, wide g fit (suc (b - 1)) (omega (arith, z .chip pos .least)))) kept order refl))
 
-    blocks-after : blocksOf small (length i') ≡ b
-    blocks-after = ap (blocksOf small) (ran .size) ∙ blocks-are
+    blocks-after : blocksOf g (length i') ≡ b
+    blocks-after = ap (blocksOf g) (ran .size) ∙ blocks-are
 
-    format-room : Room small i'
+    format-room : Room g i'
     unfolding Room
     format-room =
-        subst (RoomIn small i')
-        (sym (ap (λ (B : ℕ). Views.meaning small (8 * B) (pagesOf small i')) blocks-after ∙ kept .is))
-        (room-at (blocksOf small (length i')) ((let e : suc (b - 1) ≡ b = omega arith in e) ∙ sym blocks-after))
+        subst (RoomIn g i')
+        (sym (ap (λ (B : ℕ). Views.meaning g (8 * B) (pagesOf g i')) blocks-after ∙ kept .is))
+        (room-at (blocksOf g (length i')) ((let e : suc (b - 1) ≡ b = omega arith in e) ∙ sym blocks-after))
 
-    state-is : P.stateOf (index small) (freshState b buffer) i' ≡ fresh (blocksOf small (length i))
+    state-is : P.stateOf (index g) (freshState b buffer) i' ≡ fresh (blocksOf g (length i))
     unfolding resting
-    state-is = begun-state (freshState b buffer) i' (formatTable (8 * b)) begun ∙ rw (blocks-are, format-views b pos)
+    state-is = begun-state g (freshState b buffer) i' (formatTable (8 * b)) begun ∙ rw (blocks-are, format-views b pos)
 
-    meaning-is : imageMeaning small i' ≡ P.means (leaf (blocksOf small (length i))) 1
-    meaning-is = begun-meaning (freshState b buffer) i' (formatTable (8 * b)) begun ∙ rw (blocks-are, format-views b pos)
+    meaning-is : imageMeaning g i' ≡ P.means (leaf (blocksOf g (length i))) 1
+    meaning-is = begun-meaning g (freshState b buffer) i' (formatTable (8 * b)) begun ∙ rw (blocks-are, format-views b pos)
 
     format-finished : (new : State) → new ≡ freshState b buffer
-        → Formats n torn s i (record { answer = Accepted; ops = reached .done; state = new }) i'
+        → Formats g n torn s i (record { answer = Accepted; ops = reached .done; state = new }) i'
     format-finished new f =
-        subst (λ (x : State). Formats n torn s i (record { answer = Accepted; ops = reached .done; state = x }) i') (sym f)
+        subst (λ (x : State). Formats g n torn s i (record { answer = Accepted; ops = reached .done; state = x }) i') (sym f)
         (record {
           says = record {
             first = tests accepted (freshState b buffer) (λ e. let u : _≡_ {A = ℕ} 0 1 = cc in omega arith) (λ e. let u : _≡_ {A = ℕ} 0 1 = cc in omega arith);
@@ -253,7 +258,7 @@ module _ (n : ℕ) (torn : List ℕ) (s : State) (i i' : List ℕ) (b : ℕ) (z 
             quiet = λ k e d. let u : _≡_ {A = ℕ} 0 1 = cc in absurd (omega arith);
             few = λ p. few-ops;
             power = λ p. record { enough = λ m. (refl, omega (arith, told-is, enough, need-is)); short = λ m. absurd (omega (arith, need-is, enough)) };
-            done = λ p m. (state-is, meaning-is, begun-good (freshState b buffer) i' (formatTable (8 * b)) begun, format-room);
+            done = λ p m. (state-is, meaning-is, begun-good g (freshState b buffer) i' (formatTable (8 * b)) begun, format-room);
             zeros = λ e b. getD-same 32 b 0;
             cut = λ p m. absurd (omega (arith, need-is, enough));
           };
@@ -265,8 +270,8 @@ module _ (n : ℕ) (torn : List ℕ) (s : State) (i i' : List ℕ) (b : ℕ) (z 
         })
 
   -- either
-  pub format-ended : ((j : ℕ) → getD i' j 0 < 256) → (buffer : List ℕ) (r : Wrote) → r ≡ endedWith reached s (freshState b buffer) → Formats n torn s i r i'
+  pub format-ended : ((j : ℕ) → getD i' j 0 < 256) → (buffer : List ℕ) (r : Wrote) → r ≡ endedWith reached s (freshState b buffer) → Formats g n torn s i r i'
   format-ended bytes buffer =
-      either-end reached s (freshState b buffer) (λ (r : Wrote). Formats n torn s i r i')
+      either-end reached s (freshState b buffer) (λ (r : Wrote). Formats g n torn s i r i')
       (λ t. format-cut t (turnedOff s) refl)
       (λ t. format-finished t bytes buffer (freshState b buffer) refl)

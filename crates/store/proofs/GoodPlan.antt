@@ -5,10 +5,10 @@ use mathlib.Core.Bool.{false}
 use mathlib.Core.List.{List}
 use Prim.Native.Nat.{ℕ, _<_}
 use lib.ListN.{length, getD}
-use Rattle.chip.specs.Geometry.{small}
+use Rattle.chip.specs.Geometry.{Geometry, Fits, pageSize}
 use Rattle.chip.specs.Chip.{pagesOf}
 use Rattle.log.specs.Plan.{Plan, isEmpty, spareBlocks, stuck}
-use Rattle.log.proofs.PlanKept.{chip-small, wide-small}
+use Rattle.log.proofs.PlanKept.{chip-of, wide}
 use Rattle.log.proofs.AdmissibleLaws.{Safe}
 use Rattle.log.proofs.PolicyLaws.{committed, foreign}
 use Rattle.store.specs.declared.state.State.{State}
@@ -17,28 +17,28 @@ use Rattle.store.specs.Contracts.{thePlan}
 use Rattle.store.proofs.CommitPlan.{safe-some}
 use Rattle.store.proofs.CommitGood.{good-buffer, good-chip, good-ready, good-room, plan-good}
 
-abbrev SafePlan : List ℕ → State → List ℕ → Plan → Type 0
-SafePlan torn s i q =
-    Safe small (limitOf s) (s .blocks) (spareBlocks small (s .blocks)) torn (pagesOf small i) (nodesOf small s i) (s .commit) (unitsOf s) q
+abbrev SafePlan : Geometry → List ℕ → State → List ℕ → Plan → Type 0
+SafePlan g torn s i q =
+    Safe g (limitOf s) (s .blocks) (spareBlocks g (s .blocks)) torn (pagesOf g i) (nodesOf g s i) (s .commit) (unitsOf s) q
 
 -- all that holds of a commit that carries its plan out
-abbrev pub Secure : List ℕ → State → List ℕ → Type 0
-Secure torn s i = SafePlan torn s i (thePlan s i)
+abbrev pub Secure : Geometry → List ℕ → State → List ℕ → Type 0
+Secure g torn s i = SafePlan g torn s i (thePlan g s i)
 
-module _ (torn : List ℕ) (size : length torn ≡ 528) (s : State) (i : List ℕ) (g : Good small s i) (bytes : (j : ℕ) → getD i j 0 < 256) (pending : 0 < s .pending)
+module _ (g : Geometry) (fit : Fits g) (torn : List ℕ) (size : length torn ≡ pageSize g) (s : State) (i : List ℕ) (ok : Good g s i) (bytes : (j : ℕ) → getD i j 0 < 256) (pending : 0 < s .pending)
     (number : s .commit < 4294967295) where
-  pub stuck-or-safe : (thePlan s i ≡ stuck) ⊎ Secure torn s i
+  pub stuck-or-safe : (thePlan g s i ≡ stuck) ⊎ Secure g torn s i
   stuck-or-safe =
-      subst (λ (q : Plan). (q ≡ stuck) ⊎ SafePlan torn s i q) (sym (plan-good s i g bytes pending number))
-      (foreign small (limitOf s) (s .blocks) torn (chip-small (s .blocks) torn size) (pagesOf small i) (nodesOf small s i) (s .commit) (unitsOf s)
-      (good-ready s i g bytes pending number) (good-buffer s i g pending .pending) (wide-small (s .blocks) (good-chip s i g .least)))
+      subst (λ (q : Plan). (q ≡ stuck) ⊎ SafePlan g torn s i q) (sym (plan-good g s i ok fit bytes pending number))
+      (foreign g (limitOf s) (s .blocks) torn (chip-of g fit (s .blocks) torn size) (pagesOf g i) (nodesOf g s i) (s .commit) (unitsOf s)
+      (good-ready g s i ok fit bytes pending number) (good-buffer g s i ok pending .pending) (wide g fit (s .blocks) (good-chip g s i ok .least)))
 
-  pub roomy-page : Room small i → isEmpty (thePlan s i .written) ≡ false
+  pub roomy-page : Room g i → isEmpty (thePlan g s i .written) ≡ false
   roomy-page r =
-      let ch = chip-small (s .blocks) torn size in
-      let rd = good-ready s i g bytes pending number in
-      let some = good-buffer s i g pending .pending in
-      let wide = wide-small (s .blocks) (good-chip s i g .least) in
-      ap (λ (q : Plan). isEmpty (q .written)) (plan-good s i g bytes pending number)
-      ∙ safe-some small (limitOf s) (s .blocks) torn ch (pagesOf small i) (nodesOf small s i) (s .commit) (unitsOf s) rd some wide (spareBlocks small (s .blocks))
-      (committed small (limitOf s) (s .blocks) torn ch (pagesOf small i) (nodesOf small s i) (s .commit) (unitsOf s) rd some wide (good-room s i g r))
+      let ch = chip-of g fit (s .blocks) torn size in
+      let rd = good-ready g s i ok fit bytes pending number in
+      let some = good-buffer g s i ok pending .pending in
+      let w = wide g fit (s .blocks) (good-chip g s i ok .least) in
+      ap (λ (q : Plan). isEmpty (q .written)) (plan-good g s i ok fit bytes pending number)
+      ∙ safe-some g (limitOf s) (s .blocks) torn ch (pagesOf g i) (nodesOf g s i) (s .commit) (unitsOf s) rd some w (spareBlocks g (s .blocks))
+      (committed g (limitOf s) (s .blocks) torn ch (pagesOf g i) (nodesOf g s i) (s .commit) (unitsOf s) rd some w (good-room g s i ok r))

@@ -7,7 +7,7 @@ use Prim.Native.Nat.{ℕ}
 use lib.ListN.{length}
 use Rattle.lists.proofs.Tests.{clash}
 use Rattle.chip.specs.Counts.{total}
-use Rattle.chip.specs.Geometry.{small, blocksOf}
+use Rattle.chip.specs.Geometry.{Geometry, blocksOf}
 use Rattle.tree.specs.Tree.{Table}
 use Rattle.promise.specs.Plain.{accepted, leaf}
 use Rattle.promise.specs.Calls as C
@@ -38,35 +38,35 @@ use Rattle.store.proofs.StepLaws.{step-allowed}
 use Rattle.store.proofs.StartTree.{mounted-tree}
 
 -- a step of the code that was lent the one image whole
-abbrev pub stepped : Call → (torn : List ℕ) → State → (image : List ℕ) → Stepped → (left : List ℕ) → Step (index small)
-stepped call torn s i r i' =
+abbrev pub stepped : (g : Geometry) → Call → (torn : List ℕ) → State → (image : List ℕ) → Stepped → (left : List ℕ) → Step (index g)
+stepped g call torn s i r i' =
     record { act = actOf call torn; given = s; lent = i; left = i'; answer = answerOf (r .answer); ops = total (r .ops); state = r .state; image = i' }
 
 -- it is a step of a list: a mount or a format from any state, another call from the state at hand
-pub step-takes : (H : State → Type 0) (call : Call) (torn : List ℕ) (s : State) (i : List ℕ) (r : Stepped) (i' : List ℕ) → StepsBy call torn s i r i'
-    → (boots (actOf call torn) ≡ false → H s) → Takes small (index small) H i (stepped call torn s i r i')
-step-takes H call torn s i r i' h u = record { allowed = step-allowed call torn s i r i' h; lends = one refl refl; handed = u }
+pub step-takes : (g : Geometry) (H : State → Type 0) (call : Call) (torn : List ℕ) (s : State) (i : List ℕ) (r : Stepped) (i' : List ℕ) → StepsBy g call torn s i r i'
+    → (boots (actOf call torn) ≡ false → H s) → Takes g (index g) H i (stepped g call torn s i r i')
+step-takes g H call torn s i r i' h u = record { allowed = step-allowed g call torn s i r i' h; lends = one refl refl; handed = u }
 
 -- a box that was without power: a mount and a format go on with a list whatever state they are given
-pub mount-takes : (H : State → Type 0) (n : ℕ) (torn : List ℕ) (s : State) (i : List ℕ) (r : Stepped) (i' : List ℕ) → StepsBy (Mount n) torn s i r i'
-    → Takes small (index small) H i (stepped (Mount n) torn s i r i')
-mount-takes H n torn s i r i' h = step-takes H (Mount n) torn s i r i' h (λ e. clash refl e)
+pub mount-takes : (g : Geometry) (H : State → Type 0) (n : ℕ) (torn : List ℕ) (s : State) (i : List ℕ) (r : Stepped) (i' : List ℕ) → StepsBy g (Mount n) torn s i r i'
+    → Takes g (index g) H i (stepped g (Mount n) torn s i r i')
+mount-takes g H n torn s i r i' h = step-takes g H (Mount n) torn s i r i' h (λ e. clash refl e)
 
-pub format-takes : (H : State → Type 0) (n : ℕ) (torn : List ℕ) (s : State) (i : List ℕ) (r : Stepped) (i' : List ℕ) → StepsBy (Format n) torn s i r i'
-    → Takes small (index small) H i (stepped (Format n) torn s i r i')
-format-takes H n torn s i r i' h = step-takes H (Format n) torn s i r i' h (λ e. clash refl e)
+pub format-takes : (g : Geometry) (H : State → Type 0) (n : ℕ) (torn : List ℕ) (s : State) (i : List ℕ) (r : Stepped) (i' : List ℕ) → StepsBy g (Format n) torn s i r i'
+    → Takes g (index g) H i (stepped g (Format n) torn s i r i')
+format-takes g H n torn s i r i' h = step-takes g H (Format n) torn s i r i' h (λ e. clash refl e)
 
 -- ---- where a list starts
 -- a finished format is a start, and so is a finished mount of an image that has room; there K is a tree of the chip
-pub index-starts : (s : State) (i : List ℕ) → Formatted small (index small) s i → Started small (index small) (leaf (blocksOf small (length i))) 1 s i
-index-starts = format-starts small (index small)
+pub index-starts : (g : Geometry) (s : State) (i : List ℕ) → Formatted g (index g) s i → Started g (index g) (leaf (blocksOf g (length i))) 1 s i
+index-starts g = format-starts g (index g)
 
-pub index-mounts : (n : ℕ) (torn : List ℕ) (s : State) (i : List ℕ) (ops : ℕ) (s' : State) (i' : List ℕ) (K : Table) (G : ℕ)
-    → imageMeaning small i ≡ means K G → C.Mount small (index small) n torn s i accepted ops s' i' → Mounted small (index small) K G s' i' × (Room small i → Started small (index small) K G s' i')
-index-mounts = mount-mounts small (index small)
+pub index-mounts : (g : Geometry) (n : ℕ) (torn : List ℕ) (s : State) (i : List ℕ) (ops : ℕ) (s' : State) (i' : List ℕ) (K : Table) (G : ℕ)
+    → imageMeaning g i ≡ means K G → C.Mount g (index g) n torn s i accepted ops s' i' → Mounted g (index g) K G s' i' × (Room g i → Started g (index g) K G s' i')
+index-mounts g = mount-mounts g (index g)
 
-pub index-tree : (K : Table) (G : ℕ) (s : State) (i : List ℕ) → Mounted small (index small) K G s i → TreeOf (blocksOf small (length i)) K
-index-tree = mounted-tree
+pub index-tree : (g : Geometry) (K : Table) (G : ℕ) (s : State) (i : List ℕ) → Mounted g (index g) K G s i → TreeOf (blocksOf g (length i)) K
+index-tree g = mounted-tree g
 
 -- the calls of the code, their keys of 32 bits, are lawful
 pub index-lawful : (c : Call) (torn : List ℕ) → KeyBits c → LawfulAct (actOf c torn)
@@ -79,90 +79,90 @@ index-lawful (Commit n) torn h = tt
 index-lawful (Mount n) torn h = tt
 
 -- ---- what holds of every list
-pub index-promise : P.Promise small (index small)
-index-promise = L.promise small (index small)
+pub index-promise : (g : Geometry) → P.Promise g (index g)
+index-promise g = L.promise g (index g)
 
-pub index-claim : P.OneClaim small (index small)
-index-claim = L.one-claim small (index small)
+pub index-claim : (g : Geometry) → P.OneClaim g (index g)
+index-claim g = L.one-claim g (index g)
 
-pub index-choices : P.ChosenThen small (index small)
-index-choices = L.chosen-then small (index small)
+pub index-choices : (g : Geometry) → P.ChosenThen g (index g)
+index-choices g = L.chosen-then g (index g)
 
-pub index-any : P.PromiseAny small (index small)
-index-any = L.promise-any small (index small)
+pub index-any : (g : Geometry) → P.PromiseAny g (index g)
+index-any g = L.promise-any g (index g)
 
-pub index-foreign : P.PromiseForeign small (index small)
-index-foreign = L.promise-foreign small (index small)
+pub index-foreign : (g : Geometry) → P.PromiseForeign g (index g)
+index-foreign g = L.promise-foreign g (index g)
 
-pub index-good : P.GoodAt small (index small)
-index-good = L.good-at small (index small)
+pub index-good : (g : Geometry) → P.GoodAt g (index g)
+index-good g = L.good-at g (index g)
 
-pub index-commit : P.CommitRefused small (index small)
-index-commit = L.commit-refused small (index small)
+pub index-commit : (g : Geometry) → P.CommitRefused g (index g)
+index-commit g = L.commit-refused g (index g)
 
-pub index-mount : P.MountRefused small (index small)
-index-mount = L.mount-refused small (index small)
+pub index-mount : (g : Geometry) → P.MountRefused g (index g)
+index-mount g = L.mount-refused g (index g)
 
-pub index-format : P.FormatRefused small (index small)
-index-format = L.format-refused small (index small)
+pub index-format : (g : Geometry) → P.FormatRefused g (index g)
+index-format g = L.format-refused g (index g)
 
-pub index-power : P.CommitPowered small (index small)
-index-power = L.commit-powered small (index small)
+pub index-power : (g : Geometry) → P.CommitPowered g (index g)
+index-power g = L.commit-powered g (index g)
 
-pub index-look-up : P.LookUpTells small (index small)
-index-look-up = D.look-up-tells small (index small)
+pub index-look-up : (g : Geometry) → P.LookUpTells g (index g)
+index-look-up g = D.look-up-tells g (index g)
 
-pub index-durable : P.Durable small (index small)
-index-durable = D.durable small (index small)
+pub index-durable : (g : Geometry) → P.Durable g (index g)
+index-durable g = D.durable g (index g)
 
-pub index-choice : P.ChoiceHolds small (index small)
-index-choice = D.choice-holds small (index small)
+pub index-choice : (g : Geometry) → P.ChoiceHolds g (index g)
+index-choice g = D.choice-holds g (index g)
 
-pub index-mount-drops : P.MountDrops small (index small)
-index-mount-drops = D.mount-drops small (index small)
+pub index-mount-drops : (g : Geometry) → P.MountDrops g (index g)
+index-mount-drops g = D.mount-drops g (index g)
 
 -- ---- erases on record
-pub index-unworn : E.StartsUnworn small (index small)
-index-unworn = F.starts-unworn small (index small)
+pub index-unworn : (g : Geometry) → E.StartsUnworn g (index g)
+index-unworn g = F.starts-unworn g (index g)
 
-pub index-figures : E.FiguresTell small (index small)
-index-figures = F.figures-tell small (index small)
+pub index-figures : (g : Geometry) → E.FiguresTell g (index g)
+index-figures g = F.figures-tell g (index g)
 
-pub index-figures-any : E.FiguresAny small (index small)
-index-figures-any = F.figures-any small (index small)
+pub index-figures-any : (g : Geometry) → E.FiguresAny g (index g)
+index-figures-any g = F.figures-any g (index g)
 
-pub index-figures-fit : E.FiguresFit small (index small)
-index-figures-fit = F.figures-fit small (index small)
+pub index-figures-fit : (g : Geometry) → E.FiguresFit g (index g)
+index-figures-fit g = F.figures-fit g (index g)
 
 -- ---- an erase pays: from a state that calls gave, with no call cut and no format finished; so after a finished format
-pub index-unbroken : (s : State) (i : List ℕ) (xs : List (Step (index small))) → Formatted small (index small) s i → Runs small (index small) (Only (index small) s) i xs
-    → W.NoneCut (index small) xs → NoFormat (index small) xs → W.Unbroken small (index small) s i xs
-index-unbroken s i xs f r c n = record { good = index-starts s i f .mounted .good; runs = r; uncut = c; unformatted = n }
+pub index-unbroken : (g : Geometry) (s : State) (i : List ℕ) (xs : List (Step (index g))) → Formatted g (index g) s i → Runs g (index g) (Only (index g) s) i xs
+    → W.NoneCut (index g) xs → NoFormat (index g) xs → W.Unbroken g (index g) s i xs
+index-unbroken g s i xs f r c n = record { good = index-starts g s i f .mounted .good; runs = r; uncut = c; unformatted = n }
 
-pub index-once-each : W.OnceEach small (index small)
-index-once-each = once-each small (index small)
+pub index-once-each : (g : Geometry) → W.OnceEach g (index g)
+index-once-each g = once-each g (index g)
 
-pub index-erases-pay : W.ErasesPay small (index small)
-index-erases-pay = erases-pay small (index small)
+pub index-erases-pay : (g : Geometry) → W.ErasesPay g (index g)
+index-erases-pay g = erases-pay g (index g)
 
-pub index-erases-few : W.ErasesFew small (index small)
-index-erases-few = erases-few small (index small)
+pub index-erases-few : (g : Geometry) → W.ErasesFew g (index g)
+index-erases-few g = erases-few g (index g)
 
-pub index-leaves-free : W.LeavesFree small (index small)
-index-leaves-free = leaves-free small (index small)
+pub index-leaves-free : (g : Geometry) → W.LeavesFree g (index g)
+index-leaves-free g = leaves-free g (index g)
 
 -- ---- what a commit would cost: a forecast put before a commit tells what that does; and it changes nothing
-pub index-forecast : N.ForecastHolds small (index small)
-index-forecast = forecast-holds small (index small)
+pub index-forecast : (g : Geometry) → N.ForecastHolds g (index g)
+index-forecast g = forecast-holds g (index g)
 
-pub index-forecast-now : N.ForecastNow small (index small)
-index-forecast-now = forecast-now small (index small)
+pub index-forecast-now : (g : Geometry) → N.ForecastNow g (index g)
+index-forecast-now g = forecast-now g (index g)
 
-pub index-read-still : N.ReadStill small (index small)
-index-read-still = read-still small (index small)
+pub index-read-still : (g : Geometry) → N.ReadStill g (index g)
+index-read-still g = read-still g (index g)
 
-pub index-refused-still : N.RefusedStill small (index small)
-index-refused-still = refused-still small (index small)
+pub index-refused-still : (g : Geometry) → N.RefusedStill g (index g)
+index-refused-still g = refused-still g (index g)
 
-pub index-still-out : N.StillOut small (index small)
-index-still-out = still-out small (index small)
+pub index-still-out : (g : Geometry) → N.StillOut g (index g)
+index-still-out g = still-out g (index g)

@@ -7,7 +7,7 @@ use native.Mathlib.Omega.{arith}
 use lib.ListN.{length, length-reverse}
 use Rattle.lists.specs.Lists.{All, more}
 use Rattle.lists.proofs.Flats.{getD-tab}
-use Rattle.chip.specs.Geometry.{small}
+use Rattle.chip.specs.Geometry.{Geometry}
 use Rattle.chip.specs.Chip.{pagesOf}
 use Rattle.views.specs.Table as Views
 use Rattle.views.specs.Table.{Node, fresh}
@@ -40,23 +40,23 @@ abbrev nodesIn : Views.NodesRead → List Node
 nodesIn (Views.refusal n) = []
 nodesIn (Views.means nodes G) = nodes
 
-module _ (s : State) (i : List ℕ) where
-  list-length : (n : ℕ) → n < limitOf s → length (nodeAt (nodesOf small s i) n .pages) ≡ length (storedList (s .lens) (s .slots) n)
+module _ (g : Geometry) (s : State) (i : List ℕ) where
+  list-length : (n : ℕ) → n < limitOf s → length (nodeAt (nodesOf g s i) n .pages) ≡ length (storedList (s .lens) (s .slots) n)
   unfolding nodesOf
   list-length n h =
-      ap (λ (x : Node). length (x .pages)) (getD-tab (nodeFrom small s i) 0 (limitOf s) n fresh h ∙ ap (nodeFrom small s i) (let z : 0 + n ≡ n = omega arith in z))
+      ap (λ (x : Node). length (x .pages)) (getD-tab (nodeFrom g s i) 0 (limitOf s) n fresh h ∙ ap (nodeFrom g s i) (let z : 0 + n ≡ n = omega arith in z))
       ∙ length-reverse (storedList (s .lens) (s .slots) n)
 
-  lists-read : (ns : List ℕ) → All (λ (m : ℕ). there (at (presentOf small s i) m) ≡ 1) ns → listLengths (nodesOf small s i) ns ≡ pagesRead (s .lens) (s .slots) ns
+  lists-read : (ns : List ℕ) → All (λ (m : ℕ). there (at (presentOf g s i) m) ≡ 1) ns → listLengths (nodesOf g s i) ns ≡ pagesRead (s .lens) (s .slots) ns
   lists-read [] a = refl
   lists-read (n ∷ ns) (more h a) =
-      ap₂ _+_ (list-length n (omega (arith, there-below (presentOf small s i) n h, present-size s i))) (lists-read ns a)
+      ap₂ _+_ (list-length n (omega (arith, there-below (presentOf g s i) n h, present-size g s i))) (lists-read ns a)
 
-  pub list-lengths : (k : ℕ) → k < top → Good small s i → (nodes : List Node) (G : ℕ) → Views.meaning small (limitOf s) (pagesOf small i) ≡ Views.means nodes G
-      → listLengths nodes (path k (presentOf small s i)) ≡ pagesRead (s .lens) (s .slots) (path k (presentOf small s i))
-  list-lengths k h g nodes G e =
-      ap (λ (xs : List Node). listLengths xs (path k (presentOf small s i))) (ap nodesIn (sym e ∙ g .means))
-      ∙ lists-read (path k (presentOf small s i)) (path-there k (presentOf small s i) (g .tree) h)
+  pub list-lengths : (k : ℕ) → k < top → Good g s i → (nodes : List Node) (G : ℕ) → Views.meaning g (limitOf s) (pagesOf g i) ≡ Views.means nodes G
+      → listLengths nodes (path k (presentOf g s i)) ≡ pagesRead (s .lens) (s .slots) (path k (presentOf g s i))
+  list-lengths k h ok nodes G e =
+      ap (λ (xs : List Node). listLengths xs (path k (presentOf g s i))) (ap nodesIn (sym e ∙ ok .means))
+      ∙ lists-read (path k (presentOf g s i)) (path-there k (presentOf g s i) (ok .tree) h)
 
 -- ---- look up
 abbrev pub lookFrom : Found → ℕ → Look
@@ -67,15 +67,15 @@ look-is : (f : Found) (n : ℕ) → (lookOf (lookFrom f n) ≡ lookedUp f) × (p
 look-is absent n = (refl, refl, λ e. not-one e (λ z. omega arith), λ e. not-one e (λ z. omega arith), refl)
 look-is (found v) n = (refl, refl, λ e. (let z : _≡_ {A = ℕ} 0 1 = cc in absurd (omega arith)), λ e. (let z : _≡_ {A = ℕ} 0 1 = cc in absurd (omega arith)), refl)
 
-module _ (k : ℕ) (s : State) (i : List ℕ) where
+module _ (g : Geometry) (k : ℕ) (s : State) (i : List ℕ) where
   -- refused with 2 or 1
-  pub look-refused : (r : Look) (n : ℕ) → lookOf r ≡ refuses (suc n) → tellsOr (2 ∷ 1 ∷ 4 ∷ []) (lookOf r) ≡ true → pagesTold r ≡ 0 → suc n ≡ admission small (s .on) (s .blocks) (length i) → Looks k s i r
+  pub look-refused : (r : Look) (n : ℕ) → lookOf r ≡ refuses (suc n) → tellsOr (2 ∷ 1 ∷ 4 ∷ []) (lookOf r) ≡ true → pagesTold r ≡ 0 → suc n ≡ admission g (s .on) (s .blocks) (length i) → Looks g k s i r
   unfolding lookingUp
   look-refused r n q kind p e =
       record {
         says =
             record {
-              first = first-refused (looksUp k (length i)) s i (lookOf r) n e q;
+              first = first-refused g (looksUp k (length i)) s i (lookOf r) n e q;
               range = kind;
               same = record { state = refl; image = refl };
               done = λ _ h. let z : suc n ≡ 0 = e ∙ h in absurd (omega arith);
@@ -86,28 +86,28 @@ module _ (k : ℕ) (s : State) (i : List ℕ) where
         few = omega arith;
       }
 
-  module _ (e : 0 ≡ admission small (s .on) (s .blocks) (length i)) where
-    look-done : (f : Found) (n : ℕ) → k < top → f ≡ find k (presentOf small s i) → n ≡ pagesRead (s .lens) (s .slots) (path k (presentOf small s i)) → n ≤ 16
-        → Looks k s i (lookFrom f n)
+  module _ (e : 0 ≡ admission g (s .on) (s .blocks) (length i)) where
+    look-done : (f : Found) (n : ℕ) → k < top → f ≡ find k (presentOf g s i) → n ≡ pagesRead (s .lens) (s .slots) (path k (presentOf g s i)) → n ≤ 16
+        → Looks g k s i (lookFrom f n)
     unfolding lookingUp stateOf
     look-done f n h q p l =
         let w = look-is f n in
-        let u : lookOf (lookFrom f n) ≡ lookedUp (find k (presentOf small s i)) = w .0 ∙ ap lookedUp q in
+        let u : lookOf (lookFrom f n) ≡ lookedUp (find k (presentOf g s i)) = w .0 ∙ ap lookedUp q in
         record {
           says =
               record {
-                first = first-passed (looksUp k (length i)) s i (lookOf (lookFrom f n)) s e (w .2) (w .3);
+                first = first-passed g (looksUp k (length i)) s i (lookOf (lookFrom f n)) s e (w .2) (w .3);
                 range = w .4;
                 same = record { state = refl; image = refl };
                 done = λ _ _. u;
               };
           any = λ _. u;
           pages = λ _. w .1 ∙ p;
-          lists = λ g _ nodes G m. w .1 ∙ p ∙ sym (list-lengths s i k h g nodes G m);
+          lists = λ ok _ nodes G m. w .1 ∙ p ∙ sym (list-lengths g s i k h ok nodes G m);
           few = omega (arith, w .1);
         }
 
-    pub looked : (t : Looked) → Answers (s .lens) (s .slots) k (shown small (8 * s .blocks) (pagesOf small i) (s .lens) (s .slots) (s .count) (s .buffer)) t
-        → k < top → (f : Found) → hitOf (t .hit) ≡ f → Looks k s i (lookFrom f (t .pages))
+    pub looked : (t : Looked) → Answers (s .lens) (s .slots) k (shown g (8 * s .blocks) (pagesOf g i) (s .lens) (s .slots) (s .count) (s .buffer)) t
+        → k < top → (f : Found) → hitOf (t .hit) ≡ f → Looks g k s i (lookFrom f (t .pages))
     unfolding presentOf
     looked t a h f q = look-done f (t .pages) h (sym q ∙ a .found) (a .pages) (a .few)

@@ -11,7 +11,7 @@ use borrow.Author.Tests.{le-leb, lt-leb}
 use Rattle.lists.specs.Lists.{any}
 use Rattle.lists.proofs.Flats.{getD-tab, length-tab}
 use Rattle.lists.proofs.Tests.{cases}
-use Rattle.chip.specs.Geometry.{small}
+use Rattle.chip.specs.Geometry.{Geometry}
 use Rattle.chip.specs.Chip.{inBlock, pagesOf}
 use Rattle.pages.specs.declared.unit.Decoded.{Decoded}
 use Rattle.pages.specs.declared.unit.Decoded.the-variants as D
@@ -49,28 +49,28 @@ own-goods n [] = refl
 own-goods n (D.Good u ∷ ds) = cases (eqb (u .node) n) (λ t. rw (t, own-goods n ds)) (λ t. rw (t, own-goods n ds))
 own-goods n (D.Bad ∷ ds) = own-goods n ds
 
-module _ (s : State) (i : List ℕ) where
+module _ (g : Geometry) (s : State) (i : List ℕ) where
   -- what the definitions have of the nodes
-  nodes-size : length (nodesOf small s i) ≡ limitOf s
+  nodes-size : length (nodesOf g s i) ≡ limitOf s
   unfolding nodesOf
-  nodes-size = length-tab (nodeFrom small s i) 0 (limitOf s)
+  nodes-size = length-tab (nodeFrom g s i) 0 (limitOf s)
 
-  node-is : (n : ℕ) → n < limitOf s → nodeAt (nodesOf small s i) n ≡ nodeFrom small s i n
+  node-is : (n : ℕ) → n < limitOf s → nodeAt (nodesOf g s i) n ≡ nodeFrom g s i n
   unfolding nodesOf
-  node-is n l = getD-tab (nodeFrom small s i) 0 (limitOf s) n fresh l ∙ ap (nodeFrom small s i) (let e : 0 + n ≡ n = omega arith in e)
+  node-is n l = getD-tab (nodeFrom g s i) 0 (limitOf s) n fresh l ∙ ap (nodeFrom g s i) (let e : 0 + n ≡ n = omega arith in e)
 
-  list-is : (n : ℕ) → n < limitOf s → nodeAt (nodesOf small s i) n .pages ≡ reverse (storedList (s .lens) (s .slots) n)
+  list-is : (n : ℕ) → n < limitOf s → nodeAt (nodesOf g s i) n .pages ≡ reverse (storedList (s .lens) (s .slots) n)
   list-is n l = ap (λ (x : Node). x .pages) (node-is n l)
 
   view-is : (n : ℕ) → n < limitOf s
-      → nodeView small (limitOf s) (pagesOf small i) (s .lens) (s .slots) (s .count) (s .buffer) n ≡ getD (presentOf small s i) n untouched
+      → nodeView g (limitOf s) (pagesOf g i) (s .lens) (s .slots) (s .count) (s .buffer) n ≡ getD (presentOf g s i) n untouched
   unfolding presentOf shown
   view-is n l =
-      let f = nodeView small (limitOf s) (pagesOf small i) (s .lens) (s .slots) (s .count) (s .buffer) in
+      let f = nodeView g (limitOf s) (pagesOf g i) (s .lens) (s .slots) (s .count) (s .buffer) in
       sym (getD-tab f 0 (limitOf s) n untouched l ∙ ap f (let e : 0 + n ≡ n = omega arith in e))
 
   -- are what the code reads
-  contents-are : SameContents (limitOf s) (contentsIn small (limitOf s) (pagesOf small i) (s .lens) (s .slots) (s .count) (s .buffer)) (contentsAt small s i)
+  contents-are : SameContents (limitOf s) (contentsIn g (limitOf s) (pagesOf g i) (s .lens) (s .slots) (s .count) (s .buffer)) (contentsAt g s i)
   unfolding unitsOf
   contents-are =
       record {
@@ -80,22 +80,22 @@ module _ (s : State) (i : List ℕ) where
             let xs = storedList (s .lens) (s .slots) n in
             record {
               size = sym (ap length (list-is n l) ∙ length-reverse xs);
-              blocks = λ g b. sym (ap (any (inBlock g b)) (list-is n l) ∙ any-reverse (inBlock g b) xs);
+              blocks = λ ok b. sym (ap (any (inBlock ok b)) (list-is n l) ∙ any-reverse (inBlock ok b) xs);
             };
       }
 
   -- the plan that the code reads
   abbrev pub read : Plan
-  read = planRead (limitOf s) (s .blocks) (s .lens) (s .slots) (s .count) (s .buffer) (s .commit) (pagesOf small i)
+  read = planRead g (limitOf s) (s .blocks) (s .lens) (s .slots) (s .count) (s .buffer) (s .commit) (pagesOf g i)
 
-  pub plan-is : s .count ≤ 960 → planAt small s i ≡ paged read
+  pub plan-is : s .count ≤ 960 → planAt g s i ≡ paged read
   unfolding planAt
   plan-is h =
       rw (le-leb (s .count) 960 h)
-      (ap paged (sym (read-plan (limitOf s) (s .blocks) (s .lens) (s .slots) (s .count) (s .buffer) (s .commit) (pagesOf small i) (nodesOf small s i) nodes-size
-      (λ n l. sym (ap reverse (list-is n l) ∙ reverse-reverse (storedList (s .lens) (s .slots) n))) (contentsAt small s i) contents-are)))
+      (ap paged (sym (read-plan g (limitOf s) (s .blocks) (s .lens) (s .slots) (s .count) (s .buffer) (s .commit) (pagesOf g i) (nodesOf g s i) nodes-size
+      (λ n l. sym (ap reverse (list-is n l) ∙ reverse-reverse (storedList (s .lens) (s .slots) n))) (contentsAt g s i) contents-are)))
 
   -- and nothing where the buffer claims too many units
-  pub plan-none : 960 < s .count → planAt small s i ≡ stuck
+  pub plan-none : 960 < s .count → planAt g s i ≡ stuck
   unfolding planAt
   plan-none h = rw (lt-leb (s .count) 960 h)

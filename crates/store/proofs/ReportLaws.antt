@@ -3,15 +3,18 @@ use mathlib.Core.Path.{_≡_, refl, sym, ap, _∙_}
 use mathlib.Core.List.{List, _++_}
 use Prim.Native.Nat.{ℕ, zero, suc, _+_, _*_, _-_, _/_, _<_, _≤_}
 use lib.Dec.{leb}
+use native.Mathlib.Nat.{mul-assoc}
 use native.Mathlib.Omega.{arith}
 use lib.ListN.{length, getD, take, drop, length-drop, take-append-drop}
 use lib.Seq.{take-at, drop-at, length-take-le}
 use borrow.Author.Tests.{le-leb, lt-leb}
 use Rattle.lists.specs.Lists.{part, cut, count, first}
 use Rattle.lists.proofs.Parts.{length-part, length-cut, cut-append}
-use Rattle.chip.specs.Geometry.{small}
+use Rattle.chip.specs.Geometry.{Geometry, Fits, pageSize, blockSize}
 use Rattle.chip.specs.Page.{isFree}
 use Rattle.chip.specs.Chip.{pagesOf}
+use Rattle.chip.proofs.ImageLaws.{block-cut}
+use Rattle.chip.proofs.Sizes.{block-on, block-end, blocks-pages}
 use Rattle.promise.specs.Plain.{admission, orElse, when}
 use Rattle.store.specs.declared.answer.Report.{Report}
 use Rattle.store.specs.declared.answer.Report.the-variants.{Free, Absent}
@@ -32,26 +35,28 @@ cut-part k a m r n xs e la lm =
     ∙ take-at (cut k m (take (m * k) ys)) (cut k r (drop (m * k) ys)) m (length-cut k m (take (m * k) ys))
 
 -- block b of a chip of so many blocks
-pub block-pages : (b blocks : ℕ) (xs : List ℕ) → length xs ≡ blocks * 16896 → b < blocks → pagesOf small (part (b * 16896) 16896 xs) ≡ blockPages small b xs
+pub block-pages : (g : Geometry) → Fits g → (b blocks : ℕ) (xs : List ℕ) → length xs ≡ blocks * blockSize g → b < blocks
+    → pagesOf g (part (b * blockSize g) (blockSize g) xs) ≡ blockPages g b xs
 unfolding pagesOf
-block-pages b blocks xs l h =
-    let p : List ℕ = part (b * 16896) 16896 xs in
-    let lp : length p ≡ 16896 = length-part xs (b * 16896) 16896 (omega arith) in
-    let np : length p / 528 ≡ 32 = omega (arith, lp) in
-    let start : b * 32 * 528 ≡ b * 16896 = omega arith in
-    let la : length (take (b * 32 * 528) xs) ≡ b * 32 * 528 = length-take-le (b * 32 * 528) xs (omega arith) in
-    let lm : length (take (32 * 528) (drop (b * 32 * 528) xs)) ≡ 32 * 528 = length-take-le (32 * 528) (drop (b * 32 * 528) xs) (simp length-drop (omega arith)) in
-    ap (λ (n : ℕ). cut 528 n p) np
-    ∙ ap (λ (n : ℕ). cut 528 32 (part n 16896 xs)) (sym start)
-    ∙ sym (cut-part 528 (b * 32) 32 (length xs / 528 - (b * 32 + 32)) (length xs / 528) xs (omega arith) la lm)
+block-pages g f b blocks xs l h =
+    let k : ℕ = pageSize g in
+    let m : ℕ = g .pages in
+    let in-bytes : b * blockSize g + blockSize g ≤ length xs = omega (arith, l, block-end g b blocks h) in
+    let in-pages : length xs / k ≡ b * m + (m + (length xs / k - (b * m + m))) = omega (arith, blocks-pages g f (length xs) blocks l, block-on g b blocks h) in
+    let start : b * m * k ≡ b * blockSize g = mul-assoc b m k in
+    block-cut g (part (b * blockSize g) (blockSize g) xs) f (length-part xs (b * blockSize g) (blockSize g) in-bytes)
+    ∙ ap (λ (n : ℕ). cut k m (part n (blockSize g) xs)) (sym start)
+    ∙ sym (cut-part k (b * m) m (length xs / k - (b * m + m)) (length xs / k) xs in-pages
+    (length-take-le (b * m * k) xs (omega (arith, start, in-bytes)))
+    (length-take-le (m * k) (drop (b * m * k) xs) (simp length-drop (omega (arith, start, in-bytes)))))
 
 first-or : (n m : ℕ) → 0 < n → n ≡ orElse n m
 first-or zero m h = absurd (omega arith)
 first-or (suc n) m h = refl
 
-module _ (b : ℕ) (s : State) (i : List ℕ) where
+module _ (g : Geometry) (b : ℕ) (s : State) (i : List ℕ) where
   -- refused with 2 or 1
-  pub report-first : (r : Report) → 0 < reportRefusal r → reportRefusal r ≡ admission small (s .on) (s .blocks) (length i) → Reports b s i r
+  pub report-first : (r : Report) → 0 < reportRefusal r → reportRefusal r ≡ admission g (s .on) (s .blocks) (length i) → Reports g b s i r
   report-first r h e =
       record {
         refusal = first-or (reportRefusal r) (when 4 (leb (s .blocks) b)) h ∙ ap (λ (m : ℕ). orElse m (when 4 (leb (s .blocks) b))) e;
@@ -60,12 +65,12 @@ module _ (b : ℕ) (s : State) (i : List ℕ) where
         erases = λ z. absurd (omega arith);
       }
 
-  module _ (e : 0 ≡ admission small (s .on) (s .blocks) (length i)) where
-    number-is : (n : ℕ) → n ≡ when 4 (leb (s .blocks) b) → n ≡ reportNumber small s (length i) b
+  module _ (e : 0 ≡ admission g (s .on) (s .blocks) (length i)) where
+    number-is : (n : ℕ) → n ≡ when 4 (leb (s .blocks) b) → n ≡ reportNumber g s (length i) b
     number-is n q = q ∙ ap (λ (m : ℕ). orElse m (when 4 (leb (s .blocks) b))) e
 
     -- and with 4
-    pub report-absent : s .blocks ≤ b → Reports b s i Absent
+    pub report-absent : s .blocks ≤ b → Reports g b s i Absent
     report-absent h =
         record {
           refusal = number-is 4 (rw (le-leb (s .blocks) b h));
@@ -75,11 +80,11 @@ module _ (b : ℕ) (s : State) (i : List ℕ) where
         }
 
     -- the free pages of the block's part of the image
-    pub report-free : b < s .blocks → length i ≡ s .blocks * 16896 → (n f e size : ℕ) → size ≡ 16896
-        → n ≡ count isFree (pagesOf small (part (b * 16896) size i)) → f ≡ first isFree (pagesOf small (part (b * 16896) size i))
-        → e ≡ getD (s .erases) b 0 → Reports b s i (Free n f e)
-    report-free h l n f e size z c d k =
-        let w : pagesOf small (part (b * 16896) size i) ≡ blockPages small b i = ap (λ (m : ℕ). pagesOf small (part (b * 16896) m i)) z ∙ block-pages b (s .blocks) i l h in
+    pub report-free : Fits g → b < s .blocks → length i ≡ s .blocks * blockSize g → (n f e size : ℕ) → size ≡ blockSize g
+        → n ≡ count isFree (pagesOf g (part (b * blockSize g) size i)) → f ≡ first isFree (pagesOf g (part (b * blockSize g) size i))
+        → e ≡ getD (s .erases) b 0 → Reports g b s i (Free n f e)
+    report-free fit h l n f e size z c d k =
+        let w : pagesOf g (part (b * blockSize g) size i) ≡ blockPages g b i = ap (λ (m : ℕ). pagesOf g (part (b * blockSize g) m i)) z ∙ block-pages g fit b (s .blocks) i l h in
         record {
           refusal = number-is 0 (rw (lt-leb (s .blocks) b h));
           free = λ _. c ∙ ap (count isFree) w;

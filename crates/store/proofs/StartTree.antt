@@ -4,7 +4,7 @@ use mathlib.Core.List.{List}
 use Prim.Native.Nat.{ℕ, _≤_}
 use lib.ListN.{length}
 use Rattle.lists.proofs.Flats.{length-tab}
-use Rattle.chip.specs.Geometry.{small, blocksOf}
+use Rattle.chip.specs.Geometry.{Geometry, blocksOf}
 use Rattle.tree.specs.Tree.{Table}
 use Rattle.tree.specs.Shown.{shown}
 use Rattle.promise.specs.Plain.{Plain, resting}
@@ -15,16 +15,16 @@ use Rattle.store.specs.declared.state.State.{State}
 use Rattle.store.specs.State.{limitOf, presentOf, Good}
 use Rattle.store.specs.Contracts.{index}
 
-pub present-size : (s : State) (i : List ℕ) → length (presentOf small s i) ≡ limitOf s
+pub present-size : (g : Geometry) (s : State) (i : List ℕ) → length (presentOf g s i) ≡ limitOf s
 unfolding presentOf shown
-present-size s i = simp length-tab
+present-size g s i = simp length-tab
 
-pub good-tree : (s : State) (i : List ℕ) → Good small s i → TreeOf (s .blocks) (presentOf small s i)
-good-tree s i g = record { tree = g .tree; size = present-size s i; numbers = subst (λ (n : ℕ). n ≤ limitOf s) (g .next) (g .numbers); levels = g .levels }
+pub good-tree : (g : Geometry) (s : State) (i : List ℕ) → Good g s i → TreeOf (s .blocks) (presentOf g s i)
+good-tree g s i ok = record { tree = ok .tree; size = present-size g s i; numbers = subst (λ (n : ℕ). n ≤ limitOf s) (ok .next) (ok .numbers); levels = ok .levels }
 
-pub mounted-tree : (K : Table) (G : ℕ) (s : State) (i : List ℕ) → Mounted small (index small) K G s i → TreeOf (blocksOf small (length i)) K
+pub mounted-tree : (g : Geometry) (K : Table) (G : ℕ) (s : State) (i : List ℕ) → Mounted g (index g) K G s i → TreeOf (blocksOf g (length i)) K
 unfolding stateOf resting
-mounted-tree K G s i m =
-    let p : presentOf small s i ≡ K = ap (λ (q : Plain). q .present) (m .is) in
-    let b : s .blocks ≡ blocksOf small (length i) = ap (λ (q : Plain). q .blocks) (m .is) in
-    subst (λ (t : Table). TreeOf (blocksOf small (length i)) t) p (subst (λ (B : ℕ). TreeOf B (presentOf small s i)) b (good-tree s i (m .good)))
+mounted-tree g K G s i m =
+    let p : presentOf g s i ≡ K = ap (λ (q : Plain). q .present) (m .is) in
+    let b : s .blocks ≡ blocksOf g (length i) = ap (λ (q : Plain). q .blocks) (m .is) in
+    subst (λ (t : Table). TreeOf (blocksOf g (length i)) t) p (subst (λ (B : ℕ). TreeOf B (presentOf g s i)) b (good-tree g s i (m .good)))

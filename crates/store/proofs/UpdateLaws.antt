@@ -10,7 +10,7 @@ use lib.ListN.{length, take, drop, length-append}
 use Rattle.lists.specs.Lists.{All, all}
 use Rattle.lists.proofs.Tests.{cases, clash, and-left, and-right, and-intro}
 use Rattle.lists.proofs.Alls.{All-append}
-use Rattle.chip.specs.Geometry.{small}
+use Rattle.chip.specs.Geometry.{Geometry}
 use Rattle.chip.specs.Chip.{pagesOf}
 use Rattle.pages.specs.declared.unit.Unit as U
 use Rattle.pages.specs.declared.unit.Decoded.the-variants as D
@@ -122,8 +122,8 @@ units-many limit n b us e = sym (length-decodes limit n b) ∙ ap length e ∙ l
 
 -- ---- the state after an update
 -- us behind the units of the buffer make the table t
-pub record Pushed (s : State) (i new : List ℕ) (used x : ℕ) (us : List U.Unit) (t : Table) : Type 0 where
-  pub table : presentOf small (withUnits s new used x) i ≡ t
+pub record Pushed (g : Geometry) (s : State) (i new : List ℕ) (used x : ℕ) (us : List U.Unit) (t : Table) : Type 0 where
+  pub table : presentOf g (withUnits s new used x) i ≡ t
   pub units : decodes (limitOf s) used new ≡ map D.Good (unitsOf s ++ us)
   pub valid : All (Valid (limitOf s)) us
   pub few : used ≤ s .count + 60
@@ -135,8 +135,8 @@ pub record Pushed (s : State) (i new : List ℕ) (used x : ℕ) (us : List U.Uni
   pub next : x ≡ T.next t
   pub numbers : x ≤ limitOf s
 
-module _ (s : State) (i : List ℕ) (G : Good small s i) (low : s .pending < 16) where
-  pub ready : I.Ready (limitOf s) (s .next) (s .count) (s .buffer) (unitsOf s) (presentOf small s i)
+module _ (g : Geometry) (s : State) (i : List ℕ) (G : Good g s i) (low : s .pending < 16) where
+  pub ready : I.Ready (limitOf s) (s .next) (s .count) (s .buffer) (unitsOf s) (presentOf g s i)
   ready =
       record {
         tree = G .tree;
@@ -148,12 +148,12 @@ module _ (s : State) (i : List ℕ) (G : Good small s i) (low : s .pending < 16)
         room = omega (arith, G .few);
       }
 
-  module _ (new : List ℕ) (used x : ℕ) (us : List U.Unit) (t : Table) (p : Pushed s i new used x us t) where
+  module _ (new : List ℕ) (used x : ℕ) (us : List U.Unit) (t : Table) (p : Pushed g s i new used x us t) where
     units-after : unitsOf (withUnits s new used x) ≡ unitsOf s ++ us
     unfolding unitsOf
     units-after = ap goods (p .units) ∙ goods-good (goods (decodes (limitOf s) (s .count) (s .buffer)) ++ us)
 
-    good-after : Good small (withUnits s new used x) i
+    good-after : Good g (withUnits s new used x) i
     unfolding nodesOf
     good-after =
         record {
@@ -177,11 +177,11 @@ module _ (s : State) (i : List ℕ) (G : Good small s i) (low : s .pending < 16)
           numbers = p .numbers;
         }
 
-    means-after : stateOf (index small) (withUnits s new used x) i ≡ updated t (stateOf (index small) s i)
+    means-after : stateOf (index g) (withUnits s new used x) i ≡ updated t (stateOf (index g) s i)
     unfolding stateOf updated
     means-after =
         ap₂ (λ (q : Table) (n : ℕ). record {
-          kept = treeIn (imageMeaning small i);
+          kept = treeIn (imageMeaning g i);
           present = q;
           pending = n;
           number = s .commit;
@@ -190,16 +190,16 @@ module _ (s : State) (i : List ℕ) (G : Good small s i) (low : s .pending < 16)
         })
         (p .table) (add-one (s .pending))
 
-    pub stays : Stays (withUnits s new used x) i (updated t (stateOf (index small) s i))
+    pub stays : Stays g (withUnits s new used x) i (updated t (stateOf (index g) s i))
     stays = record { is = means-after; good = good-after }
 
 -- ---- an insert and a delete of the tree, pushed
-module _ (k v : ℕ) (s : State) (i new : List ℕ) (G : Good small s i) (low : s .pending < 16) (hk : k < top) (hv : v < top) (hl : limitOf s ≤ 256) where
-  inserted-pushed : (r : Inserted) → I.Done i (s .lens) (s .slots) (limitOf s) k v (s .count) (s .buffer) (unitsOf s) (presentOf small s i) new r
-      → Pushed s i new (r .count) (r .next) (insertUnits k v (presentOf small s i)) (inserted k v (presentOf small s i))
+module _ (g : Geometry) (k v : ℕ) (s : State) (i new : List ℕ) (G : Good g s i) (low : s .pending < 16) (hk : k < top) (hv : v < top) (hl : limitOf s ≤ 256) where
+  inserted-pushed : (r : Inserted) → I.Done g i (s .lens) (s .slots) (limitOf s) k v (s .count) (s .buffer) (unitsOf s) (presentOf g s i) new r
+      → Pushed g s i new (r .count) (r .next) (insertUnits k v (presentOf g s i)) (inserted k v (presentOf g s i))
   unfolding presentOf
   inserted-pushed r d =
-      let t : Table = presentOf small s i in
+      let t : Table = presentOf g s i in
       let w = insert-done (limitOf s) k v t (inserted k v t) (d .is) in
       let o = insert-valid (limitOf s) k v t (G .tree) (G .small) hk hv (omega arith) (G .levels) (w .2) (w .1) in
       record {
@@ -216,12 +216,12 @@ module _ (k v : ℕ) (s : State) (i new : List ℕ) (G : Good small s i) (low : 
         numbers = omega (arith, d .next, w .1);
       }
 
-module _ (k : ℕ) (s : State) (i new : List ℕ) (used : ℕ) (G : Good small s i) (low : s .pending < 16) (hk : k < top) where
-  deleted-pushed : I.Gone i (s .lens) (s .slots) (limitOf s) k (s .count) (unitsOf s) (presentOf small s i) new used
-      → Pushed s i new used (s .next) (deleteUnits k (presentOf small s i)) (delete k (presentOf small s i))
+module _ (g : Geometry) (k : ℕ) (s : State) (i new : List ℕ) (used : ℕ) (G : Good g s i) (low : s .pending < 16) (hk : k < top) where
+  deleted-pushed : I.Gone g i (s .lens) (s .slots) (limitOf s) k (s .count) (unitsOf s) (presentOf g s i) new used
+      → Pushed g s i new used (s .next) (deleteUnits k (presentOf g s i)) (delete k (presentOf g s i))
   unfolding presentOf
   deleted-pushed d =
-      let t : Table = presentOf small s i in
+      let t : Table = presentOf g s i in
       let w = delete-units k t (G .tree) hk in
       let o = delete-valid (limitOf s) k t (G .tree) (G .small) hk (omega (arith, G .next, G .numbers)) in
       record {
@@ -255,37 +255,37 @@ not-refused : {Q : Type 0} (n : ℕ) → answerOf Accepted ≡ refuses n → Q
 not-refused n d = let z : _≡_ {A = ℕ} 0 1 = cc in absurd (omega arith)
 
 -- the tree step of an insert into P
-abbrev stepOf : ℕ → ℕ → State → List ℕ → TreeStep
-stepOf k v s i = insert (8 * s .blocks) k v (presentOf small s i)
+abbrev stepOf : Geometry → ℕ → ℕ → State → List ℕ → TreeStep
+stepOf g k v s i = insert (8 * s .blocks) k v (presentOf g s i)
 
-module _ (s : State) (i : List ℕ) (low : s .pending < 16) where
+module _ (g : Geometry) (s : State) (i : List ℕ) (low : s .pending < 16) where
   stay : KeepsBounds s s
   stay = record { blocks = refl; units = omega arith }
 
   -- more units than a good state has
   module _ (many : 900 < s .count) where
-    never-many : Good small s i → ⊥
+    never-many : Good g s i → ⊥
     never-many G = omega (arith, G .few)
 
-    pub insert-many : (k v : ℕ) → InsertsIn k v s i (answered Nodes s)
+    pub insert-many : (k v : ℕ) → InsertsIn g k v s i (answered Nodes s)
     unfolding insertion
     insert-many k v = record { range = refl; still = λ _ _. refl; bounds = stay; figures = refl; refused = λ G. absurd (never-many G); done = λ G. absurd (never-many G) }
 
-    pub delete-many : (k : ℕ) → DeletesIn k s i (answered Absent s)
+    pub delete-many : (k : ℕ) → DeletesIn g k s i (answered Absent s)
     unfolding deletion
     delete-many k = record { range = refl; still = λ _ _. refl; bounds = stay; figures = refl; refused = λ G. absurd (never-many G); done = λ G. absurd (never-many G) }
 
   module _ (k v : ℕ) (hk : k < top) (hv : v < top) (hl : limitOf s ≤ 256) (new : List ℕ) (r : Inserted)
-      (a : I.Inserts i (s .lens) (s .slots) (8 * s .blocks) (s .next) k v (s .count) (s .buffer) new r) where
-    step-refused : r .refused ≡ true → Good small s i → stepOf k v s i ≡ refusal 5
+      (a : I.Inserts g i (s .lens) (s .slots) (8 * s .blocks) (s .next) k v (s .count) (s .buffer) new r) where
+    step-refused : r .refused ≡ true → Good g s i → stepOf g k v s i ≡ refusal 5
     unfolding presentOf
-    step-refused e G = a .refused e (unitsOf s) (ready s i G low)
+    step-refused e G = a .refused e (unitsOf s) (ready g s i G low)
 
-    step-done : r .refused ≡ false → Good small s i → I.Done i (s .lens) (s .slots) (limitOf s) k v (s .count) (s .buffer) (unitsOf s) (presentOf small s i) new r
+    step-done : r .refused ≡ false → Good g s i → I.Done g i (s .lens) (s .slots) (limitOf s) k v (s .count) (s .buffer) (unitsOf s) (presentOf g s i) new r
     unfolding presentOf
-    step-done e G = a .done e (unitsOf s) (ready s i G low)
+    step-done e G = a .done e (unitsOf s) (ready g s i G low)
 
-    pub insert-five : r .refused ≡ true → InsertsIn k v s i (answered Nodes s)
+    pub insert-five : r .refused ≡ true → InsertsIn g k v s i (answered Nodes s)
     unfolding insertion
     insert-five e =
         record {
@@ -293,11 +293,11 @@ module _ (s : State) (i : List ℕ) (low : s .pending < 16) where
           still = λ _ _. refl;
           bounds = stay;
           figures = refl;
-          refused = λ G m h. test-number 5 m (isRefused (stepOf k v s i)) (refuses 5) (λ _. refl) h;
-          done = λ G h. clash (ap isRefused (step-refused e G)) (test-none 4 (isRefused (stepOf k v s i)) h);
+          refused = λ G m h. test-number 5 m (isRefused (stepOf g k v s i)) (refuses 5) (λ _. refl) h;
+          done = λ G h. clash (ap isRefused (step-refused e G)) (test-none 4 (isRefused (stepOf g k v s i)) h);
         }
 
-    pub insert-accepted : r .refused ≡ false → InsertsIn k v s i (answered Accepted (withUnits s new (r .count) (r .next)))
+    pub insert-accepted : r .refused ≡ false → InsertsIn g k v s i (answered Accepted (withUnits s new (r .count) (r .next)))
     unfolding insertion
     insert-accepted e =
         record {
@@ -305,21 +305,21 @@ module _ (s : State) (i : List ℕ) (low : s .pending < 16) where
           figures = refl;
           range = refl;
           still = λ n d. not-refused n d;
-          refused = λ G m h. test-number 5 m (isRefused (stepOf k v s i)) accepted (λ t. clash t (ap isRefused (step-done e G .is))) h;
+          refused = λ G m h. test-number 5 m (isRefused (stepOf g k v s i)) accepted (λ t. clash t (ap isRefused (step-done e G .is))) h;
           done = λ G h.
-              let t = inserted k v (presentOf small s i) in
+              let t = inserted k v (presentOf g s i) in
               let d = step-done e G in
-              let q = stays s i G low new (r .count) (r .next) (insertUnits k v (presentOf small s i)) t (inserted-pushed k v s i new G low hk hv hl r d) in
-              (refl, subst (λ (u : TreeStep). Stays (withUnits s new (r .count) (r .next)) i (updated (tableAfter (presentOf small s i) u) (stateOf (index small) s i))) (sym (d .is)) q);
+              let q = stays g s i G low new (r .count) (r .next) (insertUnits k v (presentOf g s i)) t (inserted-pushed g k v s i new G low hk hv hl r d) in
+              (refl, subst (λ (u : TreeStep). Stays g (withUnits s new (r .count) (r .next)) i (updated (tableAfter (presentOf g s i) u) (stateOf (index g) s i))) (sym (d .is)) q);
         }
 
   -- ---- and of a delete
-  module _ (k : ℕ) (w : Looked) (a : Answers (s .lens) (s .slots) k (shown small (8 * s .blocks) (pagesOf small i) (s .lens) (s .slots) (s .count) (s .buffer)) w) where
-    hit-is : hitOf (w .hit) ≡ find k (presentOf small s i)
+  module _ (k : ℕ) (w : Looked) (a : Answers (s .lens) (s .slots) k (shown g (8 * s .blocks) (pagesOf g i) (s .lens) (s .slots) (s .count) (s .buffer)) w) where
+    hit-is : hitOf (w .hit) ≡ find k (presentOf g s i)
     unfolding presentOf
     hit-is = a .found
 
-    pub delete-absent : w .hit ≡ Nothing → DeletesIn k s i (answered Absent s)
+    pub delete-absent : w .hit ≡ Nothing → DeletesIn g k s i (answered Absent s)
     unfolding deletion
     delete-absent e =
         record {
@@ -327,27 +327,27 @@ module _ (s : State) (i : List ℕ) (low : s .pending < 16) where
           still = λ _ _. refl;
           bounds = stay;
           figures = refl;
-          refused = λ G m h. test-number 4 m (isAbsent (find k (presentOf small s i))) (refuses 4) (λ _. refl) h;
-          done = λ G h. clash (ap isAbsent (sym hit-is ∙ ap hitOf e)) (test-none 3 (isAbsent (find k (presentOf small s i))) h);
+          refused = λ G m h. test-number 4 m (isAbsent (find k (presentOf g s i))) (refuses 4) (λ _. refl) h;
+          done = λ G h. clash (ap isAbsent (sym hit-is ∙ ap hitOf e)) (test-none 3 (isAbsent (find k (presentOf g s i))) h);
         }
 
     module _ (hk : k < top) (new : List ℕ) (used : ℕ)
-        (d : I.Deletes i (s .lens) (s .slots) (8 * s .blocks) (w .leaf) k (s .count) (s .buffer) new used) where
-      leaf-gone : Good small s i → I.Gone i (s .lens) (s .slots) (limitOf s) k (s .count) (unitsOf s) (presentOf small s i) new used
+        (d : I.Deletes g i (s .lens) (s .slots) (8 * s .blocks) (w .leaf) k (s .count) (s .buffer) new used) where
+      leaf-gone : Good g s i → I.Gone g i (s .lens) (s .slots) (limitOf s) k (s .count) (unitsOf s) (presentOf g s i) new used
       unfolding presentOf
-      leaf-gone G = d .is (s .next) (unitsOf s) (ready s i G low) (a .leaf)
+      leaf-gone G = d .is (s .next) (unitsOf s) (ready g s i G low) (a .leaf)
 
-      pub delete-accepted : (v : ℕ) → w .hit ≡ At v → DeletesIn k s i (answered Accepted (withUnits s new used (s .next)))
+      pub delete-accepted : (v : ℕ) → w .hit ≡ At v → DeletesIn g k s i (answered Accepted (withUnits s new used (s .next)))
       unfolding deletion
       delete-accepted v e =
           record {
             range = refl;
             still = λ n d. not-refused n d;
-            refused = λ G m h. test-number 4 m (isAbsent (find k (presentOf small s i))) accepted (λ t. clash t (ap isAbsent (sym hit-is ∙ ap hitOf e))) h;
+            refused = λ G m h. test-number 4 m (isAbsent (find k (presentOf g s i))) accepted (λ t. clash t (ap isAbsent (sym hit-is ∙ ap hitOf e))) h;
             bounds = record { blocks = refl; units = omega (arith, d .keeps .room) };
             figures = refl;
             done = λ G h. (
               refl,
-              stays s i G low new used (s .next) (deleteUnits k (presentOf small s i)) (delete k (presentOf small s i)) (deleted-pushed k s i new used G low hk (leaf-gone G)),
+              stays g s i G low new used (s .next) (deleteUnits k (presentOf g s i)) (delete k (presentOf g s i)) (deleted-pushed g k s i new used G low hk (leaf-gone G)),
             );
           }

@@ -3,7 +3,7 @@ use mathlib.Core.Path.{_≡_}
 use mathlib.Core.Bool.{Bool, cond}
 use Prim.Native.Nat.{ℕ, zero, suc, _*_, _≤_, _<_}
 use lib.Dec.{leb}
-use Rattle.chip.specs.Geometry.{Geometry, small, blocksOf}
+use Rattle.chip.specs.Geometry.{Geometry, blocksOf, blockSize, pageSize}
 use Rattle.promise.specs.Plain.{Answer, refuses, accepted, orElse, when, admission, commits, firstRefusal, numbersRefusal, isTornSize}
 use Rattle.store.specs.declared.admit.Admission.{Admission}
 use Rattle.store.specs.declared.admit.Admission.the-variants.{Passes, Off, Size}
@@ -21,16 +21,16 @@ admitNumber Off = 2
 admitNumber Size = 1
 
 -- an image of a chip with b blocks
-pub record ChipOf (b len : ℕ) : Type 0 where
-  pub blocks : b ≡ blocksOf small len
+pub record ChipOf (g : Geometry) (b len : ℕ) : Type 0 where
+  pub blocks : b ≡ blocksOf g len
   pub least : 3 ≤ b
   pub most : b ≤ 32
-  pub size : len ≡ b * 16896
+  pub size : len ≡ b * blockSize g
 
 -- of a call on a state with this `on` and these blocks, and an image of this length
-pub record Admitted (on : Bool) (b len : ℕ) (r : Admission) : Type 0 where
-  pub number : admitNumber r ≡ admission small on b len
-  pub chip : r ≡ Passes → ChipOf b len
+pub record Admitted (g : Geometry) (on : Bool) (b len : ℕ) (r : Admission) : Type 0 where
+  pub number : admitNumber r ≡ admission g on b len
+  pub chip : r ≡ Passes → ChipOf g b len
 
 -- ---- the tests on the state's numbers: the refusal, 0 for none
 -- of insert and delete, 2, 1 and 3
@@ -42,8 +42,8 @@ abbrev pub commitTests : Geometry → Bool → (B pending number len torn : ℕ)
 commitTests g on B pending number len torn = orElse (firstRefusal g on B (commits 0 len torn)) (numbersRefusal pending number (commits 0 len torn))
 
 -- the same on the numbers of a state
-abbrev pub testsOf : Numbers → (len torn : ℕ) → ℕ
-testsOf n len torn = commitTests small (n .on) (n .blocks) (n .pending) (n .commit) len torn
+abbrev pub testsOf : Geometry → Numbers → (len torn : ℕ) → ℕ
+testsOf g n len torn = commitTests g (n .on) (n .blocks) (n .pending) (n .commit) len torn
 
 -- a refusal's number as an answer, 0 as accepted
 abbrev pub answerFor : ℕ → Answer
@@ -51,14 +51,14 @@ answerFor zero = accepted
 answerFor (suc n) = refuses (suc n)
 
 -- how a commit or a forecast begins: refused, with nothing pending, with more units than the buffer holds, or past all these
-pub data CommitBegins (n : Numbers) (len torn : ℕ) : Beginning → Type 0 where
-  denied : (a : A.Answer) → 0 < testsOf n len torn → answerOf a ≡ answerFor (testsOf n len torn) → CommitBegins n len torn (Ends a)
-  idle : testsOf n len torn ≡ 0 → n .pending ≡ 0 → CommitBegins n len torn (Ends Accepted)
-  full : testsOf n len torn ≡ 0 → 0 < n .pending → 960 < n .count → CommitBegins n len torn (Ends Last)
-  plans : testsOf n len torn ≡ 0 → 0 < n .pending → n .count ≤ 960 → CommitBegins n len torn Plans
+pub data CommitBegins (g : Geometry) (n : Numbers) (len torn : ℕ) : Beginning → Type 0 where
+  denied : (a : A.Answer) → 0 < testsOf g n len torn → answerOf a ≡ answerFor (testsOf g n len torn) → CommitBegins g n len torn (Ends a)
+  idle : testsOf g n len torn ≡ 0 → n .pending ≡ 0 → CommitBegins g n len torn (Ends Accepted)
+  full : testsOf g n len torn ≡ 0 → 0 < n .pending → 960 < n .count → CommitBegins g n len torn (Ends Last)
+  plans : testsOf g n len torn ≡ 0 → 0 < n .pending → n .count ≤ 960 → CommitBegins g n len torn Plans
 
 -- of an image and a torn slice of these lengths
-pub record Sized (len slice b : ℕ) : Type 0 where
-  pub is : b ≡ cond (isTornSize small slice) (blocksOf small len) 0
-  pub torn : 0 < b → slice ≡ 528
-  pub chip : 0 < b → ChipOf b len
+pub record Sized (g : Geometry) (len slice b : ℕ) : Type 0 where
+  pub is : b ≡ cond (isTornSize g slice) (blocksOf g len) 0
+  pub torn : 0 < b → slice ≡ pageSize g
+  pub chip : 0 < b → ChipOf g b len

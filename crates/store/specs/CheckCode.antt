@@ -6,7 +6,7 @@ use Prim.Native.Nat.{ℕ, _*_, _-_, _/_, _<_}
 use lib.Dec.{eqb}
 use lib.ListN.{length, getD}
 use Rattle.lists.specs.Lists.{all}
-use Rattle.chip.specs.Geometry.{small, blocksOf}
+use Rattle.chip.specs.Geometry.{Geometry, blocksOf, mostPages}
 use Rattle.chip.specs.Page.{Page}
 use Rattle.chip.specs.Chip.{Op, pagesOf}
 use Rattle.pages.specs.Steps.{Live, stand, steps}
@@ -47,24 +47,24 @@ Judges limit xs lens slots J.Shape = (isRead limit xs ≡ true) × (isTree limit
 Judges limit xs lens slots J.Tree = Passed limit xs lens slots
 
 -- for keys that are those of the standing pages of the image
-abbrev pub JudgesKeys : List ℕ → List ℕ → ℕ → List ℕ → List ℕ → Judged → Type 0
-JudgesKeys image keys limit lens slots r =
-    (v xs : List Live) → steps small (pagesOf small image) ≡ stand v xs → keys ≡ map keyOf xs → Judges limit xs lens slots r
+abbrev pub JudgesKeys : Geometry → List ℕ → List ℕ → ℕ → List ℕ → List ℕ → Judged → Type 0
+JudgesKeys g image keys limit lens slots r =
+    (v xs : List Live) → steps g (pagesOf g image) ≡ stand v xs → keys ≡ map keyOf xs → Judges limit xs lens slots r
 
 -- ---- the commit numbers of keys in order, of which the last `voids` are those of the void pages
 -- the commit number of the key at index j
 abbrev pub commitAt : List ℕ → ℕ → ℕ
-commitAt order j = getD order j 0 / 67108864
+commitAt order j = getD order j 0 / (256 * (256 * mostPages))
 
 -- of the last standing page and of the last void page, 0 where there is none
 abbrev pub meansBy : List ℕ → ℕ → Checked
-meansBy order voids = Means (commitAt order (1023 - voids)) (cond (eqb voids 0) 0 (commitAt order 1023))
+meansBy order voids = Means (commitAt order (mostPages - 1 - voids)) (cond (eqb voids 0) 0 (commitAt order (mostPages - 1)))
 
 -- a page stands, and both are commit numbers of 32 bits
 pub record Numbered (order : List ℕ) (voids : ℕ) : Type 0 where
-  pub few : voids < 1024
-  pub last : commitAt order (1023 - voids) < 4294967296
-  pub end : commitAt order 1023 < 4294967296
+  pub few : voids < mostPages
+  pub last : commitAt order (mostPages - 1 - voids) < 4294967296
+  pub end : commitAt order (mostPages - 1) < 4294967296
 
 -- ---- steps 1 to 6
 -- what steps 1 to 3 refuse, with 7 or 8
@@ -72,20 +72,20 @@ abbrev pub refusedBy : ℕ → Checked
 refusedBy n = cond (eqb n 7) Blank Layout
 
 -- the marks of a mount where the void pages are those of commit v, none for 0
-abbrev pub marksOf : ℕ → List Page → List Op
-marksOf v ps = cond (eqb v 0) [] (retireOps small v ps)
+abbrev pub marksOf : Geometry → ℕ → List Page → List Op
+marksOf g v ps = cond (eqb v 0) [] (retireOps g v ps)
 
 -- the image means these nodes and this number; the arrays hold their lists; the void pages are those of commit v, none for 0
-pub record Read (image lens slots : List ℕ) (G v : ℕ) : Type 0 where
+pub record Read (g : Geometry) (image lens slots : List ℕ) (G v : ℕ) : Type 0 where
   pub nodes : List Node
-  pub means : Views.meaning small (8 * blocksOf small (length image)) (pagesOf small image) ≡ Views.means nodes G
+  pub means : Views.meaning g (8 * blocksOf g (length image)) (pagesOf g image) ≡ Views.means nodes G
   pub tree : step6 (viewsOf nodes) ≡ true
-  pub lists : (n : ℕ) → n < 8 * blocksOf small (length image) → Stores lens slots n (nodeAt nodes n .pages)
-  pub marks : mountOps small (pagesOf small image) ≡ marksOf v (pagesOf small image)
+  pub lists : (n : ℕ) → n < 8 * blocksOf g (length image) → Stores lens slots n (nodeAt nodes n .pages)
+  pub marks : mountOps g (pagesOf g image) ≡ marksOf g v (pagesOf g image)
 
 -- the answer says what the image means
-abbrev pub Checks : List ℕ → List ℕ → List ℕ → Checked → Type 0
-Checks image lens slots Blank = imageMeaning small image ≡ invalid 7
-Checks image lens slots Layout = imageMeaning small image ≡ invalid 8
-Checks image lens slots Shape = imageMeaning small image ≡ invalid 9
-Checks image lens slots (Means G v) = Read image lens slots G v
+abbrev pub Checks : Geometry → List ℕ → List ℕ → List ℕ → Checked → Type 0
+Checks g image lens slots Blank = imageMeaning g image ≡ invalid 7
+Checks g image lens slots Layout = imageMeaning g image ≡ invalid 8
+Checks g image lens slots Shape = imageMeaning g image ≡ invalid 9
+Checks g image lens slots (Means G v) = Read g image lens slots G v

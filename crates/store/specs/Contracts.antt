@@ -6,7 +6,7 @@ use Prim.Native.Nat.{ℕ, _+_, _*_, _<_, _≤_, max}
 use lib.Dec.{leb}
 use lib.ListN.{length, take, getD, replicate}
 use Rattle.lists.specs.Lists.{any, part, count, first}
-use Rattle.chip.specs.Geometry.{Geometry, small, blocksOf}
+use Rattle.chip.specs.Geometry.{Geometry, blocksOf}
 use Rattle.chip.specs.Page.{isFree}
 use Rattle.chip.specs.declared.power.Power.the-variants.{Left}
 use Rattle.chip.specs.declared.progress.Counts.{Counts}
@@ -65,27 +65,27 @@ toldOf n os = countsOf (take n (kindsOf os))
 
 -- format: the operations told by kind; the image's pages are those of a run of its operations, whatever the image was, and each operation
 -- is one that the chip allows; finished, no block has an erase; with 10 the state is the one given, off
-pub record Formats (allowance : ℕ) (torn : List ℕ) (s : State) (i : List ℕ) (r : Wrote) (i' : List ℕ) : Type 0 where
-  pub says : P.Format small (index small) allowance torn s i (answerOf (r .answer)) (total (r .ops)) (r .state) i'
-  pub kinds : firstRefusal small (s .on) (s .blocks) (formats allowance (length i) (length torn)) ≡ 0
-      → r .ops ≡ toldOf allowance (formatOps small (blocksOf small (length i)))
-  pub bytes : firstRefusal small (s .on) (s .blocks) (formats allowance (length i) (length torn)) ≡ 0
-      → pagesOf small i' ≡ formattedBy small torn (blocksOf small (length i)) allowance (pagesOf small i) .pages
-  pub legal : firstRefusal small (s .on) (s .blocks) (formats allowance (length i) (length torn)) ≡ 0 → Legal small (pagesOf small i) (formatOps small (blocksOf small (length i)))
+pub record Formats (g : Geometry) (allowance : ℕ) (torn : List ℕ) (s : State) (i : List ℕ) (r : Wrote) (i' : List ℕ) : Type 0 where
+  pub says : P.Format g (index g) allowance torn s i (answerOf (r .answer)) (total (r .ops)) (r .state) i'
+  pub kinds : firstRefusal g (s .on) (s .blocks) (formats allowance (length i) (length torn)) ≡ 0
+      → r .ops ≡ toldOf allowance (formatOps g (blocksOf g (length i)))
+  pub bytes : firstRefusal g (s .on) (s .blocks) (formats allowance (length i) (length torn)) ≡ 0
+      → pagesOf g i' ≡ formattedBy g torn (blocksOf g (length i)) allowance (pagesOf g i) .pages
+  pub legal : firstRefusal g (s .on) (s .blocks) (formats allowance (length i) (length torn)) ≡ 0 → Legal g (pagesOf g i) (formatOps g (blocksOf g (length i)))
   pub zeros : answerOf (r .answer) ≡ accepted → r .state .erases ≡ replicate 32 0
   pub off : answerOf (r .answer) ≡ refuses 10 → r .state ≡ turnedOff s
 
 -- mount: the operations told by kind; the image's pages are those of a run of its marks where the image has a meaning, and else as they
 -- were; finished, no block has an erase; where it is refused with 7, 8, 9 or 10 the state is the one given, off
-pub record Mounts (allowance : ℕ) (torn : List ℕ) (s : State) (i : List ℕ) (r : Wrote) (i' : List ℕ) : Type 0 where
-  pub says : P.Mount small (index small) allowance torn s i (answerOf (r .answer)) (total (r .ops)) (r .state) i'
-  pub kinds : firstRefusal small (s .on) (s .blocks) (mounts allowance (length i) (length torn)) ≡ 0 → (K : Table) (G : ℕ)
-      → imageMeaning small i ≡ means K G → r .ops ≡ toldOf allowance (mountOps small (pagesOf small i))
-  pub bytes : firstRefusal small (s .on) (s .blocks) (mounts allowance (length i) (length torn)) ≡ 0 → (K : Table) (G : ℕ)
-      → imageMeaning small i ≡ means K G → pagesOf small i' ≡ mountedBy small torn allowance (pagesOf small i) .pages
-  pub legal : Legal small (pagesOf small i) (mountOps small (pagesOf small i))
+pub record Mounts (g : Geometry) (allowance : ℕ) (torn : List ℕ) (s : State) (i : List ℕ) (r : Wrote) (i' : List ℕ) : Type 0 where
+  pub says : P.Mount g (index g) allowance torn s i (answerOf (r .answer)) (total (r .ops)) (r .state) i'
+  pub kinds : firstRefusal g (s .on) (s .blocks) (mounts allowance (length i) (length torn)) ≡ 0 → (K : Table) (G : ℕ)
+      → imageMeaning g i ≡ means K G → r .ops ≡ toldOf allowance (mountOps g (pagesOf g i))
+  pub bytes : firstRefusal g (s .on) (s .blocks) (mounts allowance (length i) (length torn)) ≡ 0 → (K : Table) (G : ℕ)
+      → imageMeaning g i ≡ means K G → pagesOf g i' ≡ mountedBy g torn allowance (pagesOf g i) .pages
+  pub legal : Legal g (pagesOf g i) (mountOps g (pagesOf g i))
   pub zeros : answerOf (r .answer) ≡ accepted → r .state .erases ≡ replicate 32 0
-  pub off : firstRefusal small (s .on) (s .blocks) (mounts allowance (length i) (length torn)) ≡ 0 → (n : ℕ) → answerOf (r .answer) ≡ refuses n
+  pub off : firstRefusal g (s .on) (s .blocks) (mounts allowance (length i) (length torn)) ≡ 0 → (n : ℕ) → answerOf (r .answer) ≡ refuses n
       → r .state ≡ turnedOff s
 
 -- the sum of the list lengths of these nodes; a node that is not on flash has length 0
@@ -94,13 +94,13 @@ listLengths nodes [] = 0
 listLengths nodes (n ∷ ns) = length (nodeAt nodes n .pages) + listLengths nodes ns
 
 -- look up, on any state and any image: what P says of the key, and the sum of the list lengths on its path, at most 16
-pub record Looks (k : ℕ) (s : State) (i : List ℕ) (r : Look) : Type 0 where
-  pub says : P.LookUp small (index small) k s i (lookOf r) s i
-  pub any : admission small (s .on) (s .blocks) (length i) ≡ 0 → lookOf r ≡ lookedUp (find k (presentOf small s i))
-  pub pages : admission small (s .on) (s .blocks) (length i) ≡ 0 → pagesTold r ≡ pagesRead (s .lens) (s .slots) (path k (presentOf small s i))
+pub record Looks (g : Geometry) (k : ℕ) (s : State) (i : List ℕ) (r : Look) : Type 0 where
+  pub says : P.LookUp g (index g) k s i (lookOf r) s i
+  pub any : admission g (s .on) (s .blocks) (length i) ≡ 0 → lookOf r ≡ lookedUp (find k (presentOf g s i))
+  pub pages : admission g (s .on) (s .blocks) (length i) ≡ 0 → pagesTold r ≡ pagesRead (s .lens) (s .slots) (path k (presentOf g s i))
   -- on a state that calls gave, the lists are those of step 5, as the image gives them
-  pub lists : Good small s i → admission small (s .on) (s .blocks) (length i) ≡ 0 → (nodes : List Node) (G : ℕ)
-      → Views.meaning small (limitOf s) (pagesOf small i) ≡ Views.means nodes G → pagesTold r ≡ listLengths nodes (path k (presentOf small s i))
+  pub lists : Good g s i → admission g (s .on) (s .blocks) (length i) ≡ 0 → (nodes : List Node) (G : ℕ)
+      → Views.meaning g (limitOf s) (pagesOf g i) ≡ Views.means nodes G → pagesTold r ≡ listLengths nodes (path k (presentOf g s i))
   pub few : pagesTold r ≤ 16
 
 -- on any state: B stays, and the units of the buffer are at most 960, or no more than there were
@@ -109,16 +109,16 @@ pub record KeepsBounds (s s' : State) : Type 0 where
   pub units : s' .count ≤ max 960 (s .count)
 
 -- insert and delete: what the promise says of an update of their kind; on any state no figure is changed
-pub record UpdatesBy (u : UpdateCall) (s : State) (i : List ℕ) (r : Updated) : Type 0 where
-  pub says : P.Updates small (index small) u s i (answerOf (r .answer)) (r .state) i
+pub record UpdatesBy (g : Geometry) (u : UpdateCall) (s : State) (i : List ℕ) (r : Updated) : Type 0 where
+  pub says : P.Updates g (index g) u s i (answerOf (r .answer)) (r .state) i
   pub bounds : KeepsBounds s (r .state)
   pub figures : r .state .erases ≡ s .erases
 
-abbrev pub Inserts : (k v : ℕ) → State → List ℕ → Updated → Type 0
-Inserts k v = UpdatesBy (insertion k v)
+abbrev pub Inserts : (g : Geometry) (k v : ℕ) → State → List ℕ → Updated → Type 0
+Inserts g k v = UpdatesBy g (insertion k v)
 
-abbrev pub Deletes : (k : ℕ) → State → List ℕ → Updated → Type 0
-Deletes k = UpdatesBy (deletion k)
+abbrev pub Deletes : (g : Geometry) (k : ℕ) → State → List ℕ → Updated → Type 0
+Deletes g k = UpdatesBy g (deletion k)
 
 -- the refusal of a block report: 2, 1, 4 for a block not on the chip
 abbrev pub reportNumber : Geometry → State → ℕ → ℕ → ℕ
@@ -129,44 +129,44 @@ abbrev pub blockPages : Geometry → ℕ → List ℕ → List (List ℕ)
 blockPages g b image = part (b * g .pages) (g .pages) (pagesOf g image)
 
 -- block report: on any state and any image
-pub record Reports (b : ℕ) (s : State) (i : List ℕ) (r : Report) : Type 0 where
-  pub refusal : reportRefusal r ≡ reportNumber small s (length i) b
-  pub free : reportRefusal r ≡ 0 → freeTold r ≡ count isFree (blockPages small b i)
-  pub first : reportRefusal r ≡ 0 → firstTold r ≡ first isFree (blockPages small b i)
+pub record Reports (g : Geometry) (b : ℕ) (s : State) (i : List ℕ) (r : Report) : Type 0 where
+  pub refusal : reportRefusal r ≡ reportNumber g s (length i) b
+  pub free : reportRefusal r ≡ 0 → freeTold r ≡ count isFree (blockPages g b i)
+  pub first : reportRefusal r ≡ 0 → firstTold r ≡ first isFree (blockPages g b i)
   pub erases : reportRefusal r ≡ 0 → erasesTold r ≡ getD (s .erases) b 0
 
 -- ---- commit and forecast
 -- the plan of a commit, and its operations
-abbrev pub thePlan : State → List ℕ → Plan
-thePlan s i = planAt small s i
+abbrev pub thePlan : Geometry → State → List ℕ → Plan
+thePlan g s i = planAt g s i
 
-abbrev pub theOps : State → List ℕ → List Op
-theOps s i = opsOf small (s .commit) (thePlan s i)
+abbrev pub theOps : Geometry → State → List ℕ → List Op
+theOps g s i = opsOf g (s .commit) (thePlan g s i)
 
 -- a commit that its tests pass, with updates pending, on any state and any image
-abbrev pub Proceeds : ℕ → List ℕ → State → List ℕ → Type 0
-Proceeds allowance torn s i = P.Proceeding small (index small) (commits allowance (length i) (length torn)) s
+abbrev pub Proceeds : Geometry → ℕ → List ℕ → State → List ℕ → Type 0
+Proceeds g allowance torn s i = P.Proceeding g (index g) (commits allowance (length i) (length torn)) s
 
 -- commit: the records of the promise
-pub record Commits (allowance : ℕ) (torn : List ℕ) (s : State) (i : List ℕ) (r : Wrote) (i' : List ℕ) : Type 0 where
-  pub says : P.Commit small (index small) allowance torn s i (answerOf (r .answer)) (total (r .ops)) (r .state) i'
+pub record Commits (g : Geometry) (allowance : ℕ) (torn : List ℕ) (s : State) (i : List ℕ) (r : Wrote) (i' : List ℕ) : Type 0 where
+  pub says : P.Commit g (index g) allowance torn s i (answerOf (r .answer)) (total (r .ops)) (r .state) i'
   -- on any state and any image: the operations told by kind are the first of the plan's
-  pub kinds : Proceeds allowance torn s i → r .ops ≡ toldOf allowance (theOps s i)
+  pub kinds : Proceeds g allowance torn s i → r .ops ≡ toldOf allowance (theOps g s i)
   -- the image's pages are those of a run of the plan's operations
-  pub bytes : Proceeds allowance torn s i → pagesOf small i' ≡ run small torn (record { power = Left allowance; pages = pagesOf small i }) (theOps s i) .pages
+  pub bytes : Proceeds g allowance torn s i → pagesOf g i' ≡ run g torn (record { power = Left allowance; pages = pagesOf g i }) (theOps g s i) .pages
   -- finished, each figure has grown by the erases of its block among them
-  pub figures : Proceeds allowance torn s i → answerOf (r .answer) ≡ accepted → r .state .erases ≡ figuresAfter (theOps s i) (s .erases)
+  pub figures : Proceeds g allowance torn s i → answerOf (r .answer) ≡ accepted → r .state .erases ≡ figuresAfter (theOps g s i) (s .erases)
   -- on a good state, with room or without: a program only where the data is all 255
-  pub legal : P.Committing small (index small) allowance torn s i → Legal small (pagesOf small i) (theOps s i)
+  pub legal : P.Committing g (index g) allowance torn s i → Legal g (pagesOf g i) (theOps g s i)
   -- the units of one node stand in one page
-  pub once : P.Committing small (index small) allowance torn s i → Distinct (groupsOf (thePlan s i .written))
+  pub once : P.Committing g (index g) allowance torn s i → Distinct (groupsOf (thePlan g s i .written))
   pub off : answerOf (r .answer) ≡ refuses 10 → r .state ≡ turnedOff s
   pub bounds : KeepsBounds s (r .state)
 
 -- forecast: the record of the promise; by kind, all operations of the plan; on any state and any image
-pub record Forecasts (s : State) (i : List ℕ) (r : Forecast) : Type 0 where
-  pub says : P.Forecast small (index small) s i (answerOf (r .answer)) (total (r .ops)) s i
-  pub kinds : P.Proceeding small (index small) (forecasts (length i)) s → r .ops ≡ countsOf (kindsOf (theOps s i))
+pub record Forecasts (g : Geometry) (s : State) (i : List ℕ) (r : Forecast) : Type 0 where
+  pub says : P.Forecast g (index g) s i (answerOf (r .answer)) (total (r .ops)) s i
+  pub kinds : P.Proceeding g (index g) (forecasts (length i)) s → r .ops ≡ countsOf (kindsOf (theOps g s i))
 
 -- what a forecast r says of a commit w with an allowance of n on the same state and image: with the sum of its counts, or more, the commit answers as the forecast did
 -- and tells the same counts; with less it is cut and tells the allowance

@@ -1,7 +1,9 @@
 -- A state in parts: its numbers by value, and its arrays, which the caller lends.
 use mathlib.Core.Bool.{false}
 use mathlib.Core.List.{List}
-use Prim.Native.Nat.{ℕ}
+use Prim.Native.Nat.{ℕ, _*_}
+use Rattle.chip.specs.Geometry.{Geometry}
+use Rattle.views.specs.declared.view.Scope.{Scope}
 use Rattle.store.specs.declared.state.Numbers.{Numbers}
 use Rattle.store.specs.declared.state.State.{State}
 use Rattle.store.specs.declared.state.Updated.{Updated}
@@ -28,6 +30,10 @@ joined n buffer lens slots erases =
 -- the numbers of a state
 abbrev pub numbersOf : State → Numbers
 numbersOf s = record { on = s .on; blocks = s .blocks; commit = s .commit; pending = s .pending; next = s .next; count = s .count }
+
+-- what its nodes are read with: node numbers are below 8 × B
+abbrev pub scopeOf : Geometry → Numbers → Scope
+scopeOf g n = record { geometry = g; count = n .count; limit = 8 * n .blocks }
 
 -- the same numbers, off
 abbrev pub numbersOff : Numbers → Numbers

@@ -2,6 +2,7 @@
 use mathlib.Core.Path.{_≡_}
 use mathlib.Core.List.{List}
 use Prim.Native.Nat.{ℕ, _<_}
+use Rattle.chip.specs.Geometry.{Geometry}
 use Rattle.chip.specs.Counts.{nothing}
 use Rattle.tree.specs.Step6.{top}
 use Rattle.promise.specs.Steps as P
@@ -69,23 +70,23 @@ pub record UpdateSteps (A : Updated → Type 0) (i : List ℕ) (r : Stepped) (i'
   pub image : i' ≡ i
 
 -- a look up gives the state and the image back
-pub record LookSteps (k : ℕ) (s : State) (i : List ℕ) (r : Stepped) (i' : List ℕ) : Type 0 where
+pub record LookSteps (g : Geometry) (k : ℕ) (s : State) (i : List ℕ) (r : Stepped) (i' : List ℕ) : Type 0 where
   pub look : Look
-  pub says : Looks k s i look
+  pub says : Looks g k s i look
   pub is : r ≡ ofLook look s
   pub image : i' ≡ i
 
 -- and so does a forecast
-pub record ForecastSteps (s : State) (i : List ℕ) (r : Stepped) (i' : List ℕ) : Type 0 where
-  pub says : Forecasts s i (record { answer = r .answer; ops = r .ops })
+pub record ForecastSteps (g : Geometry) (s : State) (i : List ℕ) (r : Stepped) (i' : List ℕ) : Type 0 where
+  pub says : Forecasts g s i (record { answer = r .answer; ops = r .ops })
   pub state : r .state ≡ s
   pub image : i' ≡ i
 
-abbrev pub StepsBy : Call → (torn : List ℕ) → State → (image : List ℕ) → Stepped → (left : List ℕ) → Type 0
-StepsBy (Format n) torn s i r i' = Formats n torn s i (wroteIn r) i'
-StepsBy (Insert k v) torn s i r i' = UpdateSteps (Inserts k v s i) i r i'
-StepsBy (Delete k) torn s i r i' = UpdateSteps (Deletes k s i) i r i'
-StepsBy (LookUp k) torn s i r i' = LookSteps k s i r i'
-StepsBy Forecast torn s i r i' = ForecastSteps s i r i'
-StepsBy (Commit n) torn s i r i' = Commits n torn s i (wroteIn r) i'
-StepsBy (Mount n) torn s i r i' = Mounts n torn s i (wroteIn r) i'
+abbrev pub StepsBy : Geometry → Call → (torn : List ℕ) → State → (image : List ℕ) → Stepped → (left : List ℕ) → Type 0
+StepsBy g (Format n) torn s i r i' = Formats g n torn s i (wroteIn r) i'
+StepsBy g (Insert k v) torn s i r i' = UpdateSteps (Inserts g k v s i) i r i'
+StepsBy g (Delete k) torn s i r i' = UpdateSteps (Deletes g k s i) i r i'
+StepsBy g (LookUp k) torn s i r i' = LookSteps g k s i r i'
+StepsBy g Forecast torn s i r i' = ForecastSteps g s i r i'
+StepsBy g (Commit n) torn s i r i' = Commits g n torn s i (wroteIn r) i'
+StepsBy g (Mount n) torn s i r i' = Mounts g n torn s i (wroteIn r) i'

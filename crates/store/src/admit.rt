@@ -1,6 +1,6 @@
 // The tests that come first in every call: 2 off, and 1 size.
 ghost use mathlib.Core.Path.{_≡_};
-ghost use Rattle.chip.specs.Geometry.{small};
+ghost use Rattle.chip.specs.Geometry.{Fits};
 ghost use Rattle.store.specs.AdmitCode.{Admitted, Sized, updateTests, commitTests, answerFor, CommitBegins};
 ghost use Rattle.store.specs.Answers.{answerOf};
 use crate::answer;
@@ -8,7 +8,7 @@ use crate::answer::Answer;
 use crate::state::Numbers;
 use crate::state::UNITS;
 use chip::geometry;
-use chip::geometry::PAGE;
+use chip::geometry::Geometry;
 
 // The most updates that may be pending.
 const PENDING: u32 = 16;
@@ -30,13 +30,14 @@ pub enum Beginning {
 }
 
 // The tests 2 and 1 of a call that is lent an image alone, on the state's `on` and `blocks` and the image's length.
-pub fn admit(on: bool, blocks: usize, len: usize) -> Admission
-    ensures { λ r. ⌜ Admitted on blocks len r ⌝ }
+pub fn admit(geometry: Geometry, on: bool, blocks: usize, len: usize) -> Admission
+    requires { ⌜ Fits geometry ⌝ }
+    ensures { λ r. ⌜ Admitted geometry on blocks len r ⌝ }
 {
     if !on {
         return Admission::Off;
     }
-    let found = geometry::blocks_of(len);
+    let found = geometry::blocks_of(geometry, len);
     if found == 0 {
         return Admission::Size;
     }
@@ -48,10 +49,11 @@ pub fn admit(on: bool, blocks: usize, len: usize) -> Admission
 }
 
 // The tests 2, 1 and 3 of an insert or a delete: accepted where all pass.
-pub fn update_tests(numbers: Numbers, len: usize) -> Answer
-    ensures { λ r. ⌜ answerOf r ≡ answerFor (updateTests small (numbers .on) (numbers .blocks) (numbers .pending) len) ⌝ }
+pub fn update_tests(geometry: Geometry, numbers: Numbers, len: usize) -> Answer
+    requires { ⌜ Fits geometry ⌝ }
+    ensures { λ r. ⌜ answerOf r ≡ answerFor (updateTests geometry (numbers .on) (numbers .blocks) (numbers .pending) len) ⌝ }
 {
-    match admit(numbers.on, numbers.blocks, len) {
+    match admit(geometry, numbers.on, numbers.blocks, len) {
         Admission::Off => Answer::Off,
         Admission::Size => Answer::Size,
         Admission::Passes => {
@@ -65,14 +67,15 @@ pub fn update_tests(numbers: Numbers, len: usize) -> Answer
 }
 
 // The tests 2, 1 and 6 of a commit: accepted where all pass.
-fn commit_tests(numbers: Numbers, len: usize, torn: usize) -> Answer
-    ensures { λ r. ⌜ answerOf r ≡ answerFor (commitTests small (numbers .on) (numbers .blocks) (numbers .pending) (numbers .commit) len torn) ⌝ }
+fn commit_tests(geometry: Geometry, numbers: Numbers, len: usize, torn: usize) -> Answer
+    requires { ⌜ Fits geometry ⌝ }
+    ensures { λ r. ⌜ answerOf r ≡ answerFor (commitTests geometry (numbers .on) (numbers .blocks) (numbers .pending) (numbers .commit) len torn) ⌝ }
 {
-    match admit(numbers.on, numbers.blocks, len) {
+    match admit(geometry, numbers.on, numbers.blocks, len) {
         Admission::Off => Answer::Off,
         Admission::Size => Answer::Size,
         Admission::Passes => {
-            if torn != PAGE {
+            if torn != geometry.area + geometry.spare {
                 return Answer::Size;
             }
             if numbers.pending == 0 {
@@ -88,10 +91,11 @@ fn commit_tests(numbers: Numbers, len: usize, torn: usize) -> Answer
 }
 
 // A commit, or a forecast of one, goes on to its plan where its tests pass, updates are pending and the buffer holds its units.
-pub fn commit_begins(numbers: Numbers, len: usize, torn: usize) -> Beginning
-    ensures { λ r. ⌜ CommitBegins numbers len torn r ⌝ }
+pub fn commit_begins(geometry: Geometry, numbers: Numbers, len: usize, torn: usize) -> Beginning
+    requires { ⌜ Fits geometry ⌝ }
+    ensures { λ r. ⌜ CommitBegins geometry numbers len torn r ⌝ }
 {
-    let answer = commit_tests(numbers, len, torn);
+    let answer = commit_tests(geometry, numbers, len, torn);
     if answer::number(answer) > 0 {
         return Beginning::Ends(answer);
     }
@@ -105,11 +109,12 @@ pub fn commit_begins(numbers: Numbers, len: usize, torn: usize) -> Beginning
 }
 
 // The blocks of an image that a format or a mount is lent with a torn slice; 0 where one of them has a wrong size.
-pub fn sized(len: usize, torn: usize) -> usize
-    ensures { λ r. ⌜ Sized len torn r ⌝ }
+pub fn sized(geometry: Geometry, len: usize, torn: usize) -> usize
+    requires { ⌜ Fits geometry ⌝ }
+    ensures { λ r. ⌜ Sized geometry len torn r ⌝ }
 {
-    if torn != PAGE {
+    if torn != geometry.area + geometry.spare {
         return 0;
     }
-    geometry::blocks_of(len)
+    geometry::blocks_of(geometry, len)
 }

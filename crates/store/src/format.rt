@@ -1,6 +1,7 @@
 // Format: all blocks erased, lowest first, and commit 1 written into the first page of block 0.
 ghost use mathlib.Core.List.{List};
 ghost use Prim.Native.Nat.{ℕ};
+ghost use Rattle.chip.specs.Geometry.{small};
 ghost use Rattle.store.specs.Contracts.{Formats};
 ghost use Rattle.store.specs.Parts.{joined, wroteWith};
 use crate::admit;
@@ -11,6 +12,7 @@ use crate::state::Numbers;
 use crate::state::State;
 use crate::state::Wrote;
 use crate::state::WroteParts;
+use chip::geometry::SMALL;
 use chip::progress;
 use log;
 
@@ -25,15 +27,15 @@ pub fn format_lent(
     torn: &[u8],
     allowance: u32,
 ) -> WroteParts
-    ensures { λ r. ⌜ ((buffer : List ℕ) → Formats allowance (now (torn .entry)) (joined numbers buffer (now (lens .entry)) (now (slots .entry)) (now (erases .entry)))
+    ensures { λ r. ⌜ ((buffer : List ℕ) → Formats small allowance (now (torn .entry)) (joined numbers buffer (now (lens .entry)) (now (slots .entry)) (now (erases .entry)))
         (now (image .entry)) (wroteWith r buffer (now (lens .exit)) (now (slots .exit)) (now (erases .exit))) (now (image .exit))) ⌝ }
 {
-    let blocks = admit::sized(image.len(), torn.len());
+    let blocks = admit::sized(SMALL, image.len(), torn.len());
     if blocks == 0 {
         return ending::quiet(numbers, Answer::Size);
     }
     let start = progress::begin(allowance);
-    let reached = log::format::format(image, blocks, torn, start);
+    let reached = log::format::format(SMALL, image, blocks, torn, start);
     let fresh = Numbers {
         on: true,
         blocks,
@@ -51,7 +53,7 @@ pub fn format_lent(
 
 // Format on a state by value.
 pub fn format(state: State, image: &mut [u8], torn: &[u8], allowance: u32) -> Wrote
-    ensures { λ r. ⌜ Formats allowance (now (torn .entry)) state (now (image .entry)) r (now (image .exit)) ⌝ }
+    ensures { λ r. ⌜ Formats small allowance (now (torn .entry)) state (now (image .entry)) r (now (image .exit)) ⌝ }
 {
     let numbers = state::numbers_of(state);
     let mut lens = state.lens;

@@ -3,7 +3,7 @@ ghost use mathlib.Core.Path.{_≡_};
 ghost use mathlib.Core.List.{List};
 ghost use Prim.Native.Nat.{ℕ, _%_, _≤_};
 ghost use lib.ListN.{length};
-ghost use Rattle.chip.specs.Geometry.{small};
+ghost use Rattle.chip.specs.Geometry.{Fits, pageSize, small};
 ghost use Rattle.chip.specs.Chip.{pagesOf};
 ghost use Rattle.chip.specs.RunCode.{Ran};
 ghost use Rattle.store.specs.CheckCode.{marksOf};
@@ -20,6 +20,8 @@ use crate::state::Numbers;
 use crate::state::State;
 use crate::state::Wrote;
 use crate::state::WroteParts;
+use chip::geometry::Geometry;
+use chip::geometry::SMALL;
 use chip::progress;
 use chip::progress::Progress;
 use log;
@@ -48,14 +50,20 @@ fn next_number(lens: &[u32; 256], limit: u32) -> u32
 }
 
 // The obsolete mark set on each page of the void commit; 0 says that there is none.
-fn retire(image: &mut [u8], void: u32, torn: &[u8], progress: Progress) -> Progress
-    requires { ⌜ (length (now image) % 528 ≡ 0) × (length (now torn) ≡ 528) ⌝ }
-    ensures { λ r. ⌜ Ran small (now (torn .entry)) (marksOf void (pagesOf small (now (image .entry)))) progress r (now (image .entry)) (now (image .exit)) ⌝ }
+fn retire(
+    geometry: Geometry,
+    image: &mut [u8],
+    void: u32,
+    torn: &[u8],
+    progress: Progress,
+) -> Progress
+    requires { ⌜ (length (now image) % pageSize geometry ≡ 0) × (length (now torn) ≡ pageSize geometry) × Fits geometry ⌝ }
+    ensures { λ r. ⌜ Ran geometry (now (torn .entry)) (marksOf geometry void (pagesOf geometry (now (image .entry)))) progress r (now (image .entry)) (now (image .exit)) ⌝ }
 {
     if void == 0 {
         return progress;
     }
-    log::mount::retire(image, void, torn, progress)
+    log::mount::retire(geometry, image, void, torn, progress)
 }
 
 // Mount on a lent node table and lent erases, with power for `allowance` operations. The buffer's bytes stay, whatever they are.
@@ -68,17 +76,17 @@ pub fn mount_lent(
     torn: &[u8],
     allowance: u32,
 ) -> WroteParts
-    ensures { λ r. ⌜ ((buffer : List ℕ) → Mounts allowance (now (torn .entry)) (joined numbers buffer (now (lens .entry)) (now (slots .entry)) (now (erases .entry)))
+    ensures { λ r. ⌜ ((buffer : List ℕ) → Mounts small allowance (now (torn .entry)) (joined numbers buffer (now (lens .entry)) (now (slots .entry)) (now (erases .entry)))
         (now (image .entry)) (wroteWith r buffer (now (lens .exit)) (now (slots .exit)) (now (erases .exit))) (now (image .exit))) ⌝ }
 {
-    let blocks = admit::sized(image.len(), torn.len());
+    let blocks = admit::sized(SMALL, image.len(), torn.len());
     if blocks == 0 {
         return ending::quiet(numbers, Answer::Size);
     }
     let mut l = [0; 256];
     let mut s = [0; 1024];
     let e = [0; 32];
-    match check::check(image, blocks, &mut l, &mut s) {
+    match check::check(SMALL, image, blocks, &mut l, &mut s) {
         Checked::Blank => ending::refused(numbers, Answer::Blank),
         Checked::Layout => ending::refused(numbers, Answer::Layout),
         Checked::Shape => ending::refused(numbers, Answer::Shape),
@@ -94,7 +102,7 @@ pub fn mount_lent(
                 count: 0,
             };
             let start = progress::begin(allowance);
-            let reached = retire(image, void, torn, start);
+            let reached = retire(SMALL, image, void, torn, start);
             ending::ended(numbers, lens, slots, erases, mounted, &l, &s, &e, reached)
         }
     }
@@ -102,7 +110,7 @@ pub fn mount_lent(
 
 // Mount on a state by value.
 pub fn mount(state: State, image: &mut [u8], torn: &[u8], allowance: u32) -> Wrote
-    ensures { λ r. ⌜ Mounts allowance (now (torn .entry)) state (now (image .entry)) r (now (image .exit)) ⌝ }
+    ensures { λ r. ⌜ Mounts small allowance (now (torn .entry)) state (now (image .entry)) r (now (image .exit)) ⌝ }
 {
     let numbers = state::numbers_of(state);
     let mut lens = state.lens;

@@ -4,6 +4,7 @@ ghost use lib.ListN.{length};
 ghost use Rattle.lists.specs.Lists.{part};
 ghost use Rattle.chip.specs.Geometry.{small};
 ghost use Rattle.pages.specs.Show.{showLength, showRefusal, showStart};
+use chip::geometry::SMALL;
 use pages::show;
 
 // The units of page `at`; an empty part where there are none and with a refusal, 1 or 4.
@@ -11,5 +12,5 @@ pub fn show<'a>(image: &'a [u8], at: u32, refusal: &mut u32) -> &'a [u8]
     ensures shown { λ r. ⌜ now r ≡ part (showStart small (now (image .entry)) at) (showLength small (now (image .entry)) at) (now (image .entry)) ⌝ }
     ensures number { λ r. ⌜ now (refusal .exit) ≡ showRefusal small (length (now (image .entry))) at ⌝ }
 {
-    show::show(image, at, refusal)
+    show::show(SMALL, image, at, refusal)
 }

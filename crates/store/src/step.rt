@@ -1,5 +1,6 @@
 // One call of any kind: what a list of calls is made of.
 ghost use mathlib.Core.Path.{_≡_};
+ghost use Rattle.chip.specs.Geometry.{small};
 ghost use Rattle.store.specs.Step.{ofWrote, ofUpdated, ofLook, ofForecast, StepsBy};
 use crate::answer::Answer;
 use crate::answer::Forecast;
@@ -79,7 +80,7 @@ fn foreseen(forecast: Forecast, state: State) -> Stepped
 
 // A call on a lent image: what it ensures is its whole contract.
 pub fn step(state: State, image: &mut [u8], torn: &[u8], call: Call) -> Stepped
-    ensures { λ r. ⌜ StepsBy call (now (torn .entry)) state (now (image .entry)) r (now (image .exit)) ⌝ }
+    ensures { λ r. ⌜ StepsBy small call (now (torn .entry)) state (now (image .entry)) r (now (image .exit)) ⌝ }
 {
     match call {
         Call::Format(allowance) => wrote(format::format(state, image, torn, allowance)),

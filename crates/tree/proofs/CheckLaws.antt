@@ -13,7 +13,7 @@ use borrow.Author.Tests.{eq-eqb, ne-eqb, le-leb, lt-leb, lt-ltb, le-ltb}
 use Rattle.lists.proofs.Places.{getD-same}
 use Rattle.lists.proofs.Tests.{cases, clash, and-left, and-right, and-intro, below-or-not, same-or-not}
 use Rattle.lists.proofs.Flats.{length-tab}
-use Rattle.chip.specs.Geometry.{small}
+use Rattle.chip.specs.Geometry.{Geometry}
 use Rattle.chip.specs.Chip.{pagesOf}
 use Rattle.views.specs.declared.node.Node.{Node}
 use Rattle.views.specs.declared.fold.Stage.{Stage}
@@ -93,17 +93,17 @@ mark-new size n s h z =
     }
 
 -- ---- the table of the pages, node by node
-module _ (image lens slots : List ℕ) (limit : ℕ) where
+module _ (g : Geometry) (image lens slots : List ℕ) (limit : ℕ) where
   abbrev t : Table
-  t = pagesTable image lens slots limit
+  t = pagesTable g image lens slots limit
 
   -- the view of node n from its pages
   abbrev v : ℕ → View
-  v n = listView small limit (pagesOf small image) n (storedList lens slots n)
+  v n = listView g limit (pagesOf g image) n (storedList lens slots n)
 
   pub listed-same : {X : Type 0} (f : View → X) → f untouched ≡ f broken → (n : ℕ) → f (at t n) ≡ f (v n)
   unfolding bufferView
-  listed-same f e n = shown-same small limit (pagesOf small image) lens slots 0 [] f e n
+  listed-same f e n = shown-same g limit (pagesOf g image) lens slots 0 [] f e n
 
   pub length-listed : length t ≡ limit
   unfolding shown
@@ -194,13 +194,13 @@ reached-own : (l : ℕ) (t : Table) (n : ℕ) → 1 ≤ times n (reached l t n)
 reached-own zero t n = omega (arith, hit-same n n refl)
 reached-own (suc l) t n = omega (arith, hit-same n n refl)
 
-module _ (image lens slots : List ℕ) (limit l n lo hi : ℕ) (w : View)
-    (ew : w ≡ listView small limit (pagesOf small image) n (storedList lens slots n)) where
+module _ (g : Geometry) (image lens slots : List ℕ) (limit l n lo hi : ℕ) (w : View)
+    (ew : w ≡ listView g limit (pagesOf g image) n (storedList lens slots n)) where
   abbrev tb : Table
-  tb = pagesTable image lens slots limit
+  tb = pagesTable g image lens slots limit
 
   own-same : ownAt l (at tb n) lo hi ≡ ownAt l w lo hi
-  own-same = listed-same image lens slots limit (λ (x : View). ownAt l x lo hi) refl n ∙ ap (λ (x : View). ownAt l x lo hi) (sym ew)
+  own-same = listed-same g image lens slots limit (λ (x : View). ownAt l x lo hi) refl n ∙ ap (λ (x : View). ownAt l x lo hi) (sym ew)
 
   -- it breaks a rule of one node
   pub visit-unfit : (s : List ℕ) → ownAt l w lo hi ≡ false → Walks tb (isSubtree l tb n lo hi) (reached l tb n) s s false
@@ -216,7 +216,7 @@ module _ (image lens slots : List ℕ) (limit l n lo hi : ℕ) (w : View)
     own-there = level-there l (at tb n) (and-left (isLevel l (at tb n)) (obeysAt l lo hi (entriesAt tb n)) (own-same ∙ fit))
 
     far-off : {A : Type 0} → length lens ≤ n → A
-    far-off h = clash (ap (λ (x : View). ownAt l x lo hi) (sym (ew ∙ listed-far image lens slots limit n h)) ∙ fit) refl
+    far-off h = clash (ap (λ (x : View). ownAt l x lo hi) (sym (ew ∙ listed-far g image lens slots limit n h)) ∙ fit) refl
 
     -- it was counted before
     pub visit-old : (s u : List ℕ) → MarksNumber (length lens) n s u false → Walks tb (isSubtree l tb n lo hi) (reached l tb n) s u false
@@ -240,7 +240,7 @@ module _ (image lens slots : List ℕ) (limit l n lo hi : ℕ) (w : View)
     pub visit-branch : (m : ℕ) (es : List Entry) (s u x : List ℕ) (r : Bool) → l ≡ suc m → entriesOf w ≡ es → MarksNumber (length lens) n s u true
         → Walks tb (areSubtrees (isSubtree m tb) hi es) (under m tb es) u x r → Walks tb (isSubtree l tb n lo hi) (reached l tb n) s x r
     visit-branch m es s u x r z e mk wk =
-        let f : entriesAt tb n ≡ es = listed-same image lens slots limit entriesOf refl n ∙ ap entriesOf (sym ew) ∙ e in
+        let f : entriesAt tb n ≡ es = listed-same g image lens slots limit entriesOf refl n ∙ ap entriesOf (sym ew) ∙ e in
         let a : ownAt (suc m) (at tb n) lo hi ≡ true = rw z at (own-same ∙ fit) in
         let wk′ : Walks tb (areSubtrees (isSubtree m tb) hi (entriesAt tb n)) (under m tb (entriesAt tb n)) u x r = rw f wk in
         rw z

@@ -12,7 +12,7 @@ use borrow.Author.Tests.{le-leb, lt-leb, lt-ltb, le-ltb, eq-eqb, ne-eqb}
 use Rattle.lists.specs.Lists.{All, more}
 use Rattle.lists.proofs.Tests.{cases, clash, below-or-not, same-or-not}
 use Rattle.lists.proofs.Alls.{All-zip, All-append, All-head}
-use Rattle.chip.specs.Geometry.{small}
+use Rattle.chip.specs.Geometry.{Geometry}
 use Rattle.chip.specs.Chip.{pagesOf}
 use Rattle.pages.specs.declared.unit.Unit as U
 use Rattle.pages.specs.declared.unit.Update.the-variants.{Delete}
@@ -387,10 +387,10 @@ move-same : (limit l n a b i j p q count : ℕ) (es ds : List Entry) (old new : 
 move-same limit l n a b i j p q count es ds old new r h₁ h₂ h₃ h₄ h = rw (← h₁, ← h₂, ← h₃, ← h₄) h
 
 -- ---- the arrays of a state
-module _ (image lens slots : List ℕ) (limit : ℕ) (hl : limit ≤ 256) where
+module _ (g : Geometry) (image lens slots : List ℕ) (limit : ℕ) (hl : limit ≤ 256) where
   module _ (x k v count : ℕ) (old : List ℕ) (hk : k < top) (hv : v < top) where
     abbrev t : Table
-    t = tableIn image lens slots limit count old
+    t = tableIn g image lens slots limit count old
 
     root-there : Tree t → there (at t 0) ≡ 1
     root-there g = ap there (leads-view (rootLevel t) 0 k t (leads k t g hk))
@@ -401,7 +401,7 @@ module _ (image lens slots : List ℕ) (limit : ℕ) (hl : limit ≤ 256) where
 
       -- the leaf holds it
       leaf-held : x + needsOf need 0 n len ≤ limit → MakesMove (holdMove limit x 0 n k v (insertEntry k v (entriesAt t n)) count) count old new r
-          → Rises image lens slots limit x 0 n need k v count old new r
+          → Rises g image lens slots limit x 0 n need k v count old new r
       unfolding insertAt insertUnitsAt
       leaf-held h H = record {
         keeps = H .keeps;
@@ -413,7 +413,7 @@ module _ (image lens slots : List ℕ) (limit : ℕ) (hl : limit ≤ 256) where
       }
 
       -- it is refused
-      leaf-refused : count ≤ 960 → limit < x + needsOf need 0 n len → Refused count old new r → Rises image lens slots limit x 0 n need k v count old new r
+      leaf-refused : count ≤ 960 → limit < x + needsOf need 0 n len → Refused count old new r → Rises g image lens slots limit x 0 n need k v count old new r
       unfolding insertAt insertUnitsAt
       leaf-refused room h F = record {
         keeps = record { same = ap length (F .bytes); front = ap (take (12 * count)) (F .bytes); more = omega (arith, F .used); room = omega (arith, F .used) };
@@ -430,10 +430,10 @@ module _ (image lens slots : List ℕ) (limit : ℕ) (hl : limit ≤ 256) where
       }
 
       pub rises-leaf : (l : ℕ) (es : List Entry) → l ≡ 0 → es ≡ entriesAt t n → count ≤ 960 → Lands limit x need n k v count es old new r
-          → Rises image lens slots limit x l n need k v count old new r
+          → Rises g image lens slots limit x l n need k v count old new r
       rises-leaf l es z e room L =
           let M : Lands limit x need n k v count (entriesAt t n) old new r = subst (λ (ds : List Entry). Lands limit x need n k v count ds old new r) e L in
-          subst (λ (i : ℕ). Rises image lens slots limit x i n need k v count old new r) (sym z)
+          subst (λ (i : ℕ). Rises g image lens slots limit x i n need k v count old new r) (sym z)
           (⊎-elim
           (λ (h : limit < x + needsOf need 0 n len). leaf-refused room h (M .refused h))
           (λ (h : x + needsOf need 0 n len ≤ limit). leaf-held h (M .held h))
@@ -465,9 +465,9 @@ module _ (image lens slots : List ℕ) (limit : ℕ) (hl : limit ≤ 256) where
           ap (λ (w : View). length (insertEntry j i (entriesIn w))) (ap (λ (q : Up). at (tableOf q) n) (sym e) ∙ node-kept W)
           ∙ W .fresh .0 j i u (ap (λ (a : ℕ). insertAt m a k v t) (sym ec) ∙ e) ∙ ap (λ (ds : List Entry). suc (length ds)) (sym ee)
 
-      module _ (mid : List ℕ) (r : Rise) (A : Rises image lens slots limit x m c told k v count old mid r) where
+      module _ (mid : List ℕ) (r : Rise) (A : Rises g image lens slots limit x m c told k v count old mid r) where
         -- the child's answer is passed on
-        rises-stop : r .gains ≡ false → Rises image lens slots limit x (suc m) n need k v count old mid r
+        rises-stop : r .gains ≡ false → Rises g image lens slots limit x (suc m) n need k v count old mid r
         unfolding insertAt insertUnitsAt
         rises-stop g = record {
           keeps = A .keeps;
@@ -482,15 +482,15 @@ module _ (image lens slots : List ℕ) (limit : ℕ) (hl : limit ≤ 256) where
               (over-pass limit need (suc m) n c (suc (length es)) (insertAt m c k v t) d on (one-entry W)) (A .is us R w));
         }
 
-        module _ (new : List ℕ) (r₂ : Rise) (g : r .gains ≡ true)
+        module _ (new : List ℕ) (r₂ : Rise) (gained : r .gains ≡ true)
             (H : MakesMove (holdMove limit (r .next) (suc m) n (r .key) (r .number) (insertEntry (r .key) (r .number) es) (r .count)) (r .count) mid new r₂) where
           -- the node gains what its child gave up
           up-outcome : (us : List U.Unit) → Ready limit x count old us t → Way (suc m) n k v t → (up : Up) → insertAt m c k v t ≡ up
               → Outcome limit told c m t (insertUnitsAt m c k v t) up count old mid r
               → Outcome limit need n (suc m) t (insertUnitsAt m c k v t ++ passUnits (suc m) n up) (pass (suc m) n up) count old new r₂
-          up-outcome us R W (stop u) e O = clash g (O .went (A .plain g) .gains)
+          up-outcome us R W (stop u) e O = clash gained (O .went (A .plain gained) .gains)
           up-outcome us R W (gains k′ m′ u) e O =
-              let f = A .plain g in
+              let f = A .plain gained in
               let S = O .sound f in
               let X = O .went f in
               let w = way-child m n c ec W in
@@ -516,7 +516,7 @@ module _ (image lens slots : List ℕ) (limit : ℕ) (hl : limit ≤ 256) where
               (ap there e0 ∙ root-there (R .tree)) refl hl (omega (arith, W .low, R .levels)) (S .low) inner
               (omega (arith, X .used, R .room, O .few f d)) (S .key) (S .number) fits mid new r₂ M)
 
-          rises-gain : Rises image lens slots limit x (suc m) n need k v count old new r₂
+          rises-gain : Rises g image lens slots limit x (suc m) n need k v count old new r₂
           unfolding insertAt insertUnitsAt
           rises-gain = record {
             keeps = keeps-then count (r .count) (r₂ .count) old mid new (A .keeps) (H .keeps);
@@ -527,21 +527,21 @@ module _ (image lens slots : List ℕ) (limit : ℕ) (hl : limit ≤ 256) where
                 (up-outcome us R W (insertAt m c k v t) refl (A .is us R (way-child m n c ec W)));
           }
 
-        rises-up : (new : List ℕ) (a : Rise) → PassesUp limit (suc m) n es r mid new a → Rises image lens slots limit x (suc m) n need k v count old new a
+        rises-up : (new : List ℕ) (a : Rise) → PassesUp limit (suc m) n es r mid new a → Rises g image lens slots limit x (suc m) n need k v count old new a
         rises-up new a P =
             cases (r .gains)
-            (λ g. rises-gain new a g (P .gained g))
-            (λ g. let s = P .same g in
-            subst (λ (b : List ℕ). Rises image lens slots limit x (suc m) n need k v count old b a) (sym (s .0))
-            (subst (λ (b : Rise). Rises image lens slots limit x (suc m) n need k v count old mid b) (sym (s .1)) (rises-stop g)))
+            (λ y. rises-gain new a y (P .gained y))
+            (λ y. let s = P .same y in
+            subst (λ (b : List ℕ). Rises g image lens slots limit x (suc m) n need k v count old b a) (sym (s .0))
+            (subst (λ (b : Rise). Rises g image lens slots limit x (suc m) n need k v count old mid b) (sym (s .1)) (rises-stop y)))
 
     pub rises-pass : (need l m n c told : ℕ) (es : List Entry) (mid new : List ℕ) (r a : Rise) → l ≡ suc m → es ≡ entriesAt t n → c ≡ below k 0 es
-        → told ≡ needsOf need l n (suc (length es)) → Rises image lens slots limit x m c told k v count old mid r → PassesUp limit l n es r mid new a
-        → Rises image lens slots limit x l n need k v count old new a
+        → told ≡ needsOf need l n (suc (length es)) → Rises g image lens slots limit x m c told k v count old mid r → PassesUp limit l n es r mid new a
+        → Rises g image lens slots limit x l n need k v count old new a
     rises-pass need l m n c told es mid new r a z e q w A P =
-        subst (λ (i : ℕ). Rises image lens slots limit x i n need k v count old new a) (sym z)
+        subst (λ (i : ℕ). Rises g image lens slots limit x i n need k v count old new a) (sym z)
         (rises-up need m n c es e (q ∙ ap (below k 0) e) mid r
-        (subst (λ (i : ℕ). Rises image lens slots limit x m c i k v count old mid r) (w ∙ ap (λ (i : ℕ). needsOf need i n (suc (length es))) z) A)
+        (subst (λ (i : ℕ). Rises g image lens slots limit x m c i k v count old mid r) (w ∙ ap (λ (i : ℕ). needsOf need i n (suc (length es))) z) A)
         new a (subst (λ (i : ℕ). PassesUp limit i n es r mid new a) z P))
 
     -- ---- an insert from node 0
@@ -567,12 +567,12 @@ module _ (image lens slots : List ℕ) (limit : ℕ) (hl : limit ≤ 256) where
     unfolding insert allowed inserted
     within-done p q = rw (le-leb (next left) limit p, le-leb (rootLevel left) 3 q)
 
-    module _ (l : ℕ) (el : l ≡ rootLevel t) (room : count ≤ 960) (a : Rise) (new : List ℕ) (A : Rises image lens slots limit x l 0 0 k v count old new a) where
+    module _ (l : ℕ) (el : l ≡ rootLevel t) (room : count ≤ 960) (a : Rise) (new : List ℕ) (A : Rises g image lens slots limit x l 0 0 k v count old new a) where
       root-outcome : (us : List U.Unit) → Ready limit x count old us t
           → Outcome limit 0 0 (rootLevel t) t (insertUnitsAt (rootLevel t) 0 k v t) (insertAt (rootLevel t) 0 k v t) count old new a
-      root-outcome us R = subst (λ (l : ℕ). Rises image lens slots limit x l 0 0 k v count old new a) el A .is us R (root-way (R .tree))
+      root-outcome us R = subst (λ (l : ℕ). Rises g image lens slots limit x l 0 0 k v count old new a) el A .is us R (root-way (R .tree))
 
-      insert-refused : a .refused ≡ true → Inserts image lens slots limit x k v count old new (record { refused = true; count = count; next = x })
+      insert-refused : a .refused ≡ true → Inserts g image lens slots limit x k v count old new (record { refused = true; count = count; next = x })
       insert-refused b = record {
         keeps = record { same = A .keeps .same; front = A .keeps .front; more = omega arith; room = omega arith };
         stays = λ _. (refl, refl);
@@ -581,7 +581,7 @@ module _ (image lens slots : List ℕ) (limit : ℕ) (hl : limit ≤ 256) where
         done = λ g. clash refl g;
       }
 
-      insert-made : a .refused ≡ false → Inserts image lens slots limit x k v count old new (record { refused = false; count = a .count; next = a .next })
+      insert-made : a .refused ≡ false → Inserts g image lens slots limit x k v count old new (record { refused = false; count = a .count; next = a .next })
       unfolding inserted insertUnits
       insert-made b = record {
         keeps = A .keeps;
@@ -597,37 +597,37 @@ module _ (image lens slots : List ℕ) (limit : ℕ) (hl : limit ≤ 256) where
             record {
               is = within-done (S .numbers) (S .low);
               table =
-                  ap₂ (λ (i : ℕ) (y : List ℕ). tableIn image lens slots limit i y) (X .used) (X .bytes)
-                  ∙ shown-pushed small limit (pagesOf small image) lens slots count old us xs (R .units) (S .valid) fits (X .long) ∙ S .after;
+                  ap₂ (λ (i : ℕ) (y : List ℕ). tableIn g image lens slots limit i y) (X .used) (X .bytes)
+                  ∙ shown-pushed g limit (pagesOf g image) lens slots count old us xs (R .units) (S .valid) fits (X .long) ∙ S .after;
               next = X .next;
               units =
                   ap₂ (λ (i : ℕ) (y : List ℕ). decodes limit i y) (X .used) (X .bytes)
-                  ∙ pushed-good small limit (pagesOf small image) lens slots count old us xs (R .units) (S .valid) fits (X .long);
+                  ∙ pushed-good g limit (pagesOf g image) lens slots count old us xs (R .units) (S .valid) fits (X .long);
               few = omega (arith, X .used, insert-units k v t (R .tree) hk .few (R .levels) (S .low));
             };
       }
 
-      pub insert-answers : (r : Inserted) → r ≡ answers a count x → Inserts image lens slots limit x k v count old new r
+      pub insert-answers : (r : Inserted) → r ≡ answers a count x → Inserts g image lens slots limit x k v count old new r
       insert-answers r q = cases (a .refused) (λ b. rw (q, b) (insert-refused b)) (λ b. rw (q, b) (insert-made b))
 
   -- ---- a delete
   module _ (k count : ℕ) (old : List ℕ) (hk : k < top) (leaf : ℕ) where
     abbrev shows : Table
-    shows = tableIn image lens slots limit count old
+    shows = tableIn g image lens slots limit count old
 
     leaf-below : (x : ℕ) (us : List U.Unit) → Ready limit x count old us shows → leafAt (rootLevel shows) 0 k shows < limit
     unfolding deleteUnits
     leaf-below x us R = All-head (delete-valid limit k shows (R .tree) (R .small) hk (omega (arith, R .next, R .numbers)) .units) .node
 
     -- no room
-    pub delete-none : count ≤ 960 → ((900 < count) ⊎ (256 ≤ leaf)) → Deletes image lens slots limit leaf k count old old count
+    pub delete-none : count ≤ 960 → ((900 < count) ⊎ (256 ≤ leaf)) → Deletes g image lens slots limit leaf k count old old count
     delete-none h o = record {
       keeps = record { same = refl; front = refl; more = omega arith; room = h };
       is = λ x us R e. absurd (⊎-elim (λ (q : 900 < count). let z : ⊥ = omega (arith, R .room) in z) (λ (q : 256 ≤ leaf). let z : ⊥ = omega (arith, leaf-below x us R) in z) o);
     }
 
     -- one unit
-    pub delete-made : (new : List ℕ) → UnitsPushed (unitFor leaf (Delete k) ∷ []) count old new (count + 1) → count < 960 → Deletes image lens slots limit leaf k count old new (count + 1)
+    pub delete-made : (new : List ℕ) → UnitsPushed (unitFor leaf (Delete k) ∷ []) count old new (count + 1) → count < 960 → Deletes g image lens slots limit leaf k count old new (count + 1)
     unfolding deleteUnits
     delete-made new w h = record {
       keeps = keeps-pushed (unitFor leaf (Delete k) ∷ []) count (count + 1) old new (w .bytes) refl (omega arith) (w .long);
@@ -638,11 +638,11 @@ module _ (image lens slots : List ℕ) (limit : ℕ) (hl : limit ≤ 256) where
           let b : new ≡ pushed old count xs = w .bytes ∙ ap (λ (i : ℕ). pushed old count (unitFor i (Delete k) ∷ [])) e in
           record {
             table =
-                ap (λ (y : List ℕ). tableIn image lens slots limit (count + 1) y) b
-                ∙ shown-pushed small limit (pagesOf small image) lens slots count old us xs (R .units) (D .units) (omega arith) (w .long) ∙ E .is;
+                ap (λ (y : List ℕ). tableIn g image lens slots limit (count + 1) y) b
+                ∙ shown-pushed g limit (pagesOf g image) lens slots count old us xs (R .units) (D .units) (omega arith) (w .long) ∙ E .is;
             units =
                 ap (λ (y : List ℕ). decodes limit (count + 1) y) b
-                ∙ pushed-good small limit (pagesOf small image) lens slots count old us xs (R .units) (D .units) (omega arith) (w .long);
+                ∙ pushed-good g limit (pagesOf g image) lens slots count old us xs (R .units) (D .units) (omega arith) (w .long);
             one = refl;
           };
     }

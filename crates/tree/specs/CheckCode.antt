@@ -7,7 +7,7 @@ use Prim.Native.Nat.{ℕ, zero, suc, _+_, _≤_}
 use lib.Dec.{leb, eqb}
 use lib.ListN.{length, getD}
 use Rattle.lists.specs.Lists.{flat}
-use Rattle.chip.specs.Geometry.{small}
+use Rattle.chip.specs.Geometry.{Geometry}
 use Rattle.chip.specs.Chip.{pagesOf}
 use Rattle.views.specs.Nodes.{Entry, View}
 use Rattle.tree.specs.Tree.{entriesOf, there, Table, at, firstKey}
@@ -15,8 +15,8 @@ use Rattle.tree.specs.Step6.{isLevel, keysIn, reached, times}
 use Rattle.tree.specs.Shown.{shown}
 
 -- the table that the pages alone show
-abbrev pub pagesTable : List ℕ → List ℕ → List ℕ → ℕ → Table
-pagesTable image lens slots limit = shown small limit (pagesOf small image) lens slots 0 []
+abbrev pub pagesTable : Geometry → List ℕ → List ℕ → List ℕ → ℕ → Table
+pagesTable g image lens slots limit = shown g limit (pagesOf g image) lens slots 0 []
 
 -- above the leaves: 1 to 16 entries, the first at lo
 abbrev pub startsAt : ℕ → List Entry → Bool

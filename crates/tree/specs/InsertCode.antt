@@ -7,7 +7,7 @@ use Prim.Native.Nat.{ℕ, zero, suc, _+_, _*_, _<_, _≤_}
 use lib.Dec.{ltb, leb, eqb}
 use lib.ListN.{length, take, drop}
 use Rattle.lists.specs.Lists.{All}
-use Rattle.chip.specs.Geometry.{small}
+use Rattle.chip.specs.Geometry.{Geometry}
 use Rattle.chip.specs.Chip.{pagesOf}
 use Rattle.pages.specs.declared.unit.Unit as U
 use Rattle.pages.specs.declared.unit.Update.the-variants.{Insert}
@@ -116,8 +116,8 @@ pub record PassesUp (limit l n : ℕ) (es : List Entry) (a : Rise) (old new : Li
 
 -- ---- the arrays of a state
 -- the table that they show
-abbrev pub tableIn : List ℕ → List ℕ → List ℕ → ℕ → ℕ → List ℕ → Table
-tableIn image lens slots limit count bytes = shown small limit (pagesOf small image) lens slots count bytes
+abbrev pub tableIn : Geometry → List ℕ → List ℕ → List ℕ → ℕ → ℕ → List ℕ → Table
+tableIn g image lens slots limit count bytes = shown g limit (pagesOf g image) lens slots count bytes
 
 -- the answer to an insert at node 0
 abbrev pub answers : Rise → ℕ → ℕ → Inserted
@@ -184,41 +184,41 @@ pub record Way (l n k v : ℕ) (t : Table) : Type 0 where
   pub low : l ≤ rootLevel t
   pub root : l ≡ rootLevel t → n ≡ 0
 
-pub record Rises (image lens slots : List ℕ) (limit x l n need k v count : ℕ) (old new : List ℕ) (r : Rise) : Type 0 where
+pub record Rises (g : Geometry) (image lens slots : List ℕ) (limit x l n need k v count : ℕ) (old new : List ℕ) (r : Rise) : Type 0 where
   pub keeps : FrontKept count old (r .count) new
   pub plain : r .gains ≡ true → r .refused ≡ false
   pub whole : r .refused ≡ true → new ≡ old
-  pub is : (us : List U.Unit) → Ready limit x count old us (tableIn image lens slots limit count old) → Way l n k v (tableIn image lens slots limit count old)
-      → Outcome limit need n l (tableIn image lens slots limit count old) (insertUnitsAt l n k v (tableIn image lens slots limit count old))
-      (insertAt l n k v (tableIn image lens slots limit count old)) count old new r
+  pub is : (us : List U.Unit) → Ready limit x count old us (tableIn g image lens slots limit count old) → Way l n k v (tableIn g image lens slots limit count old)
+      → Outcome limit need n l (tableIn g image lens slots limit count old) (insertUnitsAt l n k v (tableIn g image lens slots limit count old))
+      (insertAt l n k v (tableIn g image lens slots limit count old)) count old new r
 
 -- ---- an insert
 -- an insert that is not refused: the table, its next number and the units of the buffer then
-pub record Done (image lens slots : List ℕ) (limit k v count : ℕ) (old : List ℕ) (us : List U.Unit) (t : Table) (new : List ℕ) (r : Inserted) : Type 0 where
+pub record Done (g : Geometry) (image lens slots : List ℕ) (limit k v count : ℕ) (old : List ℕ) (us : List U.Unit) (t : Table) (new : List ℕ) (r : Inserted) : Type 0 where
   pub is : insert limit k v t ≡ done (inserted k v t)
-  pub table : tableIn image lens slots limit (r .count) new ≡ inserted k v t
+  pub table : tableIn g image lens slots limit (r .count) new ≡ inserted k v t
   pub next : r .next ≡ next (inserted k v t)
   pub units : decodes limit (r .count) new ≡ map Good (us ++ insertUnits k v t)
   pub few : r .count ≤ count + 60
 
 -- what an insert ensures; one that is refused leaves every byte of the buffer
-pub record Inserts (image lens slots : List ℕ) (limit x k v count : ℕ) (old new : List ℕ) (r : Inserted) : Type 0 where
+pub record Inserts (g : Geometry) (image lens slots : List ℕ) (limit x k v count : ℕ) (old new : List ℕ) (r : Inserted) : Type 0 where
   pub keeps : FrontKept count old (r .count) new
   pub stays : r .refused ≡ true → (r .count ≡ count) × (r .next ≡ x)
   pub whole : r .refused ≡ true → new ≡ old
-  pub refused : r .refused ≡ true → (us : List U.Unit) → Ready limit x count old us (tableIn image lens slots limit count old)
-      → insert limit k v (tableIn image lens slots limit count old) ≡ refusal 5
-  pub done : r .refused ≡ false → (us : List U.Unit) → Ready limit x count old us (tableIn image lens slots limit count old)
-      → Done image lens slots limit k v count old us (tableIn image lens slots limit count old) new r
+  pub refused : r .refused ≡ true → (us : List U.Unit) → Ready limit x count old us (tableIn g image lens slots limit count old)
+      → insert limit k v (tableIn g image lens slots limit count old) ≡ refusal 5
+  pub done : r .refused ≡ false → (us : List U.Unit) → Ready limit x count old us (tableIn g image lens slots limit count old)
+      → Done g image lens slots limit k v count old us (tableIn g image lens slots limit count old) new r
 
 -- ---- a delete of k from its leaf
-pub record Gone (image lens slots : List ℕ) (limit k count : ℕ) (us : List U.Unit) (t : Table) (new : List ℕ) (used : ℕ) : Type 0 where
-  pub table : tableIn image lens slots limit used new ≡ delete k t
+pub record Gone (g : Geometry) (image lens slots : List ℕ) (limit k count : ℕ) (us : List U.Unit) (t : Table) (new : List ℕ) (used : ℕ) : Type 0 where
+  pub table : tableIn g image lens slots limit used new ≡ delete k t
   pub units : decodes limit used new ≡ map Good (us ++ deleteUnits k t)
   pub one : used ≡ count + 1
 
-pub record Deletes (image lens slots : List ℕ) (limit leaf k count : ℕ) (old new : List ℕ) (used : ℕ) : Type 0 where
+pub record Deletes (g : Geometry) (image lens slots : List ℕ) (limit leaf k count : ℕ) (old new : List ℕ) (used : ℕ) : Type 0 where
   pub keeps : FrontKept count old used new
-  pub is : (x : ℕ) (us : List U.Unit) → Ready limit x count old us (tableIn image lens slots limit count old)
-      → leaf ≡ leafAt (rootLevel (tableIn image lens slots limit count old)) 0 k (tableIn image lens slots limit count old)
-      → Gone image lens slots limit k count us (tableIn image lens slots limit count old) new used
+  pub is : (x : ℕ) (us : List U.Unit) → Ready limit x count old us (tableIn g image lens slots limit count old)
+      → leaf ≡ leafAt (rootLevel (tableIn g image lens slots limit count old)) 0 k (tableIn g image lens slots limit count old)
+      → Gone g image lens slots limit k count us (tableIn g image lens slots limit count old) new used

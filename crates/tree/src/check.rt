@@ -2,6 +2,7 @@
 ghost use mathlib.Core.Path.{_≡_};
 ghost use Prim.Native.Nat.{_+_, _%_, _<_, _≤_};
 ghost use lib.ListN.{length, getD, replicate};
+ghost use Rattle.chip.specs.Geometry.{Fits, pageSize};
 ghost use Rattle.views.specs.FoldCode.{viewOf};
 ghost use Rattle.views.specs.NodeCode.{entriesOf};
 ghost use Rattle.tree.specs.Tree as T;
@@ -9,6 +10,7 @@ ghost use Rattle.tree.specs.Step6.{isLevel, keysIn, areSubtrees, isSubtr
 ghost use Rattle.tree.specs.FindCode.{entriesFrom};
 ghost use Rattle.tree.specs.CheckCode.{pagesTable, startsAt, obeysAt, ownAt, under, Walks, MarksNumber, countsFrom};
 use crate::find::node_or_empty;
+use chip::geometry::Geometry;
 use views::fold::Folded;
 use views::fold::Stage;
 use views::node::Node;
@@ -143,6 +145,7 @@ fn clear(seen: &mut [u32; 256])
 
 // Whether node `number` is the top of a tree of level `level` with keys from `lo` to below `hi`, of nodes that are new.
 fn visit(
+    geometry: Geometry,
     image: &[u8],
     lens: &[u32; 256],
     slots: &[u32; 1024],
@@ -153,13 +156,13 @@ fn visit(
     lo: u32,
     hi: u64,
 ) -> bool
-    requires { ⌜ length (now image) % 528 ≡ 0 ⌝ }
-    ensures { λ r. ⌜ Walks (pagesTable (now (image .entry)) (now (lens .entry)) (now (slots .entry)) limit)
-        (isSubtree level (pagesTable (now (image .entry)) (now (lens .entry)) (now (slots .entry)) limit) number lo hi)
-        (reached level (pagesTable (now (image .entry)) (now (lens .entry)) (now (slots .entry)) limit) number)
+    requires { ⌜ (length (now image) % pageSize geometry ≡ 0) × Fits geometry ⌝ }
+    ensures { λ r. ⌜ Walks (pagesTable geometry (now (image .entry)) (now (lens .entry)) (now (slots .entry)) limit)
+        (isSubtree level (pagesTable geometry (now (image .entry)) (now (lens .entry)) (now (slots .entry)) limit) number lo hi)
+        (reached level (pagesTable geometry (now (image .entry)) (now (lens .entry)) (now (slots .entry)) limit) number)
         (now (seen .entry)) (now (seen .exit)) r ⌝ }
 {
-    let f = list_view(image, lens, slots, number, limit);
+    let f = list_view(geometry, image, lens, slots, number, limit);
     let fit = own(f, level, lo, hi);
     if !fit {
         return false;
@@ -172,11 +175,13 @@ fn visit(
         return true;
     }
     let n = f.node;
-    subtrees(image, lens, slots, limit, seen, level - 1, n, 0, hi)
+    let low = level - 1;
+    subtrees(geometry, image, lens, slots, limit, seen, low, n, 0, hi)
 }
 
 // Whether the entries of a node from `i` on lead to trees of level `level`, of nodes that are new.
 fn subtrees(
+    geometry: Geometry,
     image: &[u8],
     lens: &[u32; 256],
     slots: &[u32; 1024],
@@ -187,40 +192,42 @@ fn subtrees(
     i: usize,
     hi: u64,
 ) -> bool
-    requires { ⌜ (length (now image) % 528 ≡ 0) × (n .len ≤ 16) ⌝ }
-    ensures { λ r. ⌜ Walks (pagesTable (now (image .entry)) (now (lens .entry)) (now (slots .entry)) limit)
-        (areSubtrees (isSubtree level (pagesTable (now (image .entry)) (now (lens .entry)) (now (slots .entry)) limit)) hi (entriesFrom (n .len) i (n .keys) (n .values)))
-        (under level (pagesTable (now (image .entry)) (now (lens .entry)) (now (slots .entry)) limit) (entriesFrom (n .len) i (n .keys) (n .values)))
+    requires { ⌜ (length (now image) % pageSize geometry ≡ 0) × (n .len ≤ 16) × Fits geometry ⌝ }
+    ensures { λ r. ⌜ Walks (pagesTable geometry (now (image .entry)) (now (lens .entry)) (now (slots .entry)) limit)
+        (areSubtrees (isSubtree level (pagesTable geometry (now (image .entry)) (now (lens .entry)) (now (slots .entry)) limit)) hi (entriesFrom (n .len) i (n .keys) (n .values)))
+        (under level (pagesTable geometry (now (image .entry)) (now (lens .entry)) (now (slots .entry)) limit) (entriesFrom (n .len) i (n .keys) (n .values)))
         (now (seen .entry)) (now (seen .exit)) r ⌝ }
 {
     let len = n.len;
     if len <= i {
         return true;
     }
-    let number = n.values[i];
+    let c = n.values[i];
     let lo = n.keys[i];
     let end = end_at(n, i, hi);
-    let tree = visit(image, lens, slots, limit, seen, level, number, lo, end);
+    let tree = visit(geometry, image, lens, slots, limit, seen, level, c, lo, end);
     if !tree {
         return false;
     }
-    subtrees(image, lens, slots, limit, seen, level, n, i + 1, hi)
+    let j = i + 1;
+    subtrees(geometry, image, lens, slots, limit, seen, level, n, j, hi)
 }
 
 // Whether each node below `limit` is counted once, and nothing else.
 fn all_once(
+    geometry: Geometry,
     image: &[u8],
     lens: &[u32; 256],
     slots: &[u32; 1024],
     limit: u32,
     seen: &[u32; 256],
 ) -> bool
-    requires { ⌜ length (now image) % 528 ≡ 0 ⌝ }
-    ensures { λ r. ⌜ r ≡ countsFrom 0 (pagesTable (now (image .entry)) (now (lens .entry)) (now (slots .entry)) limit) (now (seen .entry)) ⌝ }
+    requires { ⌜ (length (now image) % pageSize geometry ≡ 0) × Fits geometry ⌝ }
+    ensures { λ r. ⌜ r ≡ countsFrom 0 (pagesTable geometry (now (image .entry)) (now (lens .entry)) (now (slots .entry)) limit) (now (seen .entry)) ⌝ }
 {
     let mut n: u32 = 0;
     while n < limit {
-        let f = list_view(image, lens, slots, n, limit);
+        let f = list_view(geometry, image, lens, slots, n, limit);
         let one = presence(f);
         let count = count_at(seen, n);
         if count != one {
@@ -233,22 +240,23 @@ fn all_once(
 
 // Step 6 on the table of the pages; `seen` is room to count in.
 pub fn is_tree(
+    geometry: Geometry,
     image: &[u8],
     lens: &[u32; 256],
     slots: &[u32; 1024],
     limit: u32,
     seen: &mut [u32; 256],
 ) -> bool
-    requires { ⌜ length (now image) % 528 ≡ 0 ⌝ }
-    ensures { λ r. ⌜ r ≡ step6 (pagesTable (now (image .entry)) (now (lens .entry)) (now (slots .entry)) limit) ⌝ }
+    requires { ⌜ (length (now image) % pageSize geometry ≡ 0) × Fits geometry ⌝ }
+    ensures { λ r. ⌜ r ≡ step6 (pagesTable geometry (now (image .entry)) (now (lens .entry)) (now (slots .entry)) limit) ⌝ }
 {
-    let f = list_view(image, lens, slots, 0, limit);
+    let f = list_view(geometry, image, lens, slots, 0, limit);
     let n = node_or_empty(f);
     let level = n.level;
     clear(seen);
-    let tree = visit(image, lens, slots, limit, seen, level, 0, 0, TOP);
+    let tree = visit(geometry, image, lens, slots, limit, seen, level, 0, 0, TOP);
     if tree {
-        all_once(image, lens, slots, limit, seen)
+        all_once(geometry, image, lens, slots, limit, seen)
     } else {
         false
     }

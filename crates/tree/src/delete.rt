@@ -4,6 +4,7 @@ ghost use Rattle.tree.specs.InsertCode.{Deletes};
 use pages::unit::Unit;
 use pages::unit::Update;
 use views::buffer;
+use views::view::Scope;
 
 // The unit that deletes `key` from node `leaf`, pushed where there is room. Returns the count after it.
 pub fn delete(
@@ -11,14 +12,14 @@ pub fn delete(
     lens: &[u32; 256],
     slots: &[u32; 1024],
     buffer: &mut [u8; 11520],
-    count: usize,
-    limit: u32,
+    scope: Scope,
     leaf: u32,
     key: u32,
 ) -> usize
-    requires { ⌜ (limit ≤ 256) × (count ≤ 960) ⌝ }
-    ensures { λ r. ⌜ Deletes (now (image .entry)) (now (lens .entry)) (now (slots .entry)) limit leaf key count (now (buffer .entry)) (now (buffer .exit)) r ⌝ }
+    requires { ⌜ (scope .limit ≤ 256) × (scope .count ≤ 960) ⌝ }
+    ensures { λ r. ⌜ Deletes (scope .geometry) (now (image .entry)) (now (lens .entry)) (now (slots .entry)) (scope .limit) leaf key (scope .count) (now (buffer .entry)) (now (buffer .exit)) r ⌝ }
 {
+    let count = scope.count;
     if count >= 960 {
         return count;
     }

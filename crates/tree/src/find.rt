@@ -2,7 +2,7 @@
 ghost use mathlib.Core.Path.{_≡_};
 ghost use Prim.Native.Nat.{_+_, _%_, _≤_};
 ghost use lib.ListN.{length};
-ghost use Rattle.chip.specs.Geometry.{small};
+ghost use Rattle.chip.specs.Geometry.{Fits, pageSize};
 ghost use Rattle.chip.specs.Chip.{pagesOf};
 ghost use Rattle.views.specs.FoldCode.{viewOf};
 ghost use Rattle.views.specs.NodeCode.{entriesOf};
@@ -14,6 +14,7 @@ use views::fold::Folded;
 use views::fold::Stage;
 use views::node;
 use views::node::Node;
+use views::view::Scope;
 use views::view::node_view;
 use views::view::used_slots;
 
@@ -83,14 +84,14 @@ pub fn node_at(
     lens: &[u32; 256],
     slots: &[u32; 1024],
     buffer: &[u8; 11520],
-    count: usize,
-    limit: u32,
+    scope: Scope,
     number: u32,
 ) -> Node
-    requires { ⌜ length (now image) % 528 ≡ 0 ⌝ }
-    ensures { λ r. ⌜ ShowsView (T.at (shown small limit (pagesOf small (now (image .entry))) (now (lens .entry)) (now (slots .entry)) count (now (buffer .entry))) number) r ⌝ }
+    requires { ⌜ (length (now image) % pageSize (scope .geometry) ≡ 0) × Fits (scope .geometry) ⌝ }
+    ensures { λ r. ⌜ ShowsView (T.at (shown (scope .geometry) (scope .limit) (pagesOf (scope .geometry) (now (image .entry))) (now (lens .entry)) (now (slots .entry)) (scope .count)
+        (now (buffer .entry))) number) r ⌝ }
 {
-    let f = node_view(image, lens, slots, buffer, count, number, limit);
+    let f = node_view(image, lens, slots, buffer, scope, number);
     node_or_empty(f)
 }
 
@@ -107,15 +108,16 @@ fn find_at(
     lens: &[u32; 256],
     slots: &[u32; 1024],
     buffer: &[u8; 11520],
-    count: usize,
-    limit: u32,
+    scope: Scope,
     level: u32,
     number: u32,
     n: Node,
     key: u32,
 ) -> Looked
-    requires { ⌜ (length (now image) % 528 ≡ 0) × (level ≤ 3) × ShowsView (T.at (shown small limit (pagesOf small (now image)) (now lens) (now slots) count (now buffer)) number) n ⌝ }
-    ensures { λ r. ⌜ Finds (now (lens .entry)) (now (slots .entry)) level number key (shown small limit (pagesOf small (now (image .entry))) (now (lens .entry)) (now (slots .entry)) count (now (buffer .entry))) r ⌝ }
+    requires { ⌜ (length (now image) % pageSize (scope .geometry) ≡ 0) × (level ≤ 3)
+        × ShowsView (T.at (shown (scope .geometry) (scope .limit) (pagesOf (scope .geometry) (now image)) (now lens) (now slots) (scope .count) (now buffer)) number) n × Fits (scope .geometry) ⌝ }
+    ensures { λ r. ⌜ Finds (now (lens .entry)) (now (slots .entry)) level number key
+        (shown (scope .geometry) (scope .limit) (pagesOf (scope .geometry) (now (image .entry))) (now (lens .entry)) (now (slots .entry)) (scope .count) (now (buffer .entry))) r ⌝ }
 {
     let pages = list_pages(lens, slots, number);
     if level == 0 {
@@ -127,9 +129,9 @@ fn find_at(
         };
     }
     let c = child(n, key);
-    let m = node_at(image, lens, slots, buffer, count, limit, c);
+    let m = node_at(image, lens, slots, buffer, scope, c);
     let low = level - 1;
-    let r = find_at(image, lens, slots, buffer, count, limit, low, c, m, key);
+    let r = find_at(image, lens, slots, buffer, scope, low, c, m, key);
     let hit = r.hit;
     let leaf = r.leaf;
     let more = r.pages;
@@ -147,14 +149,14 @@ pub fn find(
     lens: &[u32; 256],
     slots: &[u32; 1024],
     buffer: &[u8; 11520],
-    count: usize,
-    limit: u32,
+    scope: Scope,
     key: u32,
 ) -> Looked
-    requires { ⌜ length (now image) % 528 ≡ 0 ⌝ }
-    ensures { λ r. ⌜ Answers (now (lens .entry)) (now (slots .entry)) key (shown small limit (pagesOf small (now (image .entry))) (now (lens .entry)) (now (slots .entry)) count (now (buffer .entry))) r ⌝ }
+    requires { ⌜ (length (now image) % pageSize (scope .geometry) ≡ 0) × Fits (scope .geometry) ⌝ }
+    ensures { λ r. ⌜ Answers (now (lens .entry)) (now (slots .entry)) key
+        (shown (scope .geometry) (scope .limit) (pagesOf (scope .geometry) (now (image .entry))) (now (lens .entry)) (now (slots .entry)) (scope .count) (now (buffer .entry))) r ⌝ }
 {
-    let n = node_at(image, lens, slots, buffer, count, limit, 0);
+    let n = node_at(image, lens, slots, buffer, scope, 0);
     let level = n.level;
-    find_at(image, lens, slots, buffer, count, limit, level, 0, n, key)
+    find_at(image, lens, slots, buffer, scope, level, 0, n, key)
 }

@@ -4,6 +4,7 @@ ghost use mathlib.Core.Bool.{true, false, _&&_};
 ghost use Prim.Native.Nat.{suc, _+_, _%_, _<_, _≤_};
 ghost use lib.Dec.{ltb, leb};
 ghost use lib.ListN.{length, take, drop};
+ghost use Rattle.chip.specs.Geometry.{Fits, pageSize};
 ghost use Rattle.views.specs.NodeCode.{entriesOf, Shows};
 ghost use Rattle.tree.specs.Tree.{at, firstKey};
 ghost use Rattle.tree.specs.Units.{halveUnits, raiseUnits};
@@ -16,6 +17,7 @@ use pages::unit::Update;
 use views::buffer;
 use views::node;
 use views::node::Node;
+use views::view::Scope;
 
 // What an insert under a node leaves: whether it is refused, the entry that the parent gains, if any, and how many units and numbers there are then.
 pub struct Rise {
@@ -25,6 +27,13 @@ pub struct Rise {
     pub number: u32,
     pub count: usize,
     pub next: u32,
+}
+
+// Where an insert is on its way down: node `node` of `level`. The nodes above it take `need` numbers if it splits.
+struct Spot {
+    level: u32,
+    node: u32,
+    need: u32,
 }
 
 // The answer of an insert: whether it is refused, and how many units and numbers there are then.
@@ -383,48 +392,41 @@ fn pass_up(buffer: &mut [u8; 11520], limit: u32, level: u32, node: u32, n: Node,
     }
 }
 
-// An insert under node `node` of `level`, which `n` shows; the nodes above it take `need` numbers if it splits.
-// Down to the leaf, and on the way up each node gains what its child gave up.
+// An insert under the node of `spot`, which `n` shows: down to the leaf, and on the way up each node gains what its child gave up.
 fn insert_at(
     image: &[u8],
     lens: &[u32; 256],
     slots: &[u32; 1024],
     buffer: &mut [u8; 11520],
-    count: usize,
-    limit: u32,
+    scope: Scope,
     next: u32,
-    level: u32,
-    node: u32,
+    spot: Spot,
     n: Node,
-    need: u32,
     key: u32,
     value: u32,
 ) -> Rise
-    requires { ⌜ (length (now image) % 528 ≡ 0) × (limit ≤ 256) × (count ≤ 960) × (level ≤ 3) × (need + level ≤ 260)
-        × F.ShowsView (at (tableIn (now image) (now lens) (now slots) limit count (now buffer)) node) n ⌝ }
-    ensures { λ r. ⌜ Rises (now (image .entry)) (now (lens .entry)) (now (slots .entry)) limit next level node need key value count (now (buffer .entry)) (now (buffer .exit)) r ⌝ }
+    requires { ⌜ (length (now image) % pageSize (scope .geometry) ≡ 0) × (scope .limit ≤ 256) × (scope .count ≤ 960) × (spot .level ≤ 3) × (spot .need + spot .level ≤ 260)
+        × F.ShowsView (at (tableIn (scope .geometry) (now image) (now lens) (now slots) (scope .limit) (scope .count) (now buffer)) (spot .node)) n × Fits (scope .geometry) ⌝ }
+    ensures { λ r. ⌜ Rises (scope .geometry) (now (image .entry)) (now (lens .entry)) (now (slots .entry)) (scope .limit) next (spot .level) (spot .node) (spot .need) key value
+        (scope .count) (now (buffer .entry)) (now (buffer .exit)) r ⌝ }
 {
+    let limit = scope.limit;
+    let level = spot.level;
+    let node = spot.node;
+    let need = spot.need;
     if level == 0 {
-        return gain_leaf(buffer, count, limit, next, node, n, need, key, value);
+        return gain_leaf(buffer, scope.count, limit, next, node, n, need, key, value);
     }
     let below = child(n, key);
-    let m = node_at(image, lens, slots, buffer, count, limit, below);
+    let m = node_at(image, lens, slots, buffer, scope, below);
     let more = needs_above(need, level, node, n);
-    let r = insert_at(
-        image,
-        lens,
-        slots,
-        buffer,
-        count,
-        limit,
-        next,
-        level - 1,
-        below,
-        m,
-        more,
-        key,
-        value,
-    );
+    let down = level - 1;
+    let low = Spot {
+        level: down,
+        node: below,
+        need: more,
+    };
+    let r = insert_at(image, lens, slots, buffer, scope, next, low, m, key, value);
     pass_up(buffer, limit, level, node, n, r)
 }
 
@@ -453,31 +455,33 @@ pub fn insert(
     lens: &[u32; 256],
     slots: &[u32; 1024],
     buffer: &mut [u8; 11520],
-    count: usize,
-    limit: u32,
+    scope: Scope,
     next: u32,
     key: u32,
     value: u32,
 ) -> Inserted
-    requires { ⌜ (length (now image) % 528 ≡ 0) × (limit ≤ 256) × (count ≤ 960) ⌝ }
-    ensures { λ r. ⌜ Inserts (now (image .entry)) (now (lens .entry)) (now (slots .entry)) limit next key value count (now (buffer .entry)) (now (buffer .exit)) r ⌝ }
+    requires { ⌜ (length (now image) % pageSize (scope .geometry) ≡ 0) × (scope .limit ≤ 256) × (scope .count ≤ 960) × Fits (scope .geometry) ⌝ }
+    ensures { λ r. ⌜ Inserts (scope .geometry) (now (image .entry)) (now (lens .entry)) (now (slots .entry)) (scope .limit) next key value (scope .count)
+        (now (buffer .entry)) (now (buffer .exit)) r ⌝ }
 {
-    let root = node_at(image, lens, slots, buffer, count, limit, 0);
+    let root = node_at(image, lens, slots, buffer, scope, 0);
     let level = root.level;
+    let spot = Spot {
+        level,
+        node: 0,
+        need: 0,
+    };
     let r = insert_at(
         image,
         lens,
         slots,
         buffer,
-        count,
-        limit,
+        scope,
         next,
-        level,
-        0,
+        spot,
         root,
-        0,
         key,
         value,
     );
-    answer(r, count, next)
+    answer(r, scope.count, next)
 }

@@ -13,7 +13,7 @@ use borrow.Author.Tests.{ltb-true, lt-ltb, le-ltb, le-leb, lt-leb}
 use Rattle.lists.specs.Lists.{all, flat, part}
 use Rattle.lists.proofs.Tests.{cases}
 use Rattle.lists.proofs.Flats.{flat-append, all-append}
-use Rattle.chip.specs.Geometry.{small}
+use Rattle.chip.specs.Geometry.{Geometry, mostPages, pageSize}
 use Rattle.chip.proofs.ImageLaws.{length-pages, page-at}
 use Rattle.pages.specs.declared.unit.Unit as U
 use Rattle.pages.specs.declared.unit.Decoded.{Decoded}
@@ -190,60 +190,66 @@ page-noted limit p n page l s r t a e k =
     same-notes (sym (sound-events p (decodes limit n b)) ∙ ap (all isSound) q) q k
 
 -- the page at a place of an image
-module _ (image : List ℕ) (p limit : ℕ) where
+module _ (g : Geometry) (image : List ℕ) (p limit : ℕ) where
   abbrev AtPlace : List ℕ → List ℕ → List ℕ → List ℕ → Bool → Type 0
-  AtPlace l s r t a = Notes (isReadable image p && all isSound (eventsOf limit (pageAt image p))) (eventsOf limit (pageAt image p)) l s r t a
+  AtPlace l s r t a = Notes (isReadable g image p && all isSound (eventsOf limit (pageAt g image p))) (eventsOf limit (pageAt g image p)) l s r t a
+
+  abbrev start : ℕ
+  start = p * pageSize g
+
+  -- its data as the code lends it
+  abbrev lent : List ℕ
+  lent = part start (start + g .area - start) image
 
   -- not on the chip
-  pub place-off : {l s r t : List ℕ} → length image / 528 ≤ p → AtPlace l s r t false
+  pub place-off : {l s r t : List ℕ} → length image / pageSize g ≤ p → AtPlace l s r t false
   unfolding isReadable
-  place-off h = not-noted (rw (length-pages small image, le-ltb p (length image / 528) h))
+  place-off h = not-noted (rw (length-pages g image, le-ltb p (length image / pageSize g) h))
 
-  module _ (on : p < length image / 528) (n : ℕ) (en : n ≡ half (part (p * 528) (p * 528 + 512 - p * 528) image) 6) where
+  module _ (on : p < length image / pageSize g) (n : ℕ) (en : n ≡ half lent 6) where
     -- its data as a part of the image
-    bytes : part (p * 528) (p * 528 + 512 - p * 528) image ≡ pageAt image p .bytes
+    bytes : lent ≡ pageAt g image p .bytes
     bytes =
-        ap (λ (k : ℕ). part (p * 528) k image) (add-sub-cancel-left (p * 528) 512)
-        ∙ sym (ap (take 512) (page-at small image p on) ∙ take-take 512 528 (drop (p * 528) image) (omega arith))
+        ap (λ (k : ℕ). part start k image) (add-sub-cancel-left start (g .area))
+        ∙ sym (ap (take (g .area)) (page-at g image p on) ∙ take-take (g .area) (pageSize g) (drop start image) (omega arith))
 
-    count : n ≡ half (pageAt image p .bytes) 6
+    count : n ≡ half (pageAt g image p .bytes) 6
     count = en ∙ ap (λ (b : List ℕ). half b 6) bytes
 
     -- too many units
-    pub place-many : {l s r t : List ℕ} → 42 < n → AtPlace l s r t false
+    pub place-many : {l s r t : List ℕ} → g .units < n → AtPlace l s r t false
     unfolding isReadable
-    place-many h = not-noted (rw (length-pages small image, lt-ltb p (length image / 528) on, ← count, lt-leb n 42 h))
+    place-many h = not-noted (rw (length-pages g image, lt-ltb p (length image / pageSize g) on, ← count, lt-leb n (g .units) h))
 
     -- its units are noted
-    pub place-noted : (l s r t : List ℕ) (a : Bool) → n ≤ 42
-        → Notes (all isSound (eventsOf limit (record { place = p; bytes = part (p * 528) (p * 528 + 512 - p * 528) image })))
-        (eventsOf limit (record { place = p; bytes = part (p * 528) (p * 528 + 512 - p * 528) image })) l s r t a
+    pub place-noted : (l s r t : List ℕ) (a : Bool) → n ≤ g .units
+        → Notes (all isSound (eventsOf limit (record { place = p; bytes = lent }))) (eventsOf limit (record { place = p; bytes = lent })) l s r t a
         → AtPlace l s r t a
     unfolding isReadable
     place-noted l s r t a h k =
-        let q : eventsOf limit (record { place = p; bytes = part (p * 528) (p * 528 + 512 - p * 528) image }) ≡ eventsOf limit (pageAt image p) =
+        let q : eventsOf limit (record { place = p; bytes = lent }) ≡ eventsOf limit (pageAt g image p) =
         ap (λ (b : List ℕ). eventsOf limit (record { place = p; bytes = b })) bytes in
-        same-notes (ap (all isSound) q ∙ rw (length-pages small image, lt-ltb p (length image / 528) on, ← count, le-leb n 42 h)) q k
+        same-notes (ap (all isSound) q ∙ rw (length-pages g image, lt-ltb p (length image / pageSize g) on, ← count, le-leb n (g .units) h)) q k
 
 -- ---- the pages of keys
-module _ (image : List ℕ) (limit : ℕ) where
+module _ (g : Geometry) (image : List ℕ) (limit : ℕ) where
   -- the units of the page of a key, and whether they can be noted
   abbrev pub keyUnits : ℕ → List Event
-  keyUnits k = eventsOf limit (pageAt image (k % 1024))
+  keyUnits k = eventsOf limit (pageAt g image (k % mostPages))
 
   abbrev pub keyPasses : ℕ → Bool
-  keyPasses k = isReadable image (k % 1024) && all isSound (keyUnits k)
+  keyPasses k = isReadable g image (k % mostPages) && all isSound (keyUnits k)
 
-  keys-units : (ks : List ℕ) → flat keyUnits ks ≡ events limit (pagesAt image ks)
+  keys-units : (ks : List ℕ) → flat keyUnits ks ≡ events limit (pagesAt g image ks)
   keys-units [] = refl
   keys-units (k ∷ ks) = ap (λ (es : List Event). keyUnits k ++ es) (keys-units ks)
 
-  keys-pass : (ks : List ℕ) → all keyPasses ks ≡ (allReadable image ks && all isSound (events limit (pagesAt image ks)))
+  keys-pass : (ks : List ℕ) → all keyPasses ks ≡ (allReadable g image ks && all isSound (events limit (pagesAt g image ks)))
   keys-pass [] = refl
   keys-pass (k ∷ ks) =
       ap (λ (b : Bool). keyPasses k && b) (keys-pass ks)
-      ∙ and-swap (isReadable image (k % 1024)) (all isSound (keyUnits k)) (allReadable image ks) (all isSound (events limit (pagesAt image ks)))
-      ∙ ap (λ (b : Bool). (isReadable image (k % 1024) && allReadable image ks) && b) (sym (all-append isSound (keyUnits k) (events limit (pagesAt image ks))))
+      ∙ and-swap (isReadable g image (k % mostPages)) (all isSound (keyUnits k)) (allReadable g image ks) (all isSound (events limit (pagesAt g image ks)))
+      ∙ ap (λ (b : Bool). (isReadable g image (k % mostPages) && allReadable g image ks) && b) (sym (all-append isSound (keyUnits k) (events limit (pagesAt g image ks))))
 
   -- the loop over the keys
   module _ (keys l₀ s₀ : List ℕ) where
@@ -258,10 +264,10 @@ module _ (image : List ℕ) (limit : ℕ) where
       pub passing-next : a ≡ true → Passing (i + 1) r u
       passing-next e = passed-next keyPasses keyUnits keys l₀ s₀ 0 i l s h k r u (sym (n .good) ∙ e) (n .is e)
 
-      pub passing-stop : a ≡ false → Passes image keys limit l₀ s₀ r u false
+      pub passing-stop : a ≡ false → Passes g image keys limit l₀ s₀ r u false
       passing-stop e = same-notes (keys-pass keys) (keys-units keys) (passed-stop keyPasses keyUnits keys l₀ s₀ 0 i l s h k (sym (n .good) ∙ e))
 
-    pub passing-end : (i : ℕ) (l s : List ℕ) → length keys ≤ i → Passing i l s → Passes image keys limit l₀ s₀ l s true
+    pub passing-end : (i : ℕ) (l s : List ℕ) → length keys ≤ i → Passing i l s → Passes g image keys limit l₀ s₀ l s true
     passing-end i l s h k = same-notes (keys-pass keys) (keys-units keys) (passed-end keyPasses keyUnits keys l₀ s₀ i l s h k)
 
 -- ---- a pass from the empty table

@@ -6,10 +6,10 @@ use native.Mathlib.Nat.{add-sub-cancel-left}
 use native.Mathlib.Numerals.{add-one}
 use native.Mathlib.Omega.{arith}
 use lib.ListN.{length, take, drop, getD, length-take, length-drop, drop-of-length-le, List·getD-eq-default}
-use lib.Seq.{take-add, drop-at, drop-cons, length-take-le, getD-take, getD-drop}
+use lib.Seq.{take-nil, take-add, drop-at, drop-cons, length-take-le, getD-take, getD-drop}
 use borrow.Author.Tests.{le-leb, lt-leb}
 use Rattle.lists.specs.Lists.{part}
-use Rattle.chip.specs.Geometry.{small}
+use Rattle.chip.specs.Geometry.{Geometry, Fits, pageSize}
 use Rattle.chip.specs.Page.{Page}
 use Rattle.chip.specs.Chip.{pagesOf}
 use Rattle.chip.proofs.ImageLaws.{length-pages, page-at}
@@ -22,42 +22,52 @@ use Rattle.views.specs.Stored.{storedList, viewOver, pageView, listView,
 
 -- ---- a page
 -- the units of a page from its data area, and from the page
-page-body : (x : Page) → length x ≡ 528 → drop 8 (take 512 x) ≡ take 504 (drop 8 x)
-page-body x h = ap (drop 8) (take-add 8 504 x) ∙ drop-at (take 8 x) (take 504 (drop 8 x)) 8 (length-take-le 8 x (omega arith))
+page-body : (n : ℕ) (x : Page) → 8 ≤ n → n ≤ length x → drop 8 (take n x) ≡ take (n - 8) (drop 8 x)
+page-body n x h l =
+    let e : 8 + (n - 8) ≡ n = omega arith in
+    ap (λ (m : ℕ). drop 8 (take m x)) (sym e)
+    ∙ ap (drop 8) (take-add 8 (n - 8) x) ∙ drop-at (take 8 x) (take (n - 8) (drop 8 x)) 8 (length-take-le 8 x (omega arith))
 
 -- the unit count from its data area, and from the page
-page-units : (x : Page) → half (take 512 x) 6 ≡ half x 6
-page-units x = ap₂ (λ (a b : ℕ). a + 256 * b) (getD-take 512 x 6 0 (omega arith)) (getD-take 512 x 7 0 (omega arith))
+page-units : (n : ℕ) (x : Page) → 8 ≤ n → half (take n x) 6 ≡ half x 6
+page-units n x h = ap₂ (λ (a b : ℕ). a + 256 * b) (getD-take n x 6 0 (omega arith)) (getD-take n x 7 0 (omega arith))
 
-module _ (limit n : ℕ) (w : View) (x : Page) (u : ℕ) (eu : u ≡ half x 6) where
-  -- at most 42 units
-  pub page-few : length x ≡ 528 → u ≤ 42 → viewOver n w (decodes limit u (take 504 (drop 8 x))) ≡ pageView small limit n w x
+module _ (g : Geometry) (f : Fits g) (limit n : ℕ) (w : View) (x : Page) (u : ℕ) (eu : u ≡ half x 6) where
+  header : 8 ≤ g .area
+  header = omega (arith, f .holds)
+
+  -- as many units as a page holds, or fewer
+  pub page-few : length x ≡ pageSize g → u ≤ g .units → viewOver n w (decodes limit u (take (g .area - 8) (drop 8 x))) ≡ pageView g limit n w x
   unfolding pageView
-  page-few h l = rw (page-units x ∙ sym eu, le-leb u 42 l, page-body x h)
+  page-few h l = rw (page-units (g .area) x header ∙ sym eu, le-leb u (g .units) l, page-body (g .area) x header (omega arith))
 
   -- more
-  pub page-many : 42 < u → broken ≡ pageView small limit n w x
+  pub page-many : g .units < u → broken ≡ pageView g limit n w x
   unfolding pageView
-  page-many l = rw (page-units x ∙ sym eu, lt-leb u 42 l)
+  page-many l = rw (page-units (g .area) x header ∙ sym eu, lt-leb u (g .units) l)
 
 -- ---- a page of the image
-module _ (limit n : ℕ) (w : View) (image : List ℕ) (p : ℕ) where
+module _ (g : Geometry) (limit n : ℕ) (w : View) (image : List ℕ) (p : ℕ) where
+  abbrev start : ℕ
+  start = p * pageSize g
+
   -- on the chip
-  pub place-on : p < length image / 528
-      → pageView small limit n w (part (p * 528) (p * 528 + 528 - p * 528) image) ≡ pageView small limit n w (getD (pagesOf small image) p [])
+  pub place-on : p < length image / pageSize g
+      → pageView g limit n w (part start (start + pageSize g - start) image) ≡ pageView g limit n w (getD (pagesOf g image) p [])
   place-on h =
-      ap (pageView small limit n w)
-      (sym (page-at small image p h ∙ ap (λ (k : ℕ). part (p * 528) k image) (sym (add-sub-cancel-left (p * 528) 528))))
+      ap (pageView g limit n w)
+      (sym (page-at g image p h ∙ ap (λ (k : ℕ). part start k image) (sym (add-sub-cancel-left start (pageSize g)))))
 
   -- past its end
-  pub place-off : length image / 528 ≤ p → pageView small limit n w (getD (pagesOf small image) p []) ≡ w
+  pub place-off : length image / pageSize g ≤ p → pageView g limit n w (getD (pagesOf g image) p []) ≡ w
   unfolding pageView
-  place-off h = ap (pageView small limit n w) (List·getD-eq-default (pagesOf small image) [] (omega (arith, length-pages small image)))
+  place-off h =
+      rw (List·getD-eq-default (pagesOf g image) [] {n = p} (omega (arith, length-pages g image)), take-nil {A = ℕ} (g .area), le-leb 0 (g .units) (omega arith))
 
 -- ---- the slots of a node
 -- a view after the pages at these places
-abbrev pub afterPages : ℕ → List Page → ℕ → View → List ℕ → View
-afterPages limit pages n w ps = foldl (λ (v : View) (p : ℕ). pageView small limit n v (getD pages p [])) w ps
+abbrev pub afterPages : Geometry → ℕ → List Page → ℕ → View → List ℕ → View
+afterPages g limit pages n w ps = foldl (λ (v : View) (p : ℕ). pageView g limit n v (getD pages p [])) w ps
 
 module _ (lens slots : List ℕ) (n : ℕ) where
   -- how many pages its list has
@@ -68,12 +78,12 @@ module _ (lens slots : List ℕ) (n : ℕ) where
   pub list-past : length lens ≤ n → length (storedList lens slots n) ≡ 0
   list-past h = rw (List·getD-eq-default lens 0 {n = n} h)
 
-  module _ (limit : ℕ) (pages : List Page) (i : ℕ) (w : View) where
+  module _ (g : Geometry) (limit : ℕ) (pages : List Page) (i : ℕ) (w : View) where
     -- the next slot
     pub slot-next : i < length (storedList lens slots n)
-        → afterPages limit pages n w (drop i (storedList lens slots n)) ≡ listView small limit pages n (storedList lens slots n)
-        → (p : ℕ) → p ≡ getD slots (4 * n + i) 0 → (v : View) → v ≡ pageView small limit n w (getD pages p [])
-        → afterPages limit pages n v (drop (i + 1) (storedList lens slots n)) ≡ listView small limit pages n (storedList lens slots n)
+        → afterPages g limit pages n w (drop i (storedList lens slots n)) ≡ listView g limit pages n (storedList lens slots n)
+        → (p : ℕ) → p ≡ getD slots (4 * n + i) 0 → (v : View) → v ≡ pageView g limit n w (getD pages p [])
+        → afterPages g limit pages n v (drop (i + 1) (storedList lens slots n)) ≡ listView g limit pages n (storedList lens slots n)
     slot-next h left p q v e =
         let d : List ℕ = drop (4 * n) slots in
         let k : ℕ = getD lens n 0 in
@@ -81,13 +91,13 @@ module _ (lens slots : List ℕ) (n : ℕ) where
         let at : getD l i 0 ≡ p =
         getD-take k (take 4 d) i 0 (omega (arith, list-length)) ∙ getD-take 4 d i 0 (omega (arith, list-length)) ∙ getD-drop (4 * n) slots i 0 ∙ sym q in
         let next : drop i l ≡ p ∷ drop (suc i) l = drop-cons l i 0 h ∙ ap (λ (m : ℕ). m ∷ drop (suc i) l) at in
-        ap₂ (afterPages limit pages n) e (ap (λ (m : ℕ). drop m l) (add-one i)) ∙ ap (afterPages limit pages n w) (sym next) ∙ left
+        ap₂ (afterPages g limit pages n) e (ap (λ (m : ℕ). drop m l) (add-one i)) ∙ ap (afterPages g limit pages n w) (sym next) ∙ left
 
     -- no slot left
     pub slots-done : length (storedList lens slots n) ≤ i
-        → afterPages limit pages n w (drop i (storedList lens slots n)) ≡ listView small limit pages n (storedList lens slots n)
-        → w ≡ listView small limit pages n (storedList lens slots n)
-    slots-done h left = ap (afterPages limit pages n w) (sym (drop-of-length-le (storedList lens slots n) {i = i} h)) ∙ left
+        → afterPages g limit pages n w (drop i (storedList lens slots n)) ≡ listView g limit pages n (storedList lens slots n)
+        → w ≡ listView g limit pages n (storedList lens slots n)
+    slots-done h left = ap (afterPages g limit pages n w) (sym (drop-of-length-le (storedList lens slots n) {i = i} h)) ∙ left
 
 -- ---- the buffer
 module _ (limit n count : ℕ) (bytes : List ℕ) (w : View) where

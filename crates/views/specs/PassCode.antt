@@ -6,7 +6,7 @@ use Prim.Native.Nat.{ℕ, _*_, _%_, _<_}
 use lib.Dec.{ltb, leb, eqb}
 use lib.ListN.{length, getD}
 use Rattle.lists.specs.Lists.{all, flat, patch}
-use Rattle.chip.specs.Geometry.{small}
+use Rattle.chip.specs.Geometry.{Geometry, mostPages}
 use Rattle.chip.specs.Chip.{pagesOf}
 use Rattle.pages.specs.declared.unit.Unit as U
 use Rattle.pages.specs.Units.{encode}
@@ -47,24 +47,24 @@ pub record Notes (well : Bool) (es : List Event) (l s r t : List ℕ) (answer : 
   pub is : answer ≡ true → Turned es l s r t
 
 -- the page at place p of an image
-abbrev pub pageAt : List ℕ → ℕ → Live
-pageAt image p = live small p (getD (pagesOf small image) p [])
+abbrev pub pageAt : Geometry → List ℕ → ℕ → Live
+pageAt g image p = live g p (getD (pagesOf g image) p [])
 
 -- it is on the chip, and has no more units than a page holds
-unfoldable pub isReadable : List ℕ → ℕ → Bool
-isReadable image p = ltb p (length (pagesOf small image)) && leb (headOf (pageAt image p .bytes) .units) 42
+unfoldable pub isReadable : Geometry → List ℕ → ℕ → Bool
+isReadable g image p = ltb p (length (pagesOf g image)) && leb (headOf (pageAt g image p .bytes) .units) (g .units)
 
 -- a key's place is its remainder: the pages of keys, and whether each of them can be read
-abbrev pub pagesAt : List ℕ → List ℕ → List Live
-pagesAt image keys = map (λ (k : ℕ). pageAt image (k % 1024)) keys
+abbrev pub pagesAt : Geometry → List ℕ → List ℕ → List Live
+pagesAt g image keys = map (λ (k : ℕ). pageAt g image (k % mostPages)) keys
 
-abbrev pub allReadable : List ℕ → List ℕ → Bool
-allReadable image keys = all (λ (k : ℕ). isReadable image (k % 1024)) keys
+abbrev pub allReadable : Geometry → List ℕ → List ℕ → Bool
+allReadable g image keys = all (λ (k : ℕ). isReadable g image (k % mostPages)) keys
 
 -- a pass over the pages of keys
-abbrev pub Passes : List ℕ → List ℕ → ℕ → List ℕ → List ℕ → List ℕ → List ℕ → Bool → Type 0
-Passes image keys limit l s r t answer =
-    Notes (allReadable image keys && all isSound (events limit (pagesAt image keys))) (events limit (pagesAt image keys)) l s r t answer
+abbrev pub Passes : Geometry → List ℕ → List ℕ → ℕ → List ℕ → List ℕ → List ℕ → List ℕ → Bool → Type 0
+Passes g image keys limit l s r t answer =
+    Notes (allReadable g image keys && all isSound (events limit (pagesAt g image keys))) (events limit (pagesAt g image keys)) l s r t answer
 
 -- lengths that hold an empty list for each node, whatever the slots hold
 abbrev pub Empty : List ℕ → Type 0

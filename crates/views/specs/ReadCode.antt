@@ -4,7 +4,7 @@ use mathlib.Core.Bool.{Bool, true, _&&_}
 use mathlib.Core.List.{List, map}
 use Prim.Native.Nat.{ℕ, _<_}
 use Rattle.lists.specs.Lists.{all}
-use Rattle.chip.specs.Geometry.{small}
+use Rattle.chip.specs.Geometry.{Geometry}
 use Rattle.chip.specs.Chip.{pagesOf}
 use Rattle.pages.specs.Steps.{Live, stand, steps}
 use Rattle.pages.specs.KeyCode.{keyOf}
@@ -17,6 +17,6 @@ pub record ReadTable (limit : ℕ) (xs : List Live) (lens slots : List ℕ) (ans
   pub lists : answer ≡ true → (n : ℕ) → n < 256 → Stores lens slots n (nodeOf n (events limit xs) .pages)
 
 -- the keys are those of the standing pages of the image
-abbrev pub Reads : List ℕ → List ℕ → ℕ → List ℕ → List ℕ → Bool → Type 0
-Reads image keys limit lens slots answer =
-    (v xs : List Live) → steps small (pagesOf small image) ≡ stand v xs → keys ≡ map keyOf xs → ReadTable limit xs lens slots answer
+abbrev pub Reads : Geometry → List ℕ → List ℕ → ℕ → List ℕ → List ℕ → Bool → Type 0
+Reads g image keys limit lens slots answer =
+    (v xs : List Live) → steps g (pagesOf g image) ≡ stand v xs → keys ≡ map keyOf xs → ReadTable limit xs lens slots answer

@@ -2,15 +2,16 @@
 ghost use mathlib.Core.Path.{_≡_};
 ghost use mathlib.Core.Bool.{_&&_};
 ghost use mathlib.Core.List.{List, [], _∷_, map};
-ghost use Prim.Native.Nat.{ℕ, _-_, _*_, _<_, _≤_};
+ghost use Prim.Native.Nat.{ℕ, _+_, _-_, _*_, _<_, _≤_};
 ghost use lib.ListN.{length};
 ghost use Rattle.lists.specs.Lists.{all, part};
+ghost use Rattle.chip.specs.Geometry.{Fits, mostPages};
 ghost use Rattle.pages.specs.Units.{half, decodes};
 ghost use Rattle.views.specs.Table.{eventAt, eventsOf, isGood, isSound, joins, listed};
 ghost use Rattle.views.specs.PassCode.{Becomes, Empty, Notes, Passes, isReadable, pageAt};
-use chip::geometry::DATA;
-use chip::geometry::PAGE;
-use chip::geometry::UNITS;
+use chip::geometry::CHIP_PAGES;
+use chip::geometry::Geometry;
+use pages::standing::PLACES;
 use pages::unit::Decoded;
 use pages::unit::Unit;
 use pages::unit::Update;
@@ -89,7 +90,7 @@ fn note_units(
     true
 }
 
-// The units of a page's data noted, the page at `place`.
+// The units of a page's data noted, the page at `place`; as many as its header says.
 pub fn note_page(
     lens: &mut [u32; 256],
     slots: &mut [u32; 1024],
@@ -97,7 +98,7 @@ pub fn note_page(
     place: u32,
     limit: u32,
 ) -> bool
-    requires { ⌜ (length (now page) ≡ 512) × (half (now page) 6 ≤ 42) × (limit ≤ 256) ⌝ }
+    requires { ⌜ (8 + 12 * half (now page) 6 ≤ length (now page)) × (limit ≤ 256) ⌝ }
     ensures { λ r. ⌜ Notes (all isSound (eventsOf limit (record { place = place; bytes = now (page .entry) })))
         (eventsOf limit (record { place = place; bytes = now (page .entry) }))
         (now (lens .entry)) (now (slots .entry)) (now (lens .exit)) (now (slots .exit)) r ⌝ }
@@ -108,46 +109,49 @@ pub fn note_page(
 
 // The units of the page at `place` of an image noted; false where the place is not on the chip or the page claims too many units.
 fn note_at(
+    geometry: Geometry,
     image: &[u8],
     place: u32,
     limit: u32,
     lens: &mut [u32; 256],
     slots: &mut [u32; 1024],
 ) -> bool
-    requires { ⌜ limit ≤ 256 ⌝ }
-    ensures { λ r. ⌜ Notes (isReadable (now (image .entry)) place && all isSound (eventsOf limit (pageAt (now (image .entry)) place)))
-        (eventsOf limit (pageAt (now (image .entry)) place))
+    requires { ⌜ (limit ≤ 256) × Fits geometry ⌝ }
+    ensures { λ r. ⌜ Notes (isReadable geometry (now (image .entry)) place && all isSound (eventsOf limit (pageAt geometry (now (image .entry)) place)))
+        (eventsOf limit (pageAt geometry (now (image .entry)) place))
         (now (lens .entry)) (now (slots .entry)) (now (lens .exit)) (now (slots .exit)) r ⌝ }
 {
+    let size = geometry.area + geometry.spare;
     let p = place as usize;
-    if p >= image.len() / PAGE {
+    if p >= image.len() / size {
         return false;
     }
-    let a = p * PAGE;
-    let e = a + DATA;
+    let a = p * size;
+    let e = a + geometry.area;
     let units = read_half(&image[a..e], 6) as usize;
-    if UNITS < units {
+    if geometry.units < units {
         return false;
     }
     note_page(lens, slots, &image[a..e], place, limit)
 }
 
-// The pages at the places of the keys noted in order; a key's place is its remainder by 1024.
+// The pages at the places of the keys noted in order; a key's place is its remainder by the places of the largest chip.
 fn note_keys(
+    geometry: Geometry,
     image: &[u8],
     keys: &[u64],
     limit: u32,
     lens: &mut [u32; 256],
     slots: &mut [u32; 1024],
 ) -> bool
-    requires { ⌜ limit ≤ 256 ⌝ }
-    ensures { λ r. ⌜ Passes (now (image .entry)) (now (keys .entry)) limit
+    requires { ⌜ (limit ≤ 256) × Fits geometry ⌝ }
+    ensures { λ r. ⌜ Passes geometry (now (image .entry)) (now (keys .entry)) limit
         (now (lens .entry)) (now (slots .entry)) (now (lens .exit)) (now (slots .exit)) r ⌝ }
 {
     let mut i = 0;
     while i < keys.len() {
-        let place = (keys[i] % 1024) as u32;
-        if !note_at(image, place, limit, lens, slots) {
+        let place = (keys[i] % PLACES) as u32;
+        if !note_at(geometry, image, place, limit, lens, slots) {
             return false;
         }
         i += 1;
@@ -157,20 +161,21 @@ fn note_keys(
 
 // The pages of the keys from `from` to `to` noted in order; false where one of them cannot be read or holds 12 bytes that are no unit.
 pub fn note_all(
+    geometry: Geometry,
     image: &[u8],
-    order: &[u64; 1024],
+    order: &[u64; CHIP_PAGES],
     from: usize,
     to: usize,
     limit: u32,
     lens: &mut [u32; 256],
     slots: &mut [u32; 1024],
 ) -> bool
-    requires { ⌜ (from ≤ to) × (to ≤ 1024) × (limit ≤ 256) ⌝ }
-    ensures { λ r. ⌜ Passes (now (image .entry)) (part from (to - from) (now (order .entry))) limit
+    requires { ⌜ (from ≤ to) × (to ≤ mostPages) × (limit ≤ 256) × Fits geometry ⌝ }
+    ensures { λ r. ⌜ Passes geometry (now (image .entry)) (part from (to - from) (now (order .entry))) limit
         (now (lens .entry)) (now (slots .entry)) (now (lens .exit)) (now (slots .exit)) r ⌝ }
 {
     let keys: &[u64] = &order[..];
-    note_keys(image, &keys[from..to], limit, lens, slots)
+    note_keys(geometry, image, &keys[from..to], limit, lens, slots)
 }
 
 // Every list made empty.

@@ -3,7 +3,7 @@ ghost use mathlib.Core.Path.{_≡_};
 ghost use mathlib.Core.List.{[]};
 ghost use Prim.Native.Nat.{_+_, _*_, _%_, _<_, _≤_};
 ghost use lib.ListN.{length, getD};
-ghost use Rattle.chip.specs.Geometry.{small};
+ghost use Rattle.chip.specs.Geometry.{Fits, pageSize};
 ghost use Rattle.chip.specs.Chip.{pagesOf};
 ghost use Rattle.views.specs.FoldCode.{viewIn, foldedIn, Stands, StandsIn};
 ghost use Rattle.views.specs.Stored.{storedList, pageView, listView, bufferView, nodeView};
@@ -12,13 +12,19 @@ use crate::fold::Folded;
 use crate::fold::Shape;
 use crate::fold::Stage;
 use crate::node::Node;
-use chip::geometry::DATA;
-use chip::geometry::PAGE;
-use chip::geometry::UNITS;
+use chip::geometry::Geometry;
 use pages::unit;
+
+// What a node is read with: the geometry of the chip, how many units the buffer has, and how many nodes there are.
+pub struct Scope {
+    pub geometry: Geometry,
+    pub count: usize,
+    pub limit: u32,
+}
 
 // A node after the units of a page; broken where the page claims more units than it holds.
 fn page_view(
+    geometry: Geometry,
     s: Shape,
     keys: &mut [u32],
     values: &mut [u32],
@@ -26,13 +32,14 @@ fn page_view(
     node: u32,
     limit: u32,
 ) -> Shape
-    requires { ⌜ (length (now keys) ≡ 17) × (length (now values) ≡ 17) × (s .len ≤ 16) × (length (now page) ≡ 528) ⌝ }
+    requires { ⌜ (length (now keys) ≡ 17) × (length (now values) ≡ 17) × (s .len ≤ 16) × (length (now page) ≡ pageSize geometry) × Fits geometry ⌝ }
     ensures { λ r. ⌜ StandsIn r (now (keys .exit)) (now (values .exit))
-        (pageView small limit node (viewIn s (now (keys .entry)) (now (values .entry))) (now (page .entry))) ⌝ }
+        (pageView geometry limit node (viewIn s (now (keys .entry)) (now (values .entry))) (now (page .entry))) ⌝ }
 {
     let units = unit::read_half(page, 6) as usize;
-    if units <= UNITS {
-        fold::fold_units(s, keys, values, &page[8..DATA], units, node, limit)
+    let area = geometry.area;
+    if units <= geometry.units {
+        fold::fold_units(s, keys, values, &page[8..area], units, node, limit)
     } else {
         fold::spoil(s)
     }
@@ -40,6 +47,7 @@ fn page_view(
 
 // A node after the units of page `at`; a page that is not on the chip adds nothing.
 fn place_view(
+    geometry: Geometry,
     s: Shape,
     keys: &mut [u32],
     values: &mut [u32],
@@ -48,15 +56,16 @@ fn place_view(
     node: u32,
     limit: u32,
 ) -> Shape
-    requires { ⌜ (length (now keys) ≡ 17) × (length (now values) ≡ 17) × (s .len ≤ 16) × (length (now image) % 528 ≡ 0) ⌝ }
+    requires { ⌜ (length (now keys) ≡ 17) × (length (now values) ≡ 17) × (s .len ≤ 16) × (length (now image) % pageSize geometry ≡ 0) × Fits geometry ⌝ }
     ensures { λ r. ⌜ StandsIn r (now (keys .exit)) (now (values .exit))
-        (pageView small limit node (viewIn s (now (keys .entry)) (now (values .entry))) (getD (pagesOf small (now (image .entry))) at [])) ⌝ }
+        (pageView geometry limit node (viewIn s (now (keys .entry)) (now (values .entry))) (getD (pagesOf geometry (now (image .entry))) at [])) ⌝ }
 {
     let p = at as usize;
-    if p < image.len() / PAGE {
-        let a = p * PAGE;
-        let e = a + PAGE;
-        page_view(s, keys, values, &image[a..e], node, limit)
+    let size = geometry.area + geometry.spare;
+    if p < image.len() / size {
+        let a = p * size;
+        let e = a + size;
+        page_view(geometry, s, keys, values, &image[a..e], node, limit)
     } else {
         s
     }
@@ -87,6 +96,7 @@ fn slot(slots: &[u32], node: u32, i: usize) -> u32
 
 // The view of `node` from the pages of its list, its entries put into `keys` and `values`.
 fn slots_view(
+    geometry: Geometry,
     keys: &mut [u32],
     values: &mut [u32],
     image: &[u8],
@@ -96,9 +106,9 @@ fn slots_view(
     limit: u32,
 ) -> Shape
     requires { ⌜ (length (now keys) ≡ 17) × (length (now values) ≡ 17)
-        × (length (now image) % 528 ≡ 0) × (length (now lens) ≡ 256) × (length (now slots) ≡ 1024) ⌝ }
+        × (length (now image) % pageSize geometry ≡ 0) × (length (now lens) ≡ 256) × (length (now slots) ≡ 1024) × Fits geometry ⌝ }
     ensures { λ r. ⌜ StandsIn r (now (keys .exit)) (now (values .exit))
-        (listView small limit (pagesOf small (now (image .entry))) node (storedList (now (lens .entry)) (now (slots .entry)) node)) ⌝ }
+        (listView geometry limit (pagesOf geometry (now (image .entry))) node (storedList (now (lens .entry)) (now (slots .entry)) node)) ⌝ }
 {
     let used = used_slots(lens, slots, node);
     let mut s = Shape {
@@ -109,7 +119,7 @@ fn slots_view(
     let mut i: usize = 0;
     while i < used {
         let at = slot(slots, node, i);
-        s = place_view(s, keys, values, image, at, node, limit);
+        s = place_view(geometry, s, keys, values, image, at, node, limit);
         i += 1;
     }
     s
@@ -131,18 +141,28 @@ fn whole(s: Shape, keys: [u32; 17], values: [u32; 17]) -> Folded
 
 // The view of `node` from the pages of its list, the oldest first.
 pub fn list_view(
+    geometry: Geometry,
     image: &[u8],
     lens: &[u32; 256],
     slots: &[u32; 1024],
     node: u32,
     limit: u32,
 ) -> Folded
-    requires { ⌜ length (now image) % 528 ≡ 0 ⌝ }
-    ensures { λ r. ⌜ Stands r (listView small limit (pagesOf small (now (image .entry))) node (storedList (now (lens .entry)) (now (slots .entry)) node)) ⌝ }
+    requires { ⌜ (length (now image) % pageSize geometry ≡ 0) × Fits geometry ⌝ }
+    ensures { λ r. ⌜ Stands r (listView geometry limit (pagesOf geometry (now (image .entry))) node (storedList (now (lens .entry)) (now (slots .entry)) node)) ⌝ }
 {
     let mut keys: [u32; 17] = [0; 17];
     let mut values: [u32; 17] = [0; 17];
-    let s = slots_view(&mut keys, &mut values, image, lens, slots, node, limit);
+    let s = slots_view(
+        geometry,
+        &mut keys,
+        &mut values,
+        image,
+        lens,
+        slots,
+        node,
+        limit,
+    );
     whole(s, keys, values)
 }
 
@@ -167,22 +187,33 @@ fn buffer_view(
     }
 }
 
-// The view of `node`: from its pages, and then from the first `count` units of the buffer.
+// The view of `node`: from its pages, and then from the first units of the buffer, as many as the scope says.
 pub fn node_view(
     image: &[u8],
     lens: &[u32; 256],
     slots: &[u32; 1024],
     buffer: &[u8; 11520],
-    count: usize,
+    scope: Scope,
     node: u32,
-    limit: u32,
 ) -> Folded
-    requires { ⌜ length (now image) % 528 ≡ 0 ⌝ }
-    ensures { λ r. ⌜ Stands r (nodeView small limit (pagesOf small (now (image .entry))) (now (lens .entry)) (now (slots .entry)) count (now (buffer .entry)) node) ⌝ }
+    requires { ⌜ (length (now image) % pageSize (scope .geometry) ≡ 0) × Fits (scope .geometry) ⌝ }
+    ensures { λ r. ⌜ Stands r (nodeView (scope .geometry) (scope .limit) (pagesOf (scope .geometry) (now (image .entry))) (now (lens .entry)) (now (slots .entry)) (scope .count)
+        (now (buffer .entry)) node) ⌝ }
 {
+    let geometry = scope.geometry;
+    let limit = scope.limit;
     let mut keys: [u32; 17] = [0; 17];
     let mut values: [u32; 17] = [0; 17];
-    let s = slots_view(&mut keys, &mut values, image, lens, slots, node, limit);
-    let t = buffer_view(s, &mut keys, &mut values, buffer, count, node, limit);
+    let s = slots_view(
+        geometry,
+        &mut keys,
+        &mut values,
+        image,
+        lens,
+        slots,
+        node,
+        limit,
+    );
+    let t = buffer_view(s, &mut keys, &mut values, buffer, scope.count, node, limit);
     whole(t, keys, values)
 }

@@ -1,110 +1,87 @@
-use mathlib.Core.Path.{sym, ap, _∙_}
+use mathlib.Core.Path.{sym, _∙_}
 use borrow.Author.Tests.{eq-eqb, ne-eqb}
-use Rattle.lists.specs.Lists.{repeat}
+use Rattle.chip.proofs.BlockLaws.{blank-block}
 use borrow.Author.Needs.{needs}
 use Rattle.chip.proofs.block.erase.Statement.{statement}
 use Rattle.chip.proofs.block.erase.Tie as tie
 use Rattle.chip.proofs.block.erase.Reads as reads
 use Rattle.chip.proofs.block.erase.Lts as lts
-use Rattle.chip.proofs.block.blank_page.Reads as blank-page-reads
-use Rattle.chip.proofs.block.fill.Reads as fill-reads
-use Rattle.chip.proofs.block.put_torn.Reads as put-torn-reads
-use Rattle.chip.proofs.power.next.Reads as next-reads
+use Rattle.chip.proofs.block.fill_torn.Reads as fill-torn-reads
 use Rattle.chip.proofs.operation.tell.Reads as tell-reads
+use Rattle.chip.proofs.page.blank_from.Reads as blank-from-reads
+use Rattle.chip.proofs.power.next.Reads as next-reads
 
--- src/block.rt:73:9
+-- src/block.rt:70:9
 tell-requires : tie.Need-tell-requires
 tell-requires c κs = search needs
 
--- src/block.rt:74:11
+-- src/block.rt:71:11
 next-requires : tie.Need-next-requires
 next-requires c κs = search needs
 
--- src/block.rt:76:24
+-- src/block.rt:73:30
 enum-told : tie.Need-enum-told
 enum-told c = search needs
 
--- src/block.rt:76:24
-blank-page-requires : tie.Need-blank-page-requires
-blank-page-requires c κs = search needs
+-- src/block.rt:73:13
+blank-from-requires : tie.Need-blank-from-requires
+blank-from-requires c κs = search needs
 
--- src/block.rt:77:25
-slice-aggregate-fill : tie.Need-slice-aggregate-fill
-slice-aggregate-fill c = search needs
-
--- src/block.rt:77:13
-fill-requires : tie.Need-fill-requires
-fill-requires c κs = search needs
-
--- src/block.rt:81:16
+-- src/block.rt:77:16
 enum-told-2 : tie.Need-enum-told-2
 enum-told-2 c = search needs
 
--- src/block.rt:81:16
+-- src/block.rt:77:16
 shared-slice-read-if1 : tie.Need-shared-slice-read-if1
 shared-slice-read-if1 c = search needs
 
--- src/block.rt:82:17
+-- src/block.rt:78:17
 returns : tie.Need-returns
 returns c =
     let n = c .before .before .before .before in
     let out = sym (n .next .ensures) ∙ c .before .before .enum-told2 .given .1 in
     record { told = n .before .tell .ensures; left = rw (out, eq-eqb _ _ (c .if1 .taken)) }
 
--- src/block.rt:84:28
-blank-page-requires-2 : tie.Need-blank-page-requires-2
-blank-page-requires-2 c κs = search needs
+-- src/block.rt:80:13
+fill-torn-requires : tie.Need-fill-torn-requires
+fill-torn-requires c κs = search needs
 
--- src/block.rt:85:22
-slice-aggregate-put-torn : tie.Need-slice-aggregate-put-torn
-slice-aggregate-put-torn c = search needs
-
--- src/block.rt:85:13
-put-torn-requires : tie.Need-put-torn-requires
-put-torn-requires c κs = search needs
-
--- src/block.rt:86:25
-slice-aggregate-fill-2 : tie.Need-slice-aggregate-fill-2
-slice-aggregate-fill-2 c = search needs
-
--- src/block.rt:86:13
-fill-requires-2 : tie.Need-fill-requires-2
-fill-requires-2 c κs = search needs
-
--- src/block.rt:89:29
+-- src/block.rt:83:29
 enum-told-3 : tie.Need-enum-told-3
 enum-told-3 c = search needs
 
--- src/block.rt:68:1
+-- src/block.rt:65:1
 same-length : tie.Need-same-length
 same-length c = search needs
 
--- src/block.rt:68:1
+-- src/block.rt:65:1
 returns-2 : tie.Need-returns-2
 returns-2 c =
-    let f = c .before .before in
-    let p = f .before .before .before in
-    let n = p .before .before .before in
-    let out = sym (n .next .ensures) ∙ p .before .enum-told .given .1 in
-    record { told = n .before .tell .ensures; left = rw out (f .fill .ensures ∙ ap (repeat 32) (p .blank-page .ensures)) }
+    let b = c .before .before in
+    let n = b .before .before .before .before in
+    let k = n .before .before .before .before in
+    let out = sym (n .next .ensures) ∙ b .before .before .enum-told .given .1 in
+    record { told = n .before .tell .ensures; left = rw out (b .blank-from .ensures ∙ blank-block (k .args .geometry) (k .args .block .now) (k .pre .0)) }
 
--- src/block.rt:68:1
+-- src/block.rt:65:1
 same-length-2 : tie.Need-same-length-2
 same-length-2 c = search needs
 
--- src/block.rt:68:1
+-- src/block.rt:65:1
 returns-3 : tie.Need-returns-3
 returns-3 c =
     let f = c .before .before in
-    let p = f .before .before .before .before in
-    let i = p .before .before .before in
+    let i = f .before .before in
     let n = i .before .before .before .before in
     let out = sym (n .next .ensures) ∙ i .before .before .enum-told2 .given .1 in
-    record { told = n .before .tell .ensures; left = rw (out, ne-eqb _ _ (i .if1 .left)) (f .fill2 .ensures ∙ ap (repeat 32) (p .put-torn .ensures)) }
+    record { told = n .before .tell .ensures; left = rw (out, ne-eqb _ _ (i .if1 .left)) (f .fill-torn .ensures) }
 
--- src/block.rt:68:1
+-- src/block.rt:65:1
 returns-4 : tie.Need-returns-4
-returns-4 c = search needs
+returns-4 c =
+    let n = c .before .before in
+    let out = sym (n .next .ensures) ∙ c .enum-told3 .given .1 in
+    record { told = n .before .tell .ensures; left = rw out }
 
 pub erase-spec : {M : Type 1} → statement M
 erase-spec =
@@ -113,17 +90,11 @@ erase-spec =
     tell-requires
     next-requires
     enum-told
-    blank-page-requires
-    slice-aggregate-fill
-    fill-requires
+    blank-from-requires
     enum-told-2
     shared-slice-read-if1
     returns
-    blank-page-requires-2
-    slice-aggregate-put-torn
-    put-torn-requires
-    slice-aggregate-fill-2
-    fill-requires-2
+    fill-torn-requires
     enum-told-3
     same-length
     returns-2

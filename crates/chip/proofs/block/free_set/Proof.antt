@@ -1,18 +1,19 @@
 use mathlib.Core.Path.{_≡_, refl, sym, ap, _∙_}
 use mathlib.Core.List.{[]}
 use mathlib.Core.Logic.{⊎-elim}
-use Prim.Native.Nat.{ℕ, _≤_, _<_, _-_, _*_, _/_}
+use Prim.Native.Nat.{ℕ, _≤_, _<_, _-_, _*_}
 use native.Mathlib.Nat.{add-sub-cancel-left}
 use native.Mathlib.Omega.{arith}
 use lib.ListN.{length, take}
 use lib.Seq.{take-all}
-use Rattle.lists.specs.Lists.{part}
-use Rattle.chip.specs.Geometry.{small}
+use Rattle.lists.specs.Lists.{cut, part}
+use Rattle.lists.proofs.Parts.{cut-at, length-cut}
+use Rattle.chip.specs.Geometry.{pageSize}
 use Rattle.chip.specs.Page.{isFree}
-use Rattle.chip.specs.Chip.{pagesOf}
 use Rattle.chip.specs.SetCode.{setOf}
 use Rattle.chip.proofs.SetLaws.{set-more, set-same}
-use Rattle.chip.proofs.ImageLaws.{length-pages, page-at}
+use Rattle.chip.proofs.ImageLaws.{block-cut}
+use Rattle.chip.proofs.Sizes.{page-in}
 use borrow.Author.Needs.{needs}
 use Rattle.chip.proofs.block.free_set.Statement.{statement}
 use Rattle.chip.proofs.block.free_set.Tie as tie
@@ -21,82 +22,86 @@ use Rattle.chip.proofs.block.free_set.Lts as lts
 use Rattle.chip.proofs.page.is_free.Reads as is-free-reads
 
 abbrev Inv-loop : tie.InvT-loop
-Inv-loop block free₀ i₀ free i = (i ≤ 32) × (free ≡ setOf isFree (take i (pagesOf small block)))
+Inv-loop block size pages free₀ i₀ free i = (i ≤ pages) × (free ≡ setOf isFree (take i (cut size pages block)))
 
 abbrev μ-loop : tie.MeasureT-loop
-μ-loop block free₀ i₀ free i = 32 - i
+μ-loop block size pages free₀ i₀ free i = pages - i
 
--- src/block.rt:100:5
+-- src/block.rt:87:16
+add-size : tie.Need-add-size Inv-loop μ-loop
+add-size c = search needs
+
+-- src/block.rt:91:5
 loop-holds : tie.Need-loop-holds Inv-loop μ-loop
 unfolding setOf
 loop-holds c = (search needs, refl)
 
--- src/block.rt:101:17
+-- src/block.rt:92:17
 mul-a : tie.Need-mul-a Inv-loop μ-loop
-mul-a c = search needs
+mul-a c = search (page-in (c .before .before .before .before .args .geometry) (c .before .loop .i) (omega arith), needs)
 
--- src/block.rt:102:17
+-- src/block.rt:93:19
 add-end : tie.Need-add-end Inv-loop μ-loop
-add-end c = search needs
+add-end c = search (page-in (c .before .before .before .before .args .geometry) (c .before .loop .i) (omega arith), needs)
 
--- src/block.rt:103:26
+-- src/block.rt:94:27
 sub-is-free : tie.Need-sub-is-free Inv-loop μ-loop
 sub-is-free c = search needs
 
--- src/block.rt:103:26
+-- src/block.rt:94:27
 part-is-free-start : tie.Need-part-is-free-start Inv-loop μ-loop
 part-is-free-start c = search needs
 
--- src/block.rt:103:26
+-- src/block.rt:94:27
 part-is-free-end : tie.Need-part-is-free-end Inv-loop μ-loop
-part-is-free-end c = search needs
+part-is-free-end c = search (page-in (c .before .before .before .before .args .geometry) (c .before .loop .i) (omega arith), needs)
 
--- src/block.rt:103:12
+-- src/block.rt:94:12
 is-free-requires : tie.Need-is-free-requires Inv-loop μ-loop
 is-free-requires c κs = search needs
 
--- src/block.rt:104:33
-cast-free : tie.Need-cast-free Inv-loop μ-loop
-cast-free c = search needs
-
--- src/block.rt:104:28
+-- src/block.rt:95:33
 shl-free : tie.Need-shl-free Inv-loop μ-loop
 shl-free c = search needs
 
--- src/block.rt:106:9
+-- src/block.rt:97:9
 add-i : tie.Need-add-i Inv-loop μ-loop
 add-i c = search needs
 
--- src/block.rt:100:5
+-- src/block.rt:91:5
 loop-less : tie.Need-loop-less Inv-loop μ-loop
 loop-less c = search needs
 
--- src/block.rt:100:5
+-- src/block.rt:91:5
 loop-again : tie.Need-loop-again Inv-loop μ-loop
 loop-again c =
     let f = c .before in
     let l = f .before .before .before .loop in
-    let k = f .before .before .before .before .before in
+    let k = f .before .before .before .before .before .before in
+    let g = k .args .geometry in
     let xs = k .args .block .now in
-    let h : l .i < 32 = omega arith in
-    let len = length-pages small xs in
-    let n : length xs / 528 ≡ 32 = omega (arith, k .pre) in
-    let here : l .i < length xs / 528 = omega arith in
-    let below : l .i < length (pagesOf small xs) = omega (arith, len) in
-    let is = ap isFree (page-at small xs (l .i) here) ∙ ap (λ (m : ℕ). isFree (part (l .i * 528) m xs)) (sym (add-sub-cancel-left (l .i * 528) 528)) ∙ sym (f .is-free .ensures) in
+    let size : ℕ = pageSize g in
+    let ps = cut size (g .pages) xs in
+    let h : l .i < g .pages = omega arith in
+    let below : l .i < length ps = rw (length-cut size (g .pages) xs) h in
+    let is =
+    ap isFree (cut-at size (g .pages) (l .i) xs [] h)
+    ∙ ap (λ (m : ℕ). isFree (part (l .i * size) m xs)) (sym (add-sub-cancel-left (l .i * size) size))
+    ∙ sym (f .is-free .ensures) in
     ⊎-elim
-    (λ w. (search needs, w .1 ∙ set-more isFree (pagesOf small xs) [] (l .i) (l .free) below (l .inv .1) h (is ∙ w .0 .taken)))
-    (λ w. (search needs, w .1 ∙ set-same isFree (pagesOf small xs) [] (l .i) (l .free) below (l .inv .1) (is ∙ w .0 .left)))
+    (λ w. (search needs, w .1 ∙ set-more isFree ps [] (l .i) (l .free) below (l .inv .1) (omega (arith, k .pre .1)) (is ∙ w .0 .taken)))
+    (λ w. (search needs, w .1 ∙ set-same isFree ps [] (l .i) (l .free) below (l .inv .1) (is ∙ w .0 .left)))
     (c .if1 .came)
 
--- src/block.rt:94:1
+-- src/block.rt:82:1
 returns : tie.Need-returns Inv-loop μ-loop
 returns c =
     let l = c .before .loop in
-    let k = c .before .before .before in
+    let k = c .before .before .before .before in
+    let g = k .args .geometry in
     let xs = k .args .block .now in
-    let n : length xs / 528 ≤ l .i = omega (arith, k .pre) in
-    l .inv .1 ∙ ap (setOf isFree) (take-all (l .i) (pagesOf small xs) (rw (length-pages small xs) n))
+    l .inv .1
+    ∙ ap (setOf isFree) (take-all (l .i) (cut (pageSize g) (g .pages) xs) (rw (length-cut (pageSize g) (g .pages) xs) (omega arith)) ∙ sym (block-cut g xs (k .pre .1) (k .pre .0)))
 
 pub free-set-spec : {M : Type 1} → statement M
 free-set-spec =
@@ -104,6 +109,7 @@ free-set-spec =
     (tie.spec
     Inv-loop
     μ-loop
+    add-size
     loop-holds
     mul-a
     add-end
@@ -111,7 +117,6 @@ free-set-spec =
     part-is-free-start
     part-is-free-end
     is-free-requires
-    cast-free
     shl-free
     add-i
     loop-less

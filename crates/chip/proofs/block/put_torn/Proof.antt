@@ -4,7 +4,7 @@ use Prim.Native.Nat.{ℕ, _≤_, _-_}
 use native.Mathlib.Omega.{arith}
 use lib.ListN.{length, take, drop, set, length-set}
 use Rattle.lists.proofs.Parts.{copy-more, copy-done}
-use Rattle.chip.specs.Geometry.{small}
+use Rattle.chip.specs.Geometry.{pageSize}
 use Rattle.chip.specs.Page.{tornPage}
 use Rattle.chip.proofs.PageLaws.{length-torn}
 use borrow.Author.Needs.{needs}
@@ -15,10 +15,10 @@ use Rattle.chip.proofs.block.put_torn.Lts as lts
 use Rattle.chip.proofs.block.torn_byte.Reads as torn-byte-reads
 
 abbrev Inv-loop : tie.InvT-loop
-Inv-loop page₀ torn i₀ page i = (i ≤ 528) × (length page ≡ length page₀) × (page ≡ take i (tornPage small torn) ++ drop i page₀)
+Inv-loop geometry page₀ torn i₀ page i = (i ≤ length page₀) × (length page ≡ length page₀) × (page ≡ take i (tornPage geometry torn) ++ drop i page₀)
 
 abbrev μ-loop : tie.MeasureT-loop
-μ-loop page₀ torn i₀ page i = 528 - i
+μ-loop geometry page₀ torn i₀ page i = length page₀ - i
 
 -- src/block.rt:54:5
 loop-holds : tie.Need-loop-holds Inv-loop μ-loop
@@ -45,11 +45,11 @@ loop-again : tie.Need-loop-again Inv-loop μ-loop
 loop-again c =
     let l = c .before .before .loop in
     let k = c .before .before .before .before .before in
-    let t = tornPage small (k .args .torn .now) in (
+    let t = tornPage (k .args .geometry) (k .args .torn .now) in (
       search needs,
       simp length-set (search needs),
       ap₂ (λ (p : List ℕ) (x : ℕ). set p (l .i) x) (l .inv .2) (c .torn-byte .ensures)
-          ∙ copy-more (k .args .page .now) t (l .i) 0 (omega (arith, k .pre)) (omega (arith, length-torn small (k .args .torn .now) (k .pre .1))),
+          ∙ copy-more (k .args .page .now) t (l .i) 0 (omega (arith, k .pre)) (omega (arith, length-torn (k .args .geometry) (k .args .torn .now) (k .pre .1))),
     )
 
 -- src/block.rt:49:1
@@ -61,8 +61,8 @@ returns : tie.Need-returns Inv-loop μ-loop
 returns c =
     let l = c .before .loop in
     let k = c .before .before .before .before in
-    copy-done (k .args .page .now) (tornPage small (k .args .torn .now)) (l .page) (l .i) 528 (l .inv .2) (omega arith)
-    (k .pre .0) (length-torn small (k .args .torn .now) (k .pre .1))
+    copy-done (k .args .page .now) (tornPage (k .args .geometry) (k .args .torn .now)) (l .page) (l .i) (pageSize (k .args .geometry)) (l .inv .2) (omega arith)
+    (k .pre .0) (length-torn (k .args .geometry) (k .args .torn .now) (k .pre .1))
 
 pub put-torn-spec : {M : Type 1} → statement M
 put-torn-spec =

@@ -1,7 +1,6 @@
 use native.Mathlib.Omega.{arith}
 use borrow.Author.Tests.{eq-eqb, ne-eqb}
 use Rattle.chip.specs.declared.page.Mark.the-variants.{Valid, Obsolete}
-use Rattle.chip.specs.Geometry.{small}
 use Rattle.chip.proofs.PageLaws.{set-read}
 use borrow.Author.Needs.{needs}
 use Rattle.chip.proofs.page.is_live.Statement.{statement}
@@ -22,7 +21,7 @@ returns : tie.Need-returns
 returns c =
     let k = c .before .before in
     let x = k .args .page .now in
-    let v = set-read small Valid x (omega (arith, k .pre)) in
+    let v = set-read (k .args .geometry) Valid x (omega (arith, k .pre)) in
     rw (v, ne-eqb _ _ (c .if1 .taken))
 
 -- src/page.rt:94:10
@@ -38,8 +37,8 @@ returns-2 : tie.Need-returns-2
 returns-2 c =
     let k = c .before .before .before in
     let x = k .args .page .now in
-    let v = set-read small Valid x (omega (arith, k .pre)) in
-    let o = set-read small Obsolete x (omega (arith, k .pre)) in
+    let v = set-read (k .args .geometry) Valid x (omega (arith, k .pre)) in
+    let o = set-read (k .args .geometry) Obsolete x (omega (arith, k .pre)) in
     rw (v, o, eq-eqb _ _ (c .before .if1 .left))
 
 pub is-live-spec : {M : Type 1} → statement M

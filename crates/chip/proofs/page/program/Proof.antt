@@ -1,5 +1,7 @@
 use borrow.Author.Needs.{needs}
-use mathlib.Core.Path.{sym, _∙_}
+use mathlib.Core.Path.{_≡_, sym, _∙_}
+use Prim.Native.Nat.{ℕ, _-_}
+use native.Mathlib.Omega.{arith}
 use lib.ListN.{take}
 use lib.Seq.{length-take-le}
 use Rattle.lists.proofs.Parts.{copied}
@@ -63,27 +65,33 @@ returns c =
     let a = n .before .before .before .before .before .args in
     record {
       told = n .before .tell .ensures;
-      left = rw out (copied 512 (a .bytes .now) (a .page .now) _ (n .before .before .before .before .before .pre .1) (c .before .before .copy .ensures .1));
+      left = rw out (copied (a .geometry .area) (a .bytes .now) (a .page .now) _ (n .before .before .before .before .before .pre .1) (c .before .before .copy .ensures .1));
     }
 
 -- src/page.rt:54:1
 same-length-2 : tie.Need-same-length-2
 same-length-2 c = search needs
 
--- src/page.rt:54:1
+-- src/page.rt:65:1
 returns-2 : tie.Need-returns-2
 returns-2 c =
     let n = c .before .before .before .before .before .before .before in
     let out = sym (n .next .ensures) ∙ c .before .before .before .before .before .enum-told2 .given .1 in
     let a = n .before .before .before .before .before .args in
+    let m : ℕ = a .geometry .area in
+    let e : m - 0 ≡ m = omega arith in
+    let is = c .before .before .copy2 .ensures .1 in
     record {
       told = n .before .tell .ensures;
-      left = rw out (copied 512 (take 512 (a .torn .now)) (a .page .now) _ (length-take-le 512 (a .torn .now) (search needs)) (c .before .before .copy2 .ensures .1));
+      left = rw out (copied m (take m (a .torn .now)) (a .page .now) _ (length-take-le m (a .torn .now) (search needs)) (rw e at is));
     }
 
--- src/page.rt:54:1
+-- src/page.rt:65:1
 returns-3 : tie.Need-returns-3
-returns-3 c = search needs
+returns-3 c =
+    let n = c .before .before in
+    let out = sym (n .next .ensures) ∙ c .enum-told3 .given .1 in
+    record { told = n .before .tell .ensures; left = rw out }
 
 pub program-spec : {M : Type 1} → statement M
 program-spec =

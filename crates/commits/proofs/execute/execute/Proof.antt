@@ -32,18 +32,18 @@ returns c =
 
 execute-requires : tie.Need-execute-requires
 execute-requires c κs =
-    let el = c .before .before .before .before .before .before in
+    let el = c .before .before .before .before .before .before .before in
     let mk = el .before in
     let st = mk .before .before .before .before .before .before .before in
     let m = mk .make .ensures in
     let h = some (el .if1 .left) in
     let l = m .laid h in
-    (st .pre .0, st .pre .2, st .pre .5, pages-most (st .args .image .now) m (limit-few (st .pre .2)), l .most, st .pre .4, places-on (st .args .image .now) m h, l .within)
+    (st .pre .0, st .pre .2, st .pre .5, pages-most (st .args .image .now) m (limit-few (st .pre .2)), l .most, st .pre .4, places-on (st .args .image .now) m h, l .within, st .pre .6)
 
 count-erases-requires : tie.Need-count-erases-requires
 count-erases-requires c κs =
     let ex = c .before .before .before .before .before in
-    let el = ex .before .before .before .before .before .before .before in
+    let el = ex .before .before .before .before .before .before .before .before in
     let mk = el .before in
     let st = mk .before .before .before .before .before .before .before in
     let l = mk .make .ensures .laid (some (el .if1 .left)) in
@@ -55,10 +55,10 @@ same-length-2 c = search needs
 returns-2 : tie.Need-returns-2
 returns-2 c =
     let ex = c .before .before .before .before .before .before in
-    let el = ex .before .before .before .before .before .before .before in
+    let el = ex .before .before .before .before .before .before .before .before in
     let mk = el .before in
     let st = mk .before .before .before .before .before .before .before in
-    executes-some (st .args .image .now) (mk .make .ensures) (some (el .if1 .left)) (st .args .torn .now) (st .pre .4) (st .pre .1) (st .pre .2) (ex .execute .ensures) (c .count-erases .ensures)
+    executes-some (st .args .image .now) (mk .make .ensures) (some (el .if1 .left)) (st .pre .6) (st .args .torn .now) (st .pre .4) (st .pre .1) (st .pre .2) (ex .execute .ensures) (c .count-erases .ensures)
 
 pub execute-spec : {M : Type 1} → statement M
 execute-spec =

@@ -3,7 +3,6 @@ use Prim.Native.Nat.{_-_, _≤_}
 use native.Mathlib.Omega.{arith}
 use lib.ListN.{drop}
 use Rattle.lists.specs.Lists.{any}
-use Rattle.chip.specs.Geometry.{small}
 use Rattle.chip.specs.Chip.{inBlock}
 use Rattle.views.specs.Stored.{storedList}
 use Rattle.contents.proofs.MeasureLaws.{listed-here, listed-next, listed-done}
@@ -16,11 +15,11 @@ use Rattle.contents.proofs.measure.is_in_block.Reads as is-in-block-rea
 use Rattle.views.proofs.view.used_slots.Reads as used-slots-reads
 
 abbrev Inv-loop : tie.InvT-loop
-Inv-loop lens slots node block used base i₀ i =
-    (i ≤ used) × (any (inBlock small block) (drop i (storedList lens slots node)) ≡ any (inBlock small block) (storedList lens slots node))
+Inv-loop geometry lens slots node block used base i₀ i =
+    (i ≤ used) × (any (inBlock geometry block) (drop i (storedList lens slots node)) ≡ any (inBlock geometry block) (storedList lens slots node))
 
 abbrev μ-loop : tie.MeasureT-loop
-μ-loop lens slots node block used base i₀ i = used - i
+μ-loop geometry lens slots node block used base i₀ i = used - i
 
 -- src/measure.rt:37:9
 used-slots-requires : tie.Need-used-slots-requires Inv-loop μ-loop
@@ -60,7 +59,7 @@ returns c =
     let u = l .before in
     let s = u .before .before .before in
     let a = s .args in
-    listed-here (a .lens .now) (a .slots .now) (a .node) (u .used-slots .result) (u .used-slots .ensures .0) (s .pre .1) (s .pre .2) (a .block) (l .loop .i)
+    listed-here (a .geometry) (a .lens .now) (a .slots .now) (a .node) (u .used-slots .result) (u .used-slots .ensures .0) (s .pre .1) (s .pre .2) (a .block) (l .loop .i)
     (t .loop-test .taken) (l .loop .inv .1) (sym (c .if1 .taken) ∙ b .is-in-block .ensures)
 
 -- src/measure.rt:44:9
@@ -81,7 +80,7 @@ loop-again c =
     let s = u .before .before .before in
     let a = s .args in (
       omega arith,
-      listed-next (a .lens .now) (a .slots .now) (a .node) (u .used-slots .result) (u .used-slots .ensures .0) (s .pre .1) (s .pre .2) (a .block) (l .loop .i)
+      listed-next (a .geometry) (a .lens .now) (a .slots .now) (a .node) (u .used-slots .result) (u .used-slots .ensures .0) (s .pre .1) (s .pre .2) (a .block) (l .loop .i)
           (t .loop-test .taken) (l .loop .inv .1) (sym (c .if1 .left) ∙ b .is-in-block .ensures),
     )
 
@@ -92,7 +91,7 @@ returns-2 c =
     let u = l .before in
     let s = u .before .before .before in
     let a = s .args in
-    listed-done (a .lens .now) (a .slots .now) (a .node) (u .used-slots .result) (u .used-slots .ensures .0) (s .pre .1) (s .pre .2) (a .block) (l .loop .i)
+    listed-done (a .geometry) (a .lens .now) (a .slots .now) (a .node) (u .used-slots .result) (u .used-slots .ensures .0) (s .pre .1) (s .pre .2) (a .block) (l .loop .i)
     (c .loop-test .left) (l .loop .inv .1)
 
 pub is-listed-in-spec : {M : Type 1} → statement M

@@ -2,7 +2,6 @@ use mathlib.Core.Path.{_∙_, ap}
 use Prim.Native.Nat.{ℕ, _-_, _≤_}
 use native.Mathlib.Omega.{arith}
 use Rattle.lists.specs.Lists.{any, bit}
-use Rattle.chip.specs.Geometry.{small}
 use Rattle.chip.specs.Chip.{inBlock}
 use Rattle.views.specs.Stored.{storedList}
 use Rattle.contents.specs.ContentsCode.{FillsArray}
@@ -16,11 +15,11 @@ use Rattle.contents.proofs.measure.is_listed_in.Reads as is-listed-in-r
 use Rattle.contents.proofs.measure.put_mark.Reads as put-mark-reads
 
 abbrev Inv-loop : tie.InvT-loop
-Inv-loop lens slots limit oldest olds₀ n₀ olds n =
-    (n ≤ limit) × FillsArray n (λ (m : ℕ). bit (any (inBlock small oldest) (storedList lens slots m))) olds₀ olds
+Inv-loop geometry lens slots limit oldest olds₀ n₀ olds n =
+    (n ≤ limit) × FillsArray n (λ (m : ℕ). bit (any (inBlock geometry oldest) (storedList lens slots m))) olds₀ olds
 
 abbrev μ-loop : tie.MeasureT-loop
-μ-loop lens slots limit oldest olds₀ n₀ olds n = limit - n
+μ-loop geometry lens slots limit oldest olds₀ n₀ olds n = limit - n
 
 -- src/measure.rt:68:5
 loop-holds : tie.Need-loop-holds Inv-loop μ-loop

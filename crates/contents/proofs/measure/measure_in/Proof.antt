@@ -1,7 +1,6 @@
 use mathlib.Core.Path.{_∙_, ap}
 use Prim.Native.Nat.{ℕ}
 use lib.ListN.{length, length-replicate}
-use Rattle.chip.specs.Geometry.{small}
 use Rattle.chip.specs.Chip.{pagesOf}
 use Rattle.contents.proofs.MeasureLaws.{measured}
 use borrow.Author.Needs.{needs}
@@ -21,14 +20,14 @@ mark-olds-requires c κs = search needs
 read-nodes-requires : tie.Need-read-nodes-requires
 read-nodes-requires c κs =
     let o = c .before .before .before .before .before in
-    let k = o .before .before .before .before .before .before .before .before .before .before .pre in
-    (k .0, k .1, k .2 .numbers, o .mark-olds .ensures .size ∙ k .4, ap length (k .3) ∙ length-replicate {A = ℕ} 256 0, k .5)
+    let k = o .before .before .before .before .before .before .before .before .before .before .before .before .pre in
+    (k .0, k .1, k .2 .numbers, o .mark-olds .ensures .size ∙ k .4, ap length (k .3) ∙ length-replicate {A = ℕ} 256 0, k .5, k .7)
 
 -- src/measure.rt:224:5
 mark-forms-requires : tie.Need-mark-forms-requires
 mark-forms-requires c κs =
     let r = c .before .before .before .before .before .before .before .before in
-    let k = r .before .before .before .before .before .before .before .before .before .before .before .before .before .before .before .before .pre in
+    let k = r .before .before .before .before .before .before .before .before .before .before .before .before .before .before .before .before .before .before .pre in
     (search needs, search needs, k .1, k .2 .numbers, r .read-nodes .ensures .count .size ∙ ap length (k .3) ∙ length-replicate {A = ℕ} 256 0, k .2 .marks)
 
 -- src/measure.rt:203:1
@@ -53,10 +52,10 @@ returns c =
     let f = c .before .before in
     let r = f .before .before .before .before .before .before .before .before .before in
     let o = r .before .before .before .before .before .before in
-    let s = o .before .before .before .before .before .before .before .before .before .before in
+    let s = o .before .before .before .before .before .before .before .before .before .before .before .before in
     let a = s .args in
     let k = s .pre in
-    measured (a .source .limit) (a .source .oldest) (pagesOf small (a .image .now)) (a .lens .now) (a .slots .now) (a .source .count) (a .buffer .now) (a .parts .now) (a .forms .now) _
+    measured (a .source .scope .geometry) (a .source .scope .limit) (a .source .oldest) (pagesOf (a .source .scope .geometry) (a .image .now)) (a .lens .now) (a .slots .now) (a .source .scope .count) (a .buffer .now) (a .parts .now) (a .forms .now) _
     (a .wholes .now) _ (a .olds .now) _ (a .units .now) _ (k .1) (k .2) (k .3) (k .4) (o .mark-olds .ensures) (r .read-nodes .ensures) (f .mark-forms .ensures)
 
 pub measure-in-spec : {M : Type 1} → statement M

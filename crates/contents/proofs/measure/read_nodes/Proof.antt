@@ -1,7 +1,6 @@
 use mathlib.Core.Path.{_∙_, sym}
 use Prim.Native.Nat.{ℕ, _-_, _≤_}
 use native.Mathlib.Omega.{arith}
-use Rattle.chip.specs.Geometry.{small}
 use Rattle.chip.specs.Chip.{pagesOf}
 use Rattle.views.specs.Stored.{nodeView}
 use Rattle.log.specs.Plan.{rewrite}
@@ -16,12 +15,12 @@ use Rattle.contents.proofs.measure.is_wanted.Reads as is-wanted-reads
 use Rattle.contents.proofs.measure.read_if.Reads as read-if-reads
 
 abbrev Inv-loop : tie.InvT-loop
-Inv-loop image lens slots buffer source others parts olds wholes₀ units₀ limit n₀ wholes units n =
-    (n ≤ source .limit)
-    × ReadsNodes n (isWanted others parts olds) (λ (m : ℕ). rewrite (nodeView small (source .limit) (pagesOf small image) lens slots (source .count) buffer m)) wholes₀ wholes units₀ units
+Inv-loop image lens slots buffer scope others parts olds wholes₀ units₀ limit n₀ wholes units n =
+    (n ≤ scope .limit)
+    × ReadsNodes n (isWanted others parts olds) (λ (m : ℕ). rewrite (nodeView (scope .geometry) (scope .limit) (pagesOf (scope .geometry) image) lens slots (scope .count) buffer m)) wholes₀ wholes units₀ units
 
 abbrev μ-loop : tie.MeasureT-loop
-μ-loop image lens slots buffer source others parts olds wholes₀ units₀ limit n₀ wholes units n = source .limit - n
+μ-loop image lens slots buffer scope others parts olds wholes₀ units₀ limit n₀ wholes units n = scope .limit - n
 
 -- src/measure.rt:137:5
 loop-holds : tie.Need-loop-holds Inv-loop μ-loop
@@ -40,7 +39,7 @@ read-if-requires c κs =
     let l = i .before .before in
     let s = l .before .before .before .before .before .before in
     let k = l .loop .inv .1 in
-    (s .pre .0, omega arith, k .count .size ∙ s .pre .4, k .size)
+    (s .pre .0, omega arith, k .count .size ∙ s .pre .4, k .size, s .pre .6)
 
 -- src/measure.rt:140:9
 add-n : tie.Need-add-n Inv-loop μ-loop
@@ -75,7 +74,7 @@ returns : tie.Need-returns Inv-loop μ-loop
 returns c =
     let l = c .before in
     let s = l .before .before .before .before .before .before in
-    reading-done _ _ _ _ (l .loop .n) (s .args .source .limit) (l .loop .wholes) (l .loop .units) (l .loop .inv .0) (c .loop-test .left) (l .loop .inv .1)
+    reading-done _ _ _ _ (l .loop .n) (s .args .scope .limit) (l .loop .wholes) (l .loop .units) (l .loop .inv .0) (c .loop-test .left) (l .loop .inv .1)
 
 pub read-nodes-spec : {M : Type 1} → statement M
 read-nodes-spec =

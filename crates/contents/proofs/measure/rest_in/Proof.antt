@@ -1,4 +1,3 @@
-use Rattle.chip.specs.Geometry.{small}
 use Rattle.chip.specs.Chip.{pagesOf}
 use Rattle.contents.specs.ContentsCode.{contentsIn}
 use Rattle.contents.proofs.MeasureLaws.{all-read}
@@ -38,7 +37,7 @@ returns c =
     let s = r .before .before .before .before .before .before .before .before .before in
     let a = s .args in
     let k = s .pre in
-    all-read (a .source .limit) (contentsIn small (a .source .limit) (pagesOf small (a .image .now)) (a .lens .now) (a .slots .now) (a .source .count) (a .buffer .now))
+    all-read (a .scope .limit) (contentsIn (a .scope .geometry) (a .scope .limit) (pagesOf (a .scope .geometry) (a .image .now)) (a .lens .now) (a .slots .now) (a .scope .count) (a .buffer .now))
     (a .parts .now) (a .forms .now) _ (a .wholes .now) _ (a .olds .now) (a .units .now) _ (k .3) (k .4) (k .7) (r .read-nodes .ensures) (m .mark-all .ensures)
 
 pub rest-in-spec : {M : Type 1} → statement M

@@ -10,19 +10,19 @@ use Rattle.contents.proofs.written.keep_forms.Lts as lts
 use Rattle.contents.proofs.written.keep_form.Reads as keep-form-reads
 
 abbrev Inv-loop : tie.InvT-loop
-Inv-loop buffer source targets forms wholes parts sizes₀ units₀ limit n₀ sizes units n =
-    (n ≤ source .limit)
-    × Writing (source .limit) (λ (m : ℕ). ownIn (source .limit) m (source .count) buffer) targets forms wholes parts units₀ n sizes units
+Inv-loop buffer scope targets forms wholes parts sizes₀ units₀ limit n₀ sizes units n =
+    (n ≤ scope .limit)
+    × Writing (scope .limit) (λ (m : ℕ). ownIn (scope .limit) m (scope .count) buffer) targets forms wholes parts units₀ n sizes units
 
 abbrev μ-loop : tie.MeasureT-loop
-μ-loop buffer source targets forms wholes parts sizes₀ units₀ limit n₀ sizes units n = source .limit - n
+μ-loop buffer scope targets forms wholes parts sizes₀ units₀ limit n₀ sizes units n = scope .limit - n
 
 -- src/written.rt:66:5
 loop-holds : tie.Need-loop-holds Inv-loop μ-loop
 loop-holds c =
     let s = c .before .before .before .before .before .before .before in
     let a = s .args in
-    (omega arith, writing-start (a .source .limit) (λ n. ownIn (a .source .limit) n (a .source .count) (a .buffer .now)) (a .targets .now) (a .forms .now) (a .wholes .now) (a .parts .now) (a .units .now) (a .sizes .now) (s .pre .6) (s .pre .7))
+    (omega arith, writing-start (a .scope .limit) (λ n. ownIn (a .scope .limit) n (a .scope .count) (a .buffer .now)) (a .targets .now) (a .forms .now) (a .wholes .now) (a .parts .now) (a .units .now) (a .sizes .now) (s .pre .6) (s .pre .7))
 
 -- src/written.rt:67:9
 keep-form-requires : tie.Need-keep-form-requires Inv-loop μ-loop
@@ -48,7 +48,7 @@ loop-again c =
     let l = t .before in
     let s = l .before .before .before .before .before .before .before .before in
     let a = s .args in
-    (omega arith, writing-next (a .source .limit) (λ n. ownIn (a .source .limit) n (a .source .count) (a .buffer .now)) (a .targets .now) (a .forms .now) (a .wholes .now) (a .parts .now) (a .units .now) (l .loop .n) (l .loop .sizes) _ (l .loop .units) _ (omega arith) (t .loop-test .taken) (f .keep-form .ensures) (l .loop .inv .1))
+    (omega arith, writing-next (a .scope .limit) (λ n. ownIn (a .scope .limit) n (a .scope .count) (a .buffer .now)) (a .targets .now) (a .forms .now) (a .wholes .now) (a .parts .now) (a .units .now) (l .loop .n) (l .loop .sizes) _ (l .loop .units) _ (omega arith) (t .loop-test .taken) (f .keep-form .ensures) (l .loop .inv .1))
 
 -- src/written.rt:49:1
 same-length : tie.Need-same-length Inv-loop μ-loop
@@ -64,7 +64,7 @@ returns c =
     let l = c .before in
     let s = l .before .before .before .before .before .before .before .before in
     let a = s .args in
-    writing-done (a .source .limit) (λ n. ownIn (a .source .limit) n (a .source .count) (a .buffer .now)) (a .targets .now) (a .forms .now) (a .wholes .now) (a .parts .now) (a .units .now) (l .loop .n) (l .loop .sizes) (l .loop .units) (c .loop-test .left) (l .loop .inv .1)
+    writing-done (a .scope .limit) (λ n. ownIn (a .scope .limit) n (a .scope .count) (a .buffer .now)) (a .targets .now) (a .forms .now) (a .wholes .now) (a .parts .now) (a .units .now) (l .loop .n) (l .loop .sizes) (l .loop .units) (c .loop-test .left) (l .loop .inv .1)
 
 pub keep-forms-spec : {M : Type 1} → statement M
 keep-forms-spec =

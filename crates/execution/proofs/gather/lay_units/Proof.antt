@@ -35,7 +35,7 @@ returns : tie.Need-returns
 returns c =
     let o = c .before .before in
     let a = o .before .before .before .before .before .args in
-    laid-front (a .commit) (a .index) (a .total) (a .k) (a .units .now) _ (o .lay-out .ensures)
+    laid-front (a .geometry) (a .commit) (a .index) (a .total) (a .k) (a .units .now) _ (o .lay-out .ensures)
 
 pub lay-units-spec : {M : Type 1} → statement M
 lay-units-spec =

@@ -32,14 +32,14 @@ returns : tie.Need-returns
 returns c =
     let k = c .before .before .before .before .before .before .before in
     let a = k .args in
-    push-other (a .targets .now) (a .sizes .now) (a .units .now) (a .page) (a .n) (a .k) (a .out .now) (omega (arith, k .pre)) (k .pre .6) (c .if1 .taken)
+    push-other (a .room) (a .targets .now) (a .sizes .now) (a .units .now) (a .page) (a .n) (a .k) (a .out .now) (omega (arith, k .pre)) (k .pre .7) (c .if1 .taken)
 
 -- src/gather.rt:42:9
 returns-2 : tie.Need-returns-2
 returns-2 c =
     let k = c .before .before .before .before .before .before .before .before in
     let a = k .args in
-    push-large (a .targets .now) (a .sizes .now) (a .units .now) (a .page) (a .n) (a .k) (a .out .now) (omega (arith, k .pre)) (c .before .if1 .left) (k .pre .4) (k .pre .6)
+    push-large (a .room) (a .targets .now) (a .sizes .now) (a .units .now) (a .page) (a .n) (a .k) (a .out .now) (omega (arith, k .pre)) (c .before .if1 .left) (k .pre .4) (k .pre .7)
     (c .if2 .taken)
 
 -- src/gather.rt:44:8
@@ -51,7 +51,7 @@ returns-3 : tie.Need-returns-3
 returns-3 c =
     let k = c .before .before .before .before .before .before .before .before .before in
     let a = k .args in
-    push-full (a .targets .now) (a .sizes .now) (a .units .now) (a .page) (a .n) (a .k) (a .out .now) (omega (arith, k .pre)) (c .before .before .if1 .left) (k .pre .4) (k .pre .6)
+    push-full (a .room) (a .targets .now) (a .sizes .now) (a .units .now) (a .page) (a .n) (a .k) (a .out .now) (omega (arith, k .pre)) (c .before .before .if1 .left) (k .pre .4) (k .pre .7)
     (c .if3 .taken)
 
 -- src/gather.rt:47:23
@@ -77,7 +77,7 @@ returns-4 c =
     let i = w .before .before in
     let k = i .before .before .before .before .before .before .before .before .before in
     let a = k .args in
-    push-units (a .targets .now) (a .sizes .now) (a .units .now) (a .page) (a .n) (a .k) (a .out .now) (omega (arith, k .pre)) (i .before .before .if1 .left) (k .pre .4) _
+    push-units (a .room) (a .targets .now) (a .sizes .now) (a .units .now) (a .page) (a .n) (a .k) (a .out .now) (omega (arith, k .pre)) (i .before .before .if1 .left) (k .pre .4) _
     (k .pre .5) (i .if3 .left) (w .copy-units .ensures)
 
 pub push-node-spec : {M : Type 1} → statement M

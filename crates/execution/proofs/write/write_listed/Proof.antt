@@ -1,5 +1,8 @@
-use mathlib.Core.Path.{_≡_}
-use Prim.Native.Nat.{_≤_, _-_}
+use mathlib.Core.Path.{_≡_, sym, ap, subst, _∙_}
+use Prim.Native.Nat.{ℕ, _≤_, _<_, _-_, _/_, _%_}
+use lib.ListN.{take}
+use Rattle.lists.specs.Lists.{All}
+use Rattle.chip.specs.Geometry.{pageSize}
 use native.Mathlib.Omega.{arith}
 use borrow.Author.Needs.{needs}
 use Rattle.execution.specs.WriteCode.{Writes}
@@ -29,7 +32,17 @@ write-page-requires : tie.Need-write-page-requires Inv-loop μ-loop
 write-page-requires c κs =
     let l = c .before .before .before .before .loop in
     let k = c .before .before .before .before .before .before .before .before in
-    (omega (arith, l .inv .1 .size, k .pre .0), k .pre .1, k .pre .2, k .pre .3, c .before .before .before .loop-test .taken, k .pre .4, k .pre .5, k .pre .6)
+    let s = pageSize (k .args .pages .geometry) in (
+      ap (λ (n : ℕ). n % s) (l .inv .1 .size) ∙ k .pre .0,
+      k .pre .1,
+      k .pre .2,
+      k .pre .3,
+      c .before .before .before .loop-test .taken,
+      k .pre .4,
+      k .pre .5,
+      subst (λ (n : ℕ). All (λ (p : ℕ). p < n / s) (take (k .args .pages .total) (k .args .places .now))) (sym (l .inv .1 .size)) (k .pre .6),
+      k .pre .7,
+    )
 
 -- src/write.rt:121:9
 add-i : tie.Need-add-i Inv-loop μ-loop

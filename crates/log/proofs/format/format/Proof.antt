@@ -1,3 +1,6 @@
+use mathlib.Core.Path.{_∙_}
+use native.Mathlib.Omega.{arith}
+use Rattle.chip.proofs.Sizes.{block-on-chip, blocks-whole}
 use Rattle.log.proofs.FormatCode.{first-written}
 use borrow.Author.Needs.{needs}
 use Rattle.log.proofs.format.format.Statement.{statement}
@@ -5,51 +8,56 @@ use Rattle.log.proofs.format.format.Tie as tie
 use Rattle.log.proofs.format.format.Reads as reads
 use Rattle.log.proofs.format.format.Lts as lts
 use Rattle.log.proofs.format.erase_all.Reads as erase-all-reads
-use Rattle.log.proofs.format.put_first.Reads as put-first-reads
-use Rattle.pages.proofs.write.write_at.Reads as write-at-reads
+use Rattle.log.proofs.format.write_first.Reads as write-first-reads
 
--- src/format.rt:49:15
-slice-aggregate-put-first : tie.Need-slice-aggregate-put-first
-slice-aggregate-put-first c = search needs
-
--- src/format.rt:49:5
-put-first-requires : tie.Need-put-first-requires
-put-first-requires c κs = search needs
-
--- src/format.rt:50:9
+-- src/format.rt:74:9
 erase-all-requires : tie.Need-erase-all-requires
 erase-all-requires c κs = search needs
 
--- src/format.rt:51:31
-slice-aggregate-write-at : tie.Need-slice-aggregate-write-at
-slice-aggregate-write-at c = search needs
+-- src/format.rt:75:34
+sub-write-first : tie.Need-sub-write-first
+sub-write-first c = search needs
 
--- src/format.rt:51:5
-write-at-requires : tie.Need-write-at-requires
-write-at-requires c κs = search needs
+-- src/format.rt:75:34
+part-page-start : tie.Need-part-page-start
+part-page-start c = search needs
 
--- src/format.rt:44:1
+-- src/format.rt:75:34
+part-page-end : tie.Need-part-page-end
+part-page-end c = search needs
+
+-- src/format.rt:75:5
+write-first-requires : tie.Need-write-first-requires
+write-first-requires c κs =
+    let e = c .before .before .before .before in
+    let k = e .before .before .before .before in
+    let g = k .args .geometry in
+    let f = k .pre .3 in
+    let same = e .erase-all .ensures .size ∙ k .pre .0 in
+    let b = k .args .blocks in
+    (omega (arith, block-on-chip g f b 0 _ same (k .pre .1), f .many), blocks-whole g _ b same, search needs, k .pre .2, f)
+
+-- src/format.rt:62:1
 same-length : tie.Need-same-length
 same-length c = search needs
 
--- src/format.rt:44:1
+-- src/format.rt:62:1
 returns : tie.Need-returns
 returns c =
-    let w = c .before .before in
+    let w = c .before .before .before in
     let e = w .before .before .before .before .before in
-    let p = e .before .before .before in
-    let a = p .before .before .before .before .args in
-    first-written (a .torn .now) (a .blocks) _ (a .progress) (e .erase-all .result) (w .write-at .result) (a .image .now) _ _
-    (p .put-first .ensures) (e .erase-all .ensures) (w .write-at .ensures)
+    let a = e .before .before .before .before .args in
+    first-written (a .geometry) (a .torn .now) (a .blocks) (a .progress) (e .erase-all .result) (w .write-first .result) (a .image .now) _ _
+    (e .erase-all .ensures) (w .write-first .ensures)
 
 pub format-spec : {M : Type 1} → statement M
 format-spec =
     tie.close
     (tie.spec
-    slice-aggregate-put-first
-    put-first-requires
     erase-all-requires
-    slice-aggregate-write-at
-    write-at-requires
+    sub-write-first
+    part-page-start
+    part-page-end
+    write-first-requires
     same-length
     returns)

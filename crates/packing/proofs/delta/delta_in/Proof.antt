@@ -40,7 +40,7 @@ returns c =
     let q = c .before .before .before .before .before .before in
     let p = q .before .before .before .before .before .before .before .before in
     let a = p .before .before .before .before .before .before .before .before .before .before .before .args in
-    packs-delta (a .wholes .now) (a .parts .now) (a .lens .now) (a .olds .now) (a .limit) (p .pack-in .ensures) (q .fill-pages .ensures)
+    packs-delta (a .wholes .now) (a .parts .now) (a .lens .now) (a .olds .now) (a .limit) (a .units) (p .pack-in .ensures) (q .fill-pages .ensures)
 
 pub delta-in-spec : {M : Type 1} → statement M
 delta-in-spec =

@@ -1,12 +1,12 @@
 use mathlib.Core.Path.{_≡_, sym, _∙_}
 use mathlib.Core.List.{[], foldl}
-use Prim.Native.Nat.{_-_, _≤_}
+use Prim.Native.Nat.{ℕ, _-_, _≤_}
 use native.Mathlib.Omega.{arith}
 use lib.ListN.{take}
 use Rattle.log.specs.Plan.{countFrom}
 use Rattle.log.specs.Packing.{fillNode}
-use Rattle.log.specs.PlanCode.{isMarked, packingOf}
-use Rattle.packing.specs.PackingCode.{sizes, fillIf, KeepsForms, Ready}
+use Rattle.log.specs.PlanCode.{isMarked, packingOf, sizesIn}
+use Rattle.packing.specs.PackingCode.{fillIf, KeepsForms, Ready}
 use Rattle.packing.proofs.PackingArrays.{fold-start, fold-next, fold-done, fold-filter}
 use Rattle.packing.proofs.FillArrays.{keeps-same, keeps-both}
 use borrow.Author.Needs.{needs}
@@ -19,7 +19,8 @@ use Rattle.packing.proofs.fill.fill_if.Reads as fill-if-reads
 abbrev Inv-loop : tie.InvT-loop
 Inv-loop olds limit wholes forms₀ targets₀ rooms₀ count end n₀ forms targets rooms n =
     (n ≤ limit) × Ready count rooms targets forms × KeepsForms forms₀ forms
-    × (foldl (fillIf olds wholes) (packingOf (take count rooms) targets forms) (countFrom n (limit - n)) ≡ foldl (fillIf olds wholes) (packingOf (take count rooms₀) targets₀ forms₀) (countFrom 0 limit))
+    × ((units : ℕ) → foldl (fillIf units olds wholes) (packingOf (take count rooms) targets forms) (countFrom n (limit - n))
+    ≡ foldl (fillIf units olds wholes) (packingOf (take count rooms₀) targets₀ forms₀) (countFrom 0 limit))
 
 abbrev μ-loop : tie.MeasureT-loop
 μ-loop olds limit wholes forms₀ targets₀ rooms₀ count end n₀ forms targets rooms n = limit - n
@@ -28,7 +29,7 @@ loop-holds : tie.Need-loop-holds Inv-loop μ-loop
 loop-holds c =
     let k = c .before .before .before .before .before in
     let a = k .args in
-    (omega arith, k .pre .4, keeps-same, fold-start (fillIf (a .olds .now) (a .wholes .now)) (a .limit) (packingOf (take (a .count) (a .rooms .now)) (a .targets .now) (a .forms .now)))
+    (omega arith, k .pre .4, keeps-same, λ units. fold-start (fillIf units (a .olds .now) (a .wholes .now)) (a .limit) (packingOf (take (a .count) (a .rooms .now)) (a .targets .now) (a .forms .now)))
 
 mul-fill-if : tie.Need-mul-fill-if Inv-loop μ-loop
 mul-fill-if c = search needs
@@ -55,7 +56,7 @@ loop-again c =
       omega arith,
       u .ready,
       keeps-both (l .inv .2) (u .keeps),
-      fold-next (fillIf (a .olds .now) (a .wholes .now)) (l .n) (a .limit) (packingOf (take (a .count) (l .rooms)) (l .targets) (l .forms)) (l .inv .3) (i .loop-test .taken) (u .is),
+      λ units. fold-next (fillIf units (a .olds .now) (a .wholes .now)) (l .n) (a .limit) (packingOf (take (a .count) (l .rooms)) (l .targets) (l .forms)) (l .inv .3 units) (i .loop-test .taken) (u .is units),
     )
 
 same-length : tie.Need-same-length Inv-loop μ-loop
@@ -72,9 +73,9 @@ returns c =
     let l = c .before .loop in
     let a = c .before .before .before .before .before .before .before .args in
     record {
-      is =
-          fold-done (fillIf (a .olds .now) (a .wholes .now)) (l .n) (a .limit) (packingOf (take (a .count) (l .rooms)) (l .targets) (l .forms)) (l .inv .3) (c .loop-test .left)
-          ∙ sym (fold-filter (fillNode (sizes (a .wholes .now) [])) (isMarked (a .olds .now)) (countFrom 0 (a .limit)) (packingOf (take (a .count) (a .rooms .now)) (a .targets .now) (a .forms .now)));
+      is = λ units.
+          fold-done (fillIf units (a .olds .now) (a .wholes .now)) (l .n) (a .limit) (packingOf (take (a .count) (l .rooms)) (l .targets) (l .forms)) (l .inv .3 units) (c .loop-test .left)
+          ∙ sym (fold-filter (fillNode (sizesIn units (a .wholes .now) [])) (isMarked (a .olds .now)) (countFrom 0 (a .limit)) (packingOf (take (a .count) (a .rooms .now)) (a .targets .now) (a .forms .now)));
       ready = l .inv .1;
       keeps = l .inv .2;
     }

@@ -28,7 +28,7 @@ returns-2 : tie.Need-returns-2
 returns-2 c =
     let k = c .before .before .before .before .before in
     let a = k .args in
-    rw (c .if1 .left) (fills-same (a .n) (a .count) (a .rooms .now) (a .targets .now) (a .forms .now) (k .pre .3) (k .pre .1) (k .pre .2) refl)
+    rw (c .if1 .left) (fills-same (a .n) (a .count) (a .rooms .now) (a .targets .now) (a .forms .now) (k .pre .3) (k .pre .1) (k .pre .2) (λ units. refl))
 
 pub fill-if-spec : {M : Type 1} → statement M
 fill-if-spec =

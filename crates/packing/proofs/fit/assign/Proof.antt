@@ -46,7 +46,7 @@ returns c =
     let f = c .before .before in
     let k = f .before .before .before .before in
     let a = k .args in
-    assign-old (a .n) (a .size) (a .count) (a .rooms .now) (a .targets .now) (f .first-fit .result) (f .first-fit .ensures) (c .before .if1 .taken) (omega (arith, k .pre .1))
+    assign-old (a .units) (a .n) (a .size) (a .count) (a .rooms .now) (a .targets .now) (f .first-fit .result) (f .first-fit .ensures) (c .before .if1 .taken) (omega (arith, k .pre .1))
 
 excess-requires : tie.Need-excess-requires
 excess-requires c κs = search needs
@@ -71,7 +71,7 @@ returns-2 c =
     let f = c .before .before in
     let k = f .before .before .before .before in
     let a = k .args in
-    assign-new (a .n) (a .size) (a .count) (a .rooms .now) (a .targets .now) (f .first-fit .result) (f .first-fit .ensures) (c .excess .result) (c .excess .ensures) (c .before .if1 .left) (k .pre .1)
+    assign-new (a .units) (a .n) (a .size) (a .count) (a .rooms .now) (a .targets .now) (f .first-fit .result) (f .first-fit .ensures) (c .excess .result) (c .excess .ensures) (c .before .if1 .left) (k .pre .1)
 
 pub assign-spec : {M : Type 1} → statement M
 assign-spec =

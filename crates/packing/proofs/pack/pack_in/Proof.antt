@@ -37,7 +37,7 @@ returns c =
     let p = q .before .before .before .before .before .before .before in
     let l = p .before .before .before .before .before in
     let a = l .before .before .before .before .before .before .before .args in
-    packs-passes (length (a .targets .now)) (a .rooms .now) (a .forms .now) _ (l .clear .ensures) (a .wholes .now) (a .parts .now) (a .limit) (p .pack-pass .ensures) (q .pack-pass2 .ensures)
+    packs-passes (length (a .targets .now)) (a .rooms .now) (a .forms .now) _ (l .clear .ensures) (a .units) (a .wholes .now) (a .parts .now) (a .limit) (p .pack-pass .ensures) (q .pack-pass2 .ensures)
 
 pub pack-in-spec : {M : Type 1} → statement M
 pack-in-spec =

@@ -18,7 +18,7 @@ returns : tie.Need-returns
 returns c =
     let k = c .before .before .before .before .before .before .before in
     let a = k .args in
-    packs-had (a .wholes .now) (a .parts .now) (a .n) (a .count) (a .rooms .now) (a .targets .now) (a .forms .now) (k .pre .4) (k .pre .2) (c .if1 .taken)
+    packs-had (a .units) (a .wholes .now) (a .parts .now) (a .n) (a .count) (a .rooms .now) (a .targets .now) (a .forms .now) (k .pre .4) (k .pre .2) (c .if1 .taken)
 
 size-of-requires : tie.Need-size-of-requires
 size-of-requires c κs = search needs
@@ -28,7 +28,7 @@ returns-2 c =
     let u = c .before in
     let k = u .before .before .before .before .before .before .before .before in
     let a = k .args in
-    packs-none (a .wholes .now) (a .parts .now) (a .n) (a .count) (a .rooms .now) (a .targets .now) (a .forms .now) (k .pre .4) (k .pre .2)
+    packs-none (a .units) (a .wholes .now) (a .parts .now) (a .n) (a .count) (a .rooms .now) (a .targets .now) (a .forms .now) (k .pre .4) (k .pre .2)
     (u .before .if1 .left) (u .size-of .result) (u .size-of .ensures) (c .if2 .taken)
 
 assign-requires : tie.Need-assign-requires
@@ -47,7 +47,7 @@ returns-3 c =
     let u = e .before in
     let k = u .before .before .before .before .before .before .before .before in
     let a = k .args in
-    packs-assigned (a .wholes .now) (a .parts .now) (a .n) (a .count) (a .rooms .now) (a .targets .now) (a .forms .now) (k .pre .4) (k .pre .2)
+    packs-assigned (a .units) (a .wholes .now) (a .parts .now) (a .n) (a .count) (a .rooms .now) (a .targets .now) (a .forms .now) (k .pre .4) (k .pre .2)
     (u .before .if1 .left) (k .pre .3) (u .size-of .ensures) (omega (arith, e .if2 .left)) (search needs) (search needs) (r .assign .ensures)
 
 pub pack-node-spec : {M : Type 1} → statement M

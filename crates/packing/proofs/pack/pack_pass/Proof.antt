@@ -15,19 +15,19 @@ use Rattle.packing.proofs.pack.pack_pass.Lts as lts
 use Rattle.packing.proofs.pack.pack_if.Reads as pack-if-reads
 
 abbrev Inv-loop : tie.InvT-loop
-Inv-loop always limit wholes parts forms targets₀ rooms₀ count end k₀ n₀ targets rooms k n =
+Inv-loop units always limit wholes parts forms targets₀ rooms₀ count end k₀ n₀ targets rooms k n =
     (n ≤ limit) × (k ≤ count + n) × Ready k rooms targets forms
-    × (foldl (packIf always wholes parts forms) (packingOf (take k rooms) targets forms) (countFrom n (limit - n))
-    ≡ foldl (packIf always wholes parts forms) (packingOf (take count rooms₀) targets₀ forms) (countFrom 0 limit))
+    × (foldl (packIf units always wholes parts forms) (packingOf (take k rooms) targets forms) (countFrom n (limit - n))
+    ≡ foldl (packIf units always wholes parts forms) (packingOf (take count rooms₀) targets₀ forms) (countFrom 0 limit))
 
 abbrev μ-loop : tie.MeasureT-loop
-μ-loop always limit wholes parts forms targets₀ rooms₀ count end k₀ n₀ targets rooms k n = limit - n
+μ-loop units always limit wholes parts forms targets₀ rooms₀ count end k₀ n₀ targets rooms k n = limit - n
 
 loop-holds : tie.Need-loop-holds Inv-loop μ-loop
 loop-holds c =
     let k = c .before .before .before .before .before in
     let a = k .args in
-    (omega arith, omega arith, k .pre .4, fold-start (packIf (a .always) (a .wholes .now) (a .parts .now) (a .forms .now)) (a .limit) (packingOf (take (a .count) (a .rooms .now)) (a .targets .now) (a .forms .now)))
+    (omega arith, omega arith, k .pre .4, fold-start (packIf (a .units) (a .always) (a .wholes .now) (a .parts .now) (a .forms .now)) (a .limit) (packingOf (take (a .count) (a .rooms .now)) (a .targets .now) (a .forms .now)))
 
 pack-if-requires : tie.Need-pack-if-requires Inv-loop μ-loop
 pack-if-requires c κs = search needs
@@ -48,7 +48,7 @@ loop-again c =
       omega arith,
       omega (arith, u .few),
       u .ready,
-      fold-next (packIf (a .always) (a .wholes .now) (a .parts .now) (a .forms .now)) (l .n) (a .limit) (packingOf (take (l .k) (l .rooms)) (l .targets) (a .forms .now)) (l .inv .3) (i .loop-test .taken) (u .is),
+      fold-next (packIf (a .units) (a .always) (a .wholes .now) (a .parts .now) (a .forms .now)) (l .n) (a .limit) (packingOf (take (l .k) (l .rooms)) (l .targets) (a .forms .now)) (l .inv .3) (i .loop-test .taken) (u .is),
     )
 
 same-length : tie.Need-same-length Inv-loop μ-loop
@@ -62,7 +62,7 @@ returns c =
     let l = c .before .loop in
     let a = c .before .before .before .before .before .before .before .args in
     record {
-      is = fold-done (packIf (a .always) (a .wholes .now) (a .parts .now) (a .forms .now)) (l .n) (a .limit) (packingOf (take (l .k) (l .rooms)) (l .targets) (a .forms .now)) (l .inv .3) (c .loop-test .left);
+      is = fold-done (packIf (a .units) (a .always) (a .wholes .now) (a .parts .now) (a .forms .now)) (l .n) (a .limit) (packingOf (take (l .k) (l .rooms)) (l .targets) (a .forms .now)) (l .inv .3) (c .loop-test .left);
       ready = l .inv .2;
       few = omega (arith, l .inv .0, l .inv .1);
     }

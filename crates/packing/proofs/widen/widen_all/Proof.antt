@@ -6,8 +6,8 @@ use lib.Dec.{eqb}
 use lib.ListN.{getD, take}
 use Rattle.log.specs.Plan.{countFrom}
 use Rattle.log.specs.Packing.{widenNode}
-use Rattle.log.specs.PlanCode.{packingOf}
-use Rattle.packing.specs.PackingCode.{sizes, widenIf, KeepsForms, Ready}
+use Rattle.log.specs.PlanCode.{packingOf, sizesIn}
+use Rattle.packing.specs.PackingCode.{widenIf, KeepsForms, Ready}
 use Rattle.packing.proofs.PackingArrays.{fold-start, fold-next, fold-done, fold-filter}
 use Rattle.packing.proofs.FillArrays.{keeps-same, keeps-both, keeps-short}
 use borrow.Author.Needs.{needs}
@@ -20,8 +20,8 @@ use Rattle.packing.proofs.widen.widen_if.Reads as widen-if-reads
 abbrev Inv-loop : tie.InvT-loop
 Inv-loop d lens limit wholes parts forms₀ targets rooms₀ count end n₀ forms rooms n =
     (n ≤ limit) × Ready count rooms targets forms × KeepsForms forms₀ forms
-    × (foldl (widenIf lens d wholes parts) (packingOf (take count rooms) targets forms) (countFrom n (limit - n))
-    ≡ foldl (widenIf lens d wholes parts) (packingOf (take count rooms₀) targets forms₀) (countFrom 0 limit))
+    × ((units : ℕ) → foldl (widenIf units lens d wholes parts) (packingOf (take count rooms) targets forms) (countFrom n (limit - n))
+    ≡ foldl (widenIf units lens d wholes parts) (packingOf (take count rooms₀) targets forms₀) (countFrom 0 limit))
 
 abbrev μ-loop : tie.MeasureT-loop
 μ-loop d lens limit wholes parts forms₀ targets rooms₀ count end n₀ forms rooms n = limit - n
@@ -30,7 +30,7 @@ loop-holds : tie.Need-loop-holds Inv-loop μ-loop
 loop-holds c =
     let k = c .before .before .before .before .before .before in
     let a = k .args in
-    (omega arith, k .pre .5, keeps-same, fold-start (widenIf (a .lens .now) (a .d) (a .wholes .now) (a .parts .now)) (a .limit) (packingOf (take (a .count) (a .rooms .now)) (a .targets .now) (a .forms .now)))
+    (omega arith, k .pre .5, keeps-same, λ units. fold-start (widenIf units (a .lens .now) (a .d) (a .wholes .now) (a .parts .now)) (a .limit) (packingOf (take (a .count) (a .rooms .now)) (a .targets .now) (a .forms .now)))
 
 mul-widen-if : tie.Need-mul-widen-if Inv-loop μ-loop
 mul-widen-if c = search needs
@@ -62,7 +62,7 @@ loop-again c =
       omega arith,
       u .ready,
       keeps-both (l .inv .2) (u .keeps),
-      fold-next (widenIf (a .lens .now) (a .d) (a .wholes .now) (a .parts .now)) (l .n) (a .limit) (packingOf (take (a .count) (l .rooms)) (a .targets .now) (l .forms)) (l .inv .3) (i .loop-test .taken) (u .is),
+      λ units. fold-next (widenIf units (a .lens .now) (a .d) (a .wholes .now) (a .parts .now)) (l .n) (a .limit) (packingOf (take (a .count) (l .rooms)) (a .targets .now) (l .forms)) (l .inv .3 units) (i .loop-test .taken) (u .is units),
     )
 
 same-length : tie.Need-same-length Inv-loop μ-loop
@@ -76,9 +76,9 @@ returns c =
     let l = c .before .loop in
     let a = c .before .before .before .before .before .before .before .before .args in
     record {
-      is =
-          fold-done (widenIf (a .lens .now) (a .d) (a .wholes .now) (a .parts .now)) (l .n) (a .limit) (packingOf (take (a .count) (l .rooms)) (a .targets .now) (l .forms)) (l .inv .3) (c .loop-test .left)
-          ∙ sym (fold-filter (widenNode (sizes (a .wholes .now) (a .parts .now))) (λ (n : ℕ). eqb (getD (a .lens .now) n 0) (a .d)) (countFrom 0 (a .limit))
+      is = λ units.
+          fold-done (widenIf units (a .lens .now) (a .d) (a .wholes .now) (a .parts .now)) (l .n) (a .limit) (packingOf (take (a .count) (l .rooms)) (a .targets .now) (l .forms)) (l .inv .3 units) (c .loop-test .left)
+          ∙ sym (fold-filter (widenNode (sizesIn units (a .wholes .now) (a .parts .now))) (λ (n : ℕ). eqb (getD (a .lens .now) n 0) (a .d)) (countFrom 0 (a .limit))
           (packingOf (take (a .count) (a .rooms .now)) (a .targets .now) (a .forms .now)));
       ready = l .inv .1;
       keeps = l .inv .2;

@@ -1,12 +1,11 @@
 use borrow.Author.Needs.{needs}
-use Rattle.chip.specs.Geometry.{small}
 use Rattle.pages.proofs.HeaderLaws.{laid-done}
 use Rattle.pages.proofs.header.lay_out.Statement.{statement}
 use Rattle.pages.proofs.header.lay_out.Tie as tie
 use Rattle.pages.proofs.header.lay_out.Reads as reads
 use Rattle.pages.proofs.header.lay_out.Lts as lts
 use Rattle.bytes.proofs.copy.Reads as copy-reads
-use Rattle.pages.proofs.header.blank_from.Reads as blank-from-reads
+use Rattle.chip.proofs.page.blank_from.Reads as blank-from-reads
 use Rattle.pages.proofs.header.head_bytes.Reads as head-bytes-reads
 
 -- src/header.rt:102:16
@@ -70,7 +69,7 @@ returns c =
     let head = blank .before .before in
     let start = head .before .before .before in
     let a = start .args in
-    laid-done small (a .commit) (a .index) (a .count) (a .k) (a .units .now) (a .page .now) (start .pre .0) (search needs) (start .pre .4)
+    laid-done (a .geometry) (a .commit) (a .index) (a .count) (a .k) (a .units .now) (a .page .now) (start .pre .0) (search needs) (start .pre .4)
     (head .head-bytes .result) _ _ _ (head .head-bytes .ensures) (blank .blank-from .ensures) (mid .copy .ensures .1) (last .copy2 .ensures .1)
 
 pub lay-out-spec : {M : Type 1} → statement M

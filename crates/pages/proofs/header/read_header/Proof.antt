@@ -2,7 +2,6 @@ use borrow.Author.Needs.{needs}
 use mathlib.Core.Path.{_∙_}
 use native.Mathlib.Omega.{arith}
 use Rattle.lists.proofs.Tests.{clash}
-use Rattle.chip.specs.Geometry.{small}
 use Rattle.pages.proofs.HeaderLaws.{kept, broken, rest-free}
 use Rattle.pages.proofs.header.read_header.Statement.{statement}
 use Rattle.pages.proofs.header.read_header.Tie as tie
@@ -23,25 +22,29 @@ cast-units c = search needs
 returns : tie.Need-returns
 returns c =
     let h = c .before .before .before in
-    broken small (h .read-head .result) (h .before .before .args .page .now) (h .read-head .ensures) (λ o. omega arith)
+    let a = h .before .before .args in
+    broken (a .geometry) (h .read-head .result) (a .page .now) (h .read-head .ensures) (λ o. omega arith)
 
 -- src/header.rt:54:9
 returns-2 : tie.Need-returns-2
 returns-2 c =
     let h = c .before .before .before .before .before in
-    broken small (h .read-head .result) (h .before .before .args .page .now) (h .read-head .ensures) (λ o. omega arith)
+    let a = h .before .before .args in
+    broken (a .geometry) (h .read-head .result) (a .page .now) (h .read-head .ensures) (λ o. omega arith)
 
 -- src/header.rt:57:9
 returns-3 : tie.Need-returns-3
 returns-3 c =
     let h = c .before .before .before .before .before .before in
-    broken small (h .read-head .result) (h .before .before .args .page .now) (h .read-head .ensures) (λ o. omega arith)
+    let a = h .before .before .args in
+    broken (a .geometry) (h .read-head .result) (a .page .now) (h .read-head .ensures) (λ o. omega arith)
 
 -- src/header.rt:60:9
 returns-4 : tie.Need-returns-4
 returns-4 c =
-    let h = c .before .before .before .before .before .before .before in
-    broken small (h .read-head .result) (h .before .before .args .page .now) (h .read-head .ensures) (λ o. omega arith)
+    let h = c .before .before .before .before .before .before .before .before in
+    let a = h .before .before .args in
+    broken (a .geometry) (h .read-head .result) (a .page .now) (h .read-head .ensures) (λ o. omega arith)
 
 -- src/header.rt:62:26
 mul-is-free : tie.Need-mul-is-free
@@ -71,9 +74,10 @@ is-free-requires c κs = search needs
 returns-5 : tie.Need-returns-5
 returns-5 c =
     let f = c .before in
-    let h = f .before .before .before .before .before .before .before .before .before in
-    let d = h .before .before .args .page .now in
-    kept small (h .read-head .result) d (h .read-head .ensures)
+    let h = f .before .before .before .before .before .before .before .before .before .before in
+    let a = h .before .before .args in
+    let d = a .page .now in
+    kept (a .geometry) (h .read-head .result) d (h .read-head .ensures)
     (record {
       commit = omega arith;
       count = omega arith;
@@ -87,9 +91,10 @@ returns-5 c =
 returns-6 : tie.Need-returns-6
 returns-6 c =
     let f = c .before in
-    let h = f .before .before .before .before .before .before .before .before .before in
-    let d = h .before .before .args .page .now in
-    broken small (h .read-head .result) d (h .read-head .ensures)
+    let h = f .before .before .before .before .before .before .before .before .before .before in
+    let a = h .before .before .args in
+    let d = a .page .now in
+    broken (a .geometry) (h .read-head .result) d (h .read-head .ensures)
     (λ o. clash (o .rest) (rest-free d _ (f .is-free .result) (f .is-free .ensures) ∙ c .if5 .left))
 
 pub read-header-spec : {M : Type 1} → statement M

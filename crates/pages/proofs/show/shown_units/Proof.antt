@@ -1,6 +1,6 @@
 use mathlib.Core.Path.{sym, _∙_}
 use borrow.Author.Tests.{not-true, not-false}
-use Rattle.chip.specs.Geometry.{small}
+use Rattle.pages.proofs.HeaderLaws.{header-part}
 use Rattle.pages.proofs.ShowLaws.{shown-dead, shown-breaks, shown-obeys}
 use borrow.Author.Needs.{needs}
 use Rattle.pages.proofs.show.shown_units.Statement.{statement}
@@ -18,7 +18,7 @@ is-live-requires c κs = search needs
 returns : tie.Need-returns
 returns c =
     let k = c .before .before .before in
-    (sym (shown-dead small (k .args .page .now) (sym (c .before .is-live .ensures) ∙ not-true _ (c .if1 .taken))), search needs)
+    (sym (shown-dead (k .args .geometry) (k .args .page .now) (sym (c .before .is-live .ensures) ∙ not-true _ (c .if1 .taken))), search needs)
 
 -- src/show.rt:24:31
 sub-read-header : tie.Need-sub-read-header
@@ -55,7 +55,7 @@ returns-2 c =
     let i = r .before .before in
     let k = i .before .before .before in
     let x = k .args .page .now in
-    let o = shown-obeys small x (c .before .before .head .given .0 .0) (sym (i .before .is-live .ensures) ∙ not-false _ (i .if1 .left)) (sym (c .before .before .head .given .1) ∙ r .read-header .ensures) in
+    let o = shown-obeys (k .args .geometry) x (c .before .before .head .given .0 .0) (sym (i .before .is-live .ensures) ∙ not-false _ (i .if1 .left)) (sym (c .before .before .head .given .1) ∙ header-part (k .args .geometry) x _ (r .read-header .ensures)) in
     (sym (o .0), o .1)
 
 -- src/show.rt:17:1
@@ -64,7 +64,7 @@ returns-3 c =
     let r = c .before .before in
     let i = r .before .before in
     let k = i .before .before .before in
-    (sym (shown-breaks small (k .args .page .now) (sym (i .before .is-live .ensures) ∙ not-false _ (i .if1 .left)) (sym (c .enum-told .given .1) ∙ r .read-header .ensures)), search needs)
+    (sym (shown-breaks (k .args .geometry) (k .args .page .now) (sym (i .before .is-live .ensures) ∙ not-false _ (i .if1 .left)) (sym (c .enum-told .given .1) ∙ header-part (k .args .geometry) (k .args .page .now) _ (r .read-header .ensures))), search needs)
 
 pub shown-units-spec : {M : Type 1} → statement M
 shown-units-spec =

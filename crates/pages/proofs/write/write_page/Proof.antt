@@ -1,4 +1,3 @@
-use Rattle.chip.specs.Geometry.{small}
 use Rattle.pages.proofs.WriteLaws.{written-steps}
 use borrow.Author.Needs.{needs}
 use Rattle.pages.proofs.write.write_page.Statement.{statement}
@@ -46,7 +45,7 @@ returns c =
     let a = d .before .before in
     let u = a .before .before .before in
     let k = u .before .before .before .before .before in
-    written-steps small (k .args .torn .now) (k .args .bytes .now) (k .args .progress) (a .after .result) (b .after2 .result) (c .after3 .result)
+    written-steps (k .args .geometry) (k .args .torn .now) (k .args .bytes .now) (k .args .progress) (a .after .result) (b .after2 .result) (c .after3 .result)
     (u .set-mark .result) (d .program .result) (v .set-mark2 .result) (k .args .page .now) _ _ _
     (a .after .ensures) (b .after2 .ensures) (c .after3 .ensures) (u .set-mark .ensures) (d .program .ensures) (v .set-mark2 .ensures)
 

@@ -2,7 +2,6 @@ use mathlib.Core.Path.{_≡_, sym, _∙_}
 use native.Mathlib.Omega.{arith}
 use Prim.Native.Nat.{ℕ, _≤_, _<_, _+_, _*_}
 use lib.ListN.{length}
-use Rattle.chip.specs.Geometry.{small}
 use Rattle.chip.specs.Chip.{pagesOf}
 use Rattle.plan.specs.PlacesCode.{freePages}
 use borrow.Author.Tests.{leb-false, leb-true}
@@ -22,11 +21,22 @@ use Rattle.packing.proofs.delta.pack_delta.Reads as pack-delta-reads
 use Rattle.packing.proofs.pack.pack_nodes.Reads as pack-nodes-reads
 
 -- the slots
-slots-long : (w : tie.After-all) → length (w .before .before .args .slots .now) ≡ 1024
+slots-long : (w : tie.After-all) → length (w .before .before .before .before .before .args .slots .now) ≡ 1024
 slots-long w = search needs
+
+-- where it starts, from the measure, and from there on where there is no delta
+abbrev start : tie.After-measure → tie.Start
+start m = m .before .before .before .before .before .before .before .before .before .before .before .before .before .before
+
+abbrev begin : tie.Else1 → tie.Start
+begin e = start (e .before .before .before .before .before .before .before .before .before)
 
 few-pages : {r limit : ℕ} → limit ≤ 256 → r ≤ 2 * limit → r + 1 < 18446744073709551616
 few-pages h k = omega arith
+
+-- src/choose.rt:56:16
+cast-most : tie.Need-cast-most
+cast-most c = search needs
 
 -- src/choose.rt:48:5
 tally-requires : tie.Need-tally-requires
@@ -42,28 +52,33 @@ pack-delta-requires c κs =
     let me = c .before .before .before .before .before .before in
     let ta = me .before .before .before .before .before .before in
     let w = ta .before .before .before in
-    let st = w .before .before in
-    let a = st .args in (
+    let st = start me in
+    let a = st .args in
+    let g = a .source .scope .geometry in (
       st .pre .2,
-      delta-short (a .source .limit) (a .source .oldest) (pagesOf small (a .image .now)) (a .lens .now) (a .slots .now) (a .source .count) (a .buffer .now) _ _ _ _ _ _
+      delta-short g (st .pre .8 .nodes) (a .source .scope .limit) (a .source .oldest) (pagesOf g (a .image .now)) (a .lens .now) (a .slots .now) (a .source .scope .count) (a .buffer .now) _ _ _ _ _ _
           (st .pre .2) (slots-long w) (ta .tally .ensures) (me .measure .ensures),
     )
 
 -- src/choose.rt:76:55
 add-has-places : tie.Need-add-has-places
-add-has-places c = search needs
+add-has-places c =
+    let st = start (c .before .before .before .before .before .before .before) in
+    let b = few-pages (st .pre .2) (c .pack-delta .ensures .packs .few) in
+    search (needs, b)
 
 -- src/choose.rt:76:8
 has-places-requires : tie.Need-has-places-requires
 has-places-requires c κs =
     let me = c .before .before .before .before .before .before .before in
-    let st = me .before .before .before .before .before .before .before .before .before .before .before in
-    (st .pre .3, st .pre .0, st .pre .4, st .pre .5)
+    let st = start me in
+    (st .pre .4, st .pre .5, st .pre .6, st .pre .8)
 
 -- src/choose.rt:72:9
 keep-written-requires : tie.Need-keep-written-requires
 keep-written-requires c κs =
-    let st = c .before .before .before .before .before .before .before .before .before .before .before .before .before .before .before .before .before .before .before .before .before .before .before .before .before .before in
+    let me = c .before .before .before .before .before .before .before .before .before .before .before .before .before .before .before in
+    let st = start me in
     (st .pre .1, st .pre .2)
 
 -- src/choose.rt:73:9
@@ -74,12 +89,13 @@ returns c =
     let me = pd .before .before .before .before .before .before .before in
     let ta = me .before .before .before .before .before .before in
     let w = ta .before .before .before in
-    let st = w .before .before in
+    let st = start me in
     let a = st .args in
-    let limit = a .source .limit in
-    let ps = pagesOf small (a .image .now) in
-    λ us first. chose-delta limit (length (freePages small ps (a .room .head)) + 32 * a .room .others) (length (freePages small ps (a .room .head)) + 32 * a .room .spare) us (contentsIn small limit ps (a .lens .now) (a .slots .now) (a .source .count) (a .buffer .now)) _ _ _ _
-    (held-delta limit (a .source .oldest) ps (a .lens .now) (a .slots .now) (a .source .count) (a .buffer .now) _ _ _ _ _ _
+    let g = a .source .scope .geometry in
+    let limit = a .source .scope .limit in
+    let ps = pagesOf g (a .image .now) in
+    λ us first. chose-delta g limit (length (freePages g ps (a .room .head)) + a .room .others * g .pages) (length (freePages g ps (a .room .head)) + a .room .spare * g .pages) us (contentsIn g limit ps (a .lens .now) (a .slots .now) (a .source .scope .count) (a .buffer .now)) _ _ _ _
+    (held-delta g (st .pre .8 .nodes) limit (a .source .oldest) ps (a .lens .now) (a .slots .now) (a .source .scope .count) (a .buffer .now) _ _ _ _ _ _
     (st .pre .2) (slots-long w) (ta .tally .ensures) (me .measure .ensures) us first _ _ _ _ (pd .pack-delta .ensures) _ _ (c .keep-written .ensures))
     (leb-true _ _ (sym (th .before .has-places .ensures) ∙ th .if1 .taken))
 
@@ -88,22 +104,22 @@ measure-rest-requires : tie.Need-measure-rest-requires
 measure-rest-requires c κs =
     let el = c .before .before .before .before .before in
     let me = el .before .before .before .before .before .before .before .before .before in
-    let st = me .before .before .before .before .before .before .before .before .before .before .before in
-    (st .pre .0, st .pre .2, me .measure .ensures .kept)
+    let st = start me in
+    (st .pre .0, st .pre .2, me .measure .ensures .kept, st .pre .8)
 
 -- src/choose.rt:87:9
 pack-nodes-requires : tie.Need-pack-nodes-requires
 pack-nodes-requires c κs =
     let mr = c .before .before .before .before .before in
     let el = mr .before .before .before .before .before .before in
-    let st = el .before .before .before .before .before .before .before .before .before .before .before .before .before .before .before .before .before .before .before .before in
+    let st = begin el in
     st .pre .2
 
 -- src/choose.rt:93:55
 add-has-places-2 : tie.Need-add-has-places-2
 add-has-places-2 c =
     let el = c .before .before .before .before .before .before .before .before .before .before .before .before in
-    let st = el .before .before .before .before .before .before .before .before .before .before .before .before .before .before .before .before .before .before .before .before in
+    let st = begin el in
     let b = few-pages (st .pre .2) (c .pack-nodes .ensures .few) in
     search (needs, b)
 
@@ -111,15 +127,15 @@ add-has-places-2 c =
 has-places-requires-2 : tie.Need-has-places-requires-2
 has-places-requires-2 c κs =
     let el = c .before .before .before .before .before .before .before .before .before .before .before .before in
-    let st = el .before .before .before .before .before .before .before .before .before .before .before .before .before .before .before .before .before .before .before .before in
-    (st .pre .3, st .pre .0, st .pre .4, st .pre .6)
+    let st = begin el in
+    (st .pre .4, st .pre .5, st .pre .7, st .pre .8)
 
 -- src/choose.rt:89:9
 keep-written-requires-2 : tie.Need-keep-written-requires-2
 keep-written-requires-2 c κs =
     let pn = c .before .before .before .before .before .before .before .before in
     let el = pn .before .before .before .before .before .before .before .before .before .before .before .before in
-    let st = el .before .before .before .before .before .before .before .before .before .before .before .before .before .before .before .before .before .before .before .before in
+    let st = begin el in
     (st .pre .1, st .pre .2)
 
 -- src/choose.rt:90:9
@@ -133,15 +149,16 @@ returns-2 c =
     let me = pd .before .before .before .before .before .before .before in
     let ta = me .before .before .before .before .before .before in
     let w = ta .before .before .before in
-    let st = w .before .before in
+    let st = start me in
     let a = st .args in
-    let limit = a .source .limit in
-    let ps = pagesOf small (a .image .now) in
-    let N = contentsIn small limit ps (a .lens .now) (a .slots .now) (a .source .count) (a .buffer .now) in
-    λ us first. chose-snapshot limit (length (freePages small ps (a .room .head)) + 32 * a .room .others) (length (freePages small ps (a .room .head)) + 32 * a .room .spare) us N _
-    (count-delta limit (a .source .oldest) ps (a .lens .now) (a .slots .now) (a .source .count) (a .buffer .now) _ _ _ _ _ _
+    let g = a .source .scope .geometry in
+    let limit = a .source .scope .limit in
+    let ps = pagesOf g (a .image .now) in
+    let N = contentsIn g limit ps (a .lens .now) (a .slots .now) (a .source .scope .count) (a .buffer .now) in
+    λ us first. chose-snapshot g limit (length (freePages g ps (a .room .head)) + a .room .others * g .pages) (length (freePages g ps (a .room .head)) + a .room .spare * g .pages) us N _
+    (count-delta g (st .pre .8 .nodes) limit (a .source .oldest) ps (a .lens .now) (a .slots .now) (a .source .scope .count) (a .buffer .now) _ _ _ _ _ _
     (st .pre .2) (slots-long w) (ta .tally .ensures) (me .measure .ensures) us first _ _ _ _ (pd .pack-delta .ensures)) (leb-false _ _ (sym (el .before .has-places .ensures) ∙ el .if1 .left)) _ _ _ _
-    (held-snapshot limit ps (a .lens .now) (a .slots .now) (a .source .count) (a .buffer .now) _ _ _ _ _
+    (held-snapshot g (st .pre .8 .nodes) limit ps (a .lens .now) (a .slots .now) (a .source .scope .count) (a .buffer .now) _ _ _ _ _
     (st .pre .2) (ta .tally .ensures) (mr .measure-rest .ensures) _ _ _ (pn .pack-nodes .ensures) _ _ (c .keep-written2 .ensures))
     (leb-true _ _ (sym (th .before .has-places2 .ensures) ∙ th .if2 .taken))
 
@@ -155,15 +172,16 @@ returns-3 c =
     let me = pd .before .before .before .before .before .before .before in
     let ta = me .before .before .before .before .before .before in
     let w = ta .before .before .before in
-    let st = w .before .before in
+    let st = start me in
     let a = st .args in
-    let limit = a .source .limit in
-    let ps = pagesOf small (a .image .now) in
-    let N = contentsIn small limit ps (a .lens .now) (a .slots .now) (a .source .count) (a .buffer .now) in
-    λ us first. chose-nothing limit (length (freePages small ps (a .room .head)) + 32 * a .room .others) (length (freePages small ps (a .room .head)) + 32 * a .room .spare) us N _
-    (count-delta limit (a .source .oldest) ps (a .lens .now) (a .slots .now) (a .source .count) (a .buffer .now) _ _ _ _ _ _
+    let g = a .source .scope .geometry in
+    let limit = a .source .scope .limit in
+    let ps = pagesOf g (a .image .now) in
+    let N = contentsIn g limit ps (a .lens .now) (a .slots .now) (a .source .scope .count) (a .buffer .now) in
+    λ us first. chose-nothing g limit (length (freePages g ps (a .room .head)) + a .room .others * g .pages) (length (freePages g ps (a .room .head)) + a .room .spare * g .pages) us N _
+    (count-delta g (st .pre .8 .nodes) limit (a .source .oldest) ps (a .lens .now) (a .slots .now) (a .source .scope .count) (a .buffer .now) _ _ _ _ _ _
     (st .pre .2) (slots-long w) (ta .tally .ensures) (me .measure .ensures) us first _ _ _ _ (pd .pack-delta .ensures)) (leb-false _ _ (sym (el .before .has-places .ensures) ∙ el .if1 .left)) _ _ _ _
-    (count-snapshot limit ps (a .lens .now) (a .slots .now) (a .source .count) (a .buffer .now) _ _ _ _ _
+    (count-snapshot g (st .pre .8 .nodes) limit ps (a .lens .now) (a .slots .now) (a .source .scope .count) (a .buffer .now) _ _ _ _ _
     (st .pre .2) (ta .tally .ensures) (mr .measure-rest .ensures) _ _ _ (pn .pack-nodes .ensures))
     (leb-false _ _ (sym (c .before .has-places2 .ensures) ∙ c .if2 .left))
 
@@ -171,6 +189,7 @@ pub choose-spec : {M : Type 1} → statement M
 choose-spec =
     tie.close
     (tie.spec
+    cast-most
     tally-requires
     measure-requires
     pack-delta-requires

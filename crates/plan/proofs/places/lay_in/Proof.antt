@@ -1,9 +1,9 @@
 use mathlib.Core.Path.{sym, _∙_}
 use native.Mathlib.Omega.{arith}
 use lib.ListN.{length}
-use Rattle.chip.specs.Geometry.{small}
 use Rattle.chip.specs.Chip.{pagesOf}
-use Rattle.plan.proofs.PlaceLaws.{block-fits, whole-pages, lower, most-places, need-fits, lays}
+use Rattle.plan.proofs.PlaceLaws.{lower, most-places, need-fits, lays}
+use Rattle.chip.proofs.Sizes.{block-on-chip}
 use borrow.Author.Needs.{needs}
 use Rattle.plan.proofs.places.lay_in.Statement.{statement}
 use Rattle.plan.proofs.places.lay_in.Tie as tie
@@ -17,10 +17,10 @@ put-free-requires : tie.Need-put-free-requires
 put-free-requires c κs =
     let k = c .before .before .before .before in
     let a = k .args in (
-      block-fits (a .blocks) (a .head) (length (a .image .now)) (k .pre .0) (k .pre .2),
-      whole-pages (a .blocks) (length (a .image .now)) (k .pre .0),
+      block-on-chip (a .geometry) (k .pre .9) (a .blocks) (a .head) (length (a .image .now)) (k .pre .0) (k .pre .2),
       lower (a .head) (a .blocks) 32 (k .pre .2) (k .pre .1),
-      omega (arith, k .pre .8),
+      omega (arith, k .pre .8, k .pre .9 .pagesMost),
+      k .pre .9,
     )
 
 -- src/places.rt:92:5
@@ -30,7 +30,7 @@ put-rest-requires c κs =
     let k = f .before .before .before .before .before in
     let a = k .args in
     let e = f .put-free .ensures in
-    let most = most-places (f .put-free .result) (e .1) in
+    let most = most-places (a .geometry) (k .pre .9) (f .put-free .result) (e .1) in
     let size = e .3 ∙ k .pre .8 in (
       k .pre .7,
       size,
@@ -38,8 +38,9 @@ put-rest-requires c κs =
       k .pre .3,
       most,
       k .pre .4,
-      need-fits (a .head) (a .width) (a .need) (f .put-free .result) (pagesOf small (a .image .now)) (a .ring .now) _ (rw size most) (e .0) (k .pre .5),
+      need-fits (a .geometry) (a .head) (a .width) (a .need) (f .put-free .result) (pagesOf (a .geometry) (a .image .now)) (a .ring .now) _ (rw size most) (e .0) (k .pre .5),
       k .pre .6,
+      k .pre .9,
     )
 
 -- src/places.rt:114:5
@@ -64,9 +65,9 @@ returns c =
     let k = f .before .before .before .before .before in
     let a = k .args in
     let e = f .put-free .ensures in
-    let most = most-places (f .put-free .result) (e .1) in
+    let most = most-places (a .geometry) (k .pre .9) (f .put-free .result) (e .1) in
     let size = e .3 ∙ k .pre .8 in
-    lays (a .head) (a .width) (a .need) (f .put-free .result) (pagesOf small (a .image .now)) (a .ring .now) _ (rw size most) (e .0)
+    lays (a .geometry) (a .head) (a .width) (a .need) (f .put-free .result) (pagesOf (a .geometry) (a .image .now)) (a .ring .now) _ (rw size most) (e .0)
     (a .blocks) _ (k .pre .2) (k .pre .6) (p .put-rest .ensures .0)
 
 pub lay-in-spec : {M : Type 1} → statement M

@@ -4,9 +4,9 @@ use Prim.Native.Nat.{_-_, _≤_}
 use native.Mathlib.Omega.{arith}
 use lib.ListN.{length, take, drop}
 use lib.Seq.{length-take-le}
-use Rattle.chip.specs.Geometry.{small}
 use Rattle.chip.specs.Chip.{pagesOf}
 use Rattle.plan.proofs.PlaceLaws.{take-at-all, erase-next, erase-done}
+use Rattle.chip.proofs.Sizes.{block-on-chip}
 use borrow.Author.Needs.{needs}
 use Rattle.plan.proofs.places.put_erased.Statement.{statement}
 use Rattle.plan.proofs.places.put_erased.Tie as tie
@@ -18,12 +18,12 @@ use Rattle.plan.proofs.places.excess.Reads as excess-reads
 use Rattle.plan.specs.PlacesCode.{erasesFrom}
 
 abbrev Inv-loop : tie.InvT-loop
-Inv-loop image blocks head ring width reach erased₀ left₀ n₀ j₀ erased left n j =
+Inv-loop geometry image blocks head ring width reach erased₀ left₀ n₀ j₀ erased left n j =
     (j ≤ width) × (n ≤ j) × (length erased ≡ length erased₀)
-    × (take n erased ++ erasesFrom small (pagesOf small image) left (drop j (take width ring)) ≡ erasesFrom small (pagesOf small image) reach (take width ring))
+    × (take n erased ++ erasesFrom geometry (pagesOf geometry image) left (drop j (take width ring)) ≡ erasesFrom geometry (pagesOf geometry image) reach (take width ring))
 
 abbrev μ-loop : tie.MeasureT-loop
-μ-loop image blocks head ring width reach erased₀ left₀ n₀ j₀ erased left n j = width - j
+μ-loop geometry image blocks head ring width reach erased₀ left₀ n₀ j₀ erased left n j = width - j
 
 -- src/places.rt:147:5
 loop-holds : tie.Need-loop-holds Inv-loop μ-loop
@@ -49,7 +49,7 @@ is-erased-requires c κs =
     let k = i .before .before .before .before .before in
     let a = k .args in
     let on = take-at-all (a .ring .now) (a .width) (l .j) (omega arith) (i .loop-test .taken) (k .pre .4 .range) in
-    (omega (arith, on .0), omega arith)
+    (block-on-chip (a .geometry) (k .pre .5) (a .blocks) _ (length (a .image .now)) (k .pre .0) (on .0), k .pre .5)
 
 -- src/places.rt:149:9
 push-if-requires : tie.Need-push-if-requires Inv-loop μ-loop
@@ -81,7 +81,7 @@ loop-again c =
       omega (arith, u .high),
       search needs,
       rw (c .excess .ensures)
-          (erase-next (pagesOf small (a .image .now)) (a .width) (a .ring .now) (k .pre .2) (k .pre .1) (l .j) (l .left) (l .n) (p .push-if .result) (l .erased) _ _
+          (erase-next (a .geometry) (pagesOf (a .geometry) (a .image .now)) (a .width) (a .ring .now) (k .pre .2) (k .pre .1) (l .j) (l .left) (l .n) (p .push-if .result) (l .erased) _ _
           (i .loop-test .taken) (l .inv .3) (e .is-erased .result) (e .is-erased .ensures) (u .list)),
     )
 
@@ -95,7 +95,7 @@ returns c =
     let l = c .before .loop in
     let k = c .before .before .before .before .before in
     let a = k .args in
-    (erase-done (pagesOf small (a .image .now)) (a .width) (a .ring .now) (k .pre .2) (k .pre .1) (l .j) (l .left) (take (l .n) (l .erased)) _ (c .loop-test .left) (l .inv .3), omega arith, length-take-le (l .n) (l .erased) (omega arith))
+    (erase-done (a .geometry) (pagesOf (a .geometry) (a .image .now)) (a .width) (a .ring .now) (k .pre .2) (k .pre .1) (l .j) (l .left) (take (l .n) (l .erased)) _ (c .loop-test .left) (l .inv .3), omega arith, length-take-le (l .n) (l .erased) (omega arith))
 
 pub put-erased-spec : {M : Type 1} → statement M
 put-erased-spec =

@@ -1,12 +1,12 @@
 use mathlib.Core.Path.{_≡_, refl, _∙_}
 use mathlib.Core.List.{_++_}
-use Prim.Native.Nat.{_-_, _/_, _<_, _≤_}
+use Prim.Native.Nat.{_-_, _≤_}
 use native.Mathlib.Omega.{arith}
 use lib.ListN.{length, take, length-set}
 use Rattle.lists.specs.Lists.{flat}
-use Rattle.chip.specs.Geometry.{small}
 use Rattle.log.specs.Plan.{pagesIn}
-use Rattle.plan.proofs.PlaceLaws.{take-at-all, rest-start, rest-next, rest-done}
+use Rattle.plan.proofs.PlaceLaws.{ring-block, rest-start, rest-next, rest-done}
+use Rattle.chip.proofs.Sizes.{pages-pos}
 use borrow.Author.Needs.{needs}
 use Rattle.plan.proofs.places.put_rest.Statement.{statement}
 use Rattle.plan.proofs.places.put_rest.Tie as tie
@@ -15,18 +15,18 @@ use Rattle.plan.proofs.places.put_rest.Lts as lts
 use Rattle.plan.proofs.places.page_of.Reads as page-of-reads
 
 abbrev Inv-loop : tie.InvT-loop
-Inv-loop ring blocks head width n need places₀ i₀ places i =
-    (n ≤ i) × (length places ≡ length places₀) × (take i places ≡ take i (take n places₀ ++ flat (pagesIn small) (take width ring)))
+Inv-loop geometry ring blocks head width n need places₀ i₀ places i =
+    (n ≤ i) × (length places ≡ length places₀) × (take i places ≡ take i (take n places₀ ++ flat (pagesIn geometry) (take width ring)))
 
 abbrev μ-loop : tie.MeasureT-loop
-μ-loop ring blocks head width n need places₀ i₀ places i = need - i
+μ-loop geometry ring blocks head width n need places₀ i₀ places i = need - i
 
 -- src/places.rt:70:5
 loop-holds : tie.Need-loop-holds Inv-loop μ-loop
 loop-holds c =
     let k = c .before .before in
     let a = k .args in
-    (omega arith, refl, rest-start (a .width) (a .n) (a .ring .now) (a .places .now) (k .pre .0) (k .pre .3) (omega arith))
+    (omega arith, refl, rest-start (a .geometry) (pages-pos (a .geometry) (k .pre .8)) (a .width) (a .n) (a .ring .now) (a .places .now) (k .pre .0) (k .pre .3) (omega arith))
 
 -- src/places.rt:71:35
 sub-page-of : tie.Need-sub-page-of Inv-loop μ-loop
@@ -38,10 +38,8 @@ page-of-requires c κs =
     let l = c .before .loop in
     let k = c .before .before .before .before in
     let a = k .args in
-    let j = l .i - a .n in
-    let low : j / 32 < a .width = omega arith in
-    let on = take-at-all (a .ring .now) (a .width) (j / 32) (omega arith) low (k .pre .7 .range) in
-    (k .pre .0, omega arith, omega (arith, on .0))
+    let on = ring-block (a .geometry) (pages-pos (a .geometry) (k .pre .8)) (a .blocks) (a .head) (a .width) (a .ring .now) (k .pre .0) (k .pre .3) (k .pre .2) (k .pre .7) (l .i - a .n) (omega arith) in
+    (k .pre .0, on .0, on .1, k .pre .8)
 
 -- src/places.rt:71:9
 mul-places : tie.Need-mul-places Inv-loop μ-loop
@@ -68,7 +66,7 @@ loop-again c =
     let a = k .args in (
       omega arith,
       simp length-set (l .inv .1),
-      rest-next (a .width) (a .n) (a .ring .now) (a .places .now) (k .pre .0) (k .pre .3) (omega arith) (l .i) (l .places) (c .page-of .result)
+      rest-next (a .geometry) (pages-pos (a .geometry) (k .pre .8)) (a .width) (a .n) (a .ring .now) (a .places .now) (k .pre .0) (k .pre .3) (omega arith) (l .i) (l .places) (c .page-of .result)
           (l .inv .0) (omega arith) (omega arith) (l .inv .2) (c .page-of .ensures),
     )
 
@@ -82,7 +80,7 @@ returns c =
     let l = c .before .loop in
     let k = c .before .before .before .before in
     let a = k .args in (
-      rest-done (a .need) (l .i) (l .places) (take (a .n) (a .places .now) ++ flat (pagesIn small) (take (a .width) (a .ring .now))) (c .loop-test .left) (l .inv .2),
+      rest-done (a .need) (l .i) (l .places) (take (a .n) (a .places .now) ++ flat (pagesIn (a .geometry)) (take (a .width) (a .ring .now))) (c .loop-test .left) (l .inv .2),
       l .inv .1 ∙ k .pre .1,
     )
 

@@ -21,7 +21,7 @@ returns : tie.Need-returns
 returns c =
     let l = c .before in
     let a = l .before .before .before .args in
-    look-dead (a .commit) (a .at) (a .page .now) (a .z) (a .marks .now) (sym (l .is-live .ensures) ∙ not-true _ (c .if1 .taken))
+    look-dead (a .geometry) (a .commit) (a .at) (a .page .now) (a .z) (a .marks .now) (sym (l .is-live .ensures) ∙ not-true _ (c .if1 .taken))
 
 -- src/survey.rt:135:9
 read-word-requires : tie.Need-read-word-requires
@@ -54,8 +54,9 @@ returns-2 c =
     let w = m .before .before in
     let r = w .before .before in
     let l = r .before .before in
-    let a = l .before .before .before .args in
-    look-live (a .commit) (a .at) (a .page .now) (a .z) (a .marks .now) (c .later-of .result) _ (r .read-word .result) (w .wide .result)
+    let k = l .before .before .before in
+    let a = k .args in
+    look-live (a .geometry) (a .commit) (a .at) (a .page .now) (a .z) (a .marks .now) (k .pre .2) (c .later-of .result) _ (r .read-word .result) (w .wide .result)
     (sym (l .is-live .ensures) ∙ not-false _ (r .before .if1 .left)) (r .read-word .ensures) (w .wide .ensures .0) (m .mark-if .ensures) (c .later-of .ensures)
 
 pub look-spec : {M : Type 1} → statement M

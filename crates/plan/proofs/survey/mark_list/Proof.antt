@@ -3,7 +3,6 @@ use mathlib.Core.List.{List, foldl}
 use Prim.Native.Nat.{ℕ, _+_, _-_, _*_, _≤_}
 use native.Mathlib.Omega.{arith}
 use lib.ListN.{length, drop, length-set}
-use Rattle.chip.specs.Geometry.{small}
 use Rattle.views.specs.Stored.{storedList}
 use Rattle.plan.specs.SurveyCode.{mark}
 use Rattle.plan.proofs.MarkLaws.{slot-next, slots-done}
@@ -16,12 +15,12 @@ use Rattle.plan.proofs.survey.mark_page.Reads as mark-page-reads
 use Rattle.views.proofs.view.used_slots.Reads as used-slots-reads
 
 abbrev Inv-loop : tie.InvT-loop
-Inv-loop lens slots node marks₀ used base i₀ marks i =
+Inv-loop geometry lens slots node marks₀ used base i₀ marks i =
     (i ≤ used) × (length marks ≡ length marks₀)
-    × (foldl (mark small) marks (drop i (storedList lens slots node)) ≡ foldl (mark small) marks₀ (storedList lens slots node))
+    × (foldl (mark geometry) marks (drop i (storedList lens slots node)) ≡ foldl (mark geometry) marks₀ (storedList lens slots node))
 
 abbrev μ-loop : tie.MeasureT-loop
-μ-loop lens slots node marks₀ used base i₀ marks i = used - i
+μ-loop geometry lens slots node marks₀ used base i₀ marks i = used - i
 
 -- src/survey.rt:94:9
 used-slots-requires : tie.Need-used-slots-requires Inv-loop μ-loop
@@ -77,8 +76,8 @@ loop-again c =
     let s = storedList (a .lens .now) (a .slots .now) (a .node) in (
       omega arith,
       ap length (p .mark-page .ensures) ∙ simp length-set (l .inv .1),
-      ap (λ (m : List ℕ). foldl (mark small) m (drop (l .i + 1) s)) (p .mark-page .ensures)
-          ∙ slot-next (a .lens .now) (a .slots .now) (a .node) (u .used-slots .result) (sym (u .used-slots .ensures .0)) (k .pre .1) (k .pre .2) (l .i) (l .marks) _ (i .loop-test .taken) (l .inv .2),
+      ap (λ (m : List ℕ). foldl (mark (a .geometry)) m (drop (l .i + 1) s)) (p .mark-page .ensures)
+          ∙ slot-next (a .geometry) (a .lens .now) (a .slots .now) (a .node) (u .used-slots .result) (sym (u .used-slots .ensures .0)) (k .pre .1) (k .pre .2) (l .i) (l .marks) _ (i .loop-test .taken) (l .inv .2),
     )
 
 -- src/survey.rt:90:1
@@ -92,7 +91,7 @@ returns c =
     let u = c .before .before in
     let k = u .before .before .before .before in
     let a = k .args in
-    slots-done (a .lens .now) (a .slots .now) (a .node) (u .used-slots .result) (sym (u .used-slots .ensures .0)) (k .pre .1) (k .pre .2) (l .i) (l .marks) _ (c .loop-test .left) (l .inv .2)
+    slots-done (a .geometry) (a .lens .now) (a .slots .now) (a .node) (u .used-slots .result) (sym (u .used-slots .ensures .0)) (k .pre .1) (k .pre .2) (l .i) (l .marks) _ (c .loop-test .left) (l .inv .2)
 
 pub mark-list-spec : {M : Type 1} → statement M
 mark-list-spec =

@@ -1,3 +1,4 @@
+use Prim.Native.Nat.{_<_}
 use mathlib.Core.Path.{refl, sym, ap, _∙_}
 use native.Mathlib.Omega.{arith}
 use Rattle.store.specs.AdmitCode.{admitNumber}
@@ -9,9 +10,13 @@ use Rattle.store.proofs.admit.commit_tests.Reads as reads
 use Rattle.store.proofs.admit.commit_tests.Lts as lts
 use Rattle.store.proofs.admit.admit.Reads as admit-reads
 
+-- the commit number has 32 bits
+low : (t : tie.Start) → t .args .numbers .commit < 4294967296
+low t = search needs
+
 -- src/admit.rt:66:11
 admit-requires : tie.Need-admit-requires
-admit-requires c κs = search needs
+admit-requires c κs = c .pre
 
 -- src/admit.rt:67:27
 enum-told : tie.Need-enum-told
@@ -25,56 +30,59 @@ enum-told-2 c = search needs
 enum-told-3 : tie.Need-enum-told-3
 enum-told-3 c = search needs
 
+add-if1 : tie.Need-add-if1
+add-if1 c = search needs
+
 -- src/admit.rt:71:17
 returns : tie.Need-returns
 returns c =
-    let k = c .before in
+    let k = c .before .before in
     let m = k .before .before in
     let a = m .before .args in
-    commit-torn (a .numbers .on) (a .numbers .blocks) (a .numbers .pending) (a .numbers .commit) (a .len) (a .torn) 0 (sym (ap admitNumber (k .enum-told3 .given .1)) ∙ m .admit .ensures .number) refl (c .if1 .taken)
+    commit-torn (a .geometry) (a .numbers .on) (a .numbers .blocks) (a .numbers .pending) (a .numbers .commit) (a .len) (a .torn) 0 (sym (ap admitNumber (k .enum-told3 .given .1)) ∙ m .admit .ensures .number) refl (c .if1 .taken)
 
 -- src/admit.rt:74:17
 returns-2 : tie.Need-returns-2
 returns-2 c =
     let o = c .before .before in
-    let k = o .before in
+    let k = o .before .before in
     let m = k .before .before in
     let a = m .before .args in
-    commit-idles (a .numbers .on) (a .numbers .blocks) (a .numbers .pending) (a .numbers .commit) (a .len) (a .torn) 0 (sym (ap admitNumber (k .enum-told3 .given .1)) ∙ m .admit .ensures .number) refl (omega (arith, o .if1 .left)) (omega (arith, c .if2 .taken))
+    commit-idles (a .geometry) (a .numbers .on) (a .numbers .blocks) (a .numbers .pending) (a .numbers .commit) (a .len) (a .torn) 0 (sym (ap admitNumber (k .enum-told3 .given .1)) ∙ m .admit .ensures .number) refl (omega (arith, o .if1 .left)) (omega (arith, c .if2 .taken))
 
 -- src/admit.rt:63:1
 returns-3 : tie.Need-returns-3
 returns-3 c =
     let m = c .before .before in
     let a = m .before .args in
-    commit-first (a .numbers .on) (a .numbers .blocks) (a .numbers .pending) (a .numbers .commit) (a .len) (a .torn) 2 (sym (ap admitNumber (c .enum-told .given .1)) ∙ m .admit .ensures .number) (omega arith)
+    commit-first (a .geometry) (a .numbers .on) (a .numbers .blocks) (a .numbers .pending) (a .numbers .commit) (a .len) (a .torn) 2 (sym (ap admitNumber (c .enum-told .given .1)) ∙ m .admit .ensures .number) (omega arith)
 
 -- src/admit.rt:63:1
 returns-4 : tie.Need-returns-4
 returns-4 c =
     let m = c .before .before in
     let a = m .before .args in
-    commit-first (a .numbers .on) (a .numbers .blocks) (a .numbers .pending) (a .numbers .commit) (a .len) (a .torn) 1 (sym (ap admitNumber (c .enum-told2 .given .1)) ∙ m .admit .ensures .number) (omega arith)
+    commit-first (a .geometry) (a .numbers .on) (a .numbers .blocks) (a .numbers .pending) (a .numbers .commit) (a .len) (a .torn) 1 (sym (ap admitNumber (c .enum-told2 .given .1)) ∙ m .admit .ensures .number) (omega arith)
 
 -- src/admit.rt:63:1
 returns-5 : tie.Need-returns-5
 returns-5 c =
     let j = c .before .before in
     let o = j .before .before in
-    let k = o .before in
+    let k = o .before .before in
     let m = k .before .before in
     let a = m .before .args in
-    commit-last (a .numbers .on) (a .numbers .blocks) (a .numbers .pending) (a .numbers .commit) (a .len) (a .torn) 0 (sym (ap admitNumber (k .enum-told3 .given .1)) ∙ m .admit .ensures .number) refl (omega (arith, o .if1 .left)) (omega (arith, j .if2 .left)) (omega (arith, c .if3 .taken)) (search needs)
+    commit-last (a .geometry) (a .numbers .on) (a .numbers .blocks) (a .numbers .pending) (a .numbers .commit) (a .len) (a .torn) 0 (sym (ap admitNumber (k .enum-told3 .given .1)) ∙ m .admit .ensures .number) refl (omega (arith, o .if1 .left)) (omega (arith, j .if2 .left)) (omega (arith, c .if3 .taken)) (low (m .before))
 
 -- src/admit.rt:63:1
 returns-6 : tie.Need-returns-6
 returns-6 c =
     let j = c .before .before in
     let o = j .before .before in
-    let k = o .before in
+    let k = o .before .before in
     let m = k .before .before in
     let a = m .before .args in
-    commit-passes (a .numbers .on) (a .numbers .blocks) (a .numbers .pending) (a .numbers .commit) (a .len) (a .torn) 0 (sym (ap admitNumber (k .enum-told3 .given .1)) ∙ m .admit .ensures .number) refl (omega (arith, o .if1 .left)) (omega (arith, j .if2 .left)) (omega (arith, c .if3 .left))
+    commit-passes (a .geometry) (a .numbers .on) (a .numbers .blocks) (a .numbers .pending) (a .numbers .commit) (a .len) (a .torn) 0 (sym (ap admitNumber (k .enum-told3 .given .1)) ∙ m .admit .ensures .number) refl (omega (arith, o .if1 .left)) (omega (arith, j .if2 .left)) (omega (arith, c .if3 .left))
 
 pub commit-tests-spec : {M : Type 1} → statement M
 commit-tests-spec =
@@ -84,6 +92,7 @@ commit-tests-spec =
     enum-told
     enum-told-2
     enum-told-3
+    add-if1
     returns
     returns-2
     returns-3

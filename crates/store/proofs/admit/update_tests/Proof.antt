@@ -11,7 +11,7 @@ use Rattle.store.proofs.admit.admit.Reads as admit-reads
 
 -- src/admit.rt:49:11
 admit-requires : tie.Need-admit-requires
-admit-requires c κs = search needs
+admit-requires c κs = c .pre
 
 -- src/admit.rt:50:27
 enum-told : tie.Need-enum-told
@@ -30,14 +30,14 @@ returns : tie.Need-returns
 returns c =
     let m = c .before .before in
     let a = m .before .args in
-    update-first (a .numbers .on) (a .numbers .blocks) (a .numbers .pending) (a .len) 2 (sym (ap admitNumber (c .enum-told .given .1)) ∙ m .admit .ensures .number) (omega arith)
+    update-first (a .geometry) (a .numbers .on) (a .numbers .blocks) (a .numbers .pending) (a .len) 2 (sym (ap admitNumber (c .enum-told .given .1)) ∙ m .admit .ensures .number) (omega arith)
 
 -- src/admit.rt:46:1
 returns-2 : tie.Need-returns-2
 returns-2 c =
     let m = c .before .before in
     let a = m .before .args in
-    update-first (a .numbers .on) (a .numbers .blocks) (a .numbers .pending) (a .len) 1 (sym (ap admitNumber (c .enum-told2 .given .1)) ∙ m .admit .ensures .number) (omega arith)
+    update-first (a .geometry) (a .numbers .on) (a .numbers .blocks) (a .numbers .pending) (a .len) 1 (sym (ap admitNumber (c .enum-told2 .given .1)) ∙ m .admit .ensures .number) (omega arith)
 
 -- src/admit.rt:46:1
 returns-3 : tie.Need-returns-3
@@ -45,7 +45,7 @@ returns-3 c =
     let k = c .before .before in
     let m = k .before .before in
     let a = m .before .args in
-    update-full (a .numbers .on) (a .numbers .blocks) (a .numbers .pending) (a .len) 0 (sym (ap admitNumber (k .enum-told3 .given .1)) ∙ m .admit .ensures .number) refl (omega (arith, c .if1 .taken))
+    update-full (a .geometry) (a .numbers .on) (a .numbers .blocks) (a .numbers .pending) (a .len) 0 (sym (ap admitNumber (k .enum-told3 .given .1)) ∙ m .admit .ensures .number) refl (omega (arith, c .if1 .taken))
 
 -- src/admit.rt:46:1
 returns-4 : tie.Need-returns-4
@@ -53,7 +53,7 @@ returns-4 c =
     let k = c .before .before in
     let m = k .before .before in
     let a = m .before .args in
-    update-passes (a .numbers .on) (a .numbers .blocks) (a .numbers .pending) (a .len) 0 (sym (ap admitNumber (k .enum-told3 .given .1)) ∙ m .admit .ensures .number) refl (omega (arith, c .if1 .left))
+    update-passes (a .geometry) (a .numbers .on) (a .numbers .blocks) (a .numbers .pending) (a .len) 0 (sym (ap admitNumber (k .enum-told3 .given .1)) ∙ m .admit .ensures .number) refl (omega (arith, c .if1 .left))
 
 pub update-tests-spec : {M : Type 1} → statement M
 update-tests-spec =

@@ -1,8 +1,10 @@
 use Prim.Native.Nat.{_+_, _-_, _≤_, _<_}
 use native.Mathlib.Omega.{arith}
-use Rattle.chip.specs.Geometry.{small}
+use lib.ListN.{length}
+use Rattle.chip.specs.Geometry.{mostPages}
 use Rattle.chip.specs.Chip.{pagesOf}
 use Rattle.pages.specs.Steps.{steps}
+use Rattle.store.proofs.SizeLaws.{on-chip}
 use Rattle.store.proofs.CheckLaws.{refused-checks, says-refused, says-stands, StandsBy, stands-room, stands-numbered, stands-layout, stands-shape, stands-tree}
 use borrow.Author.Needs.{needs}
 use Rattle.store.proofs.check.check.Statement.{statement}
@@ -16,16 +18,16 @@ use Rattle.store.proofs.check.refused.Reads as refused-reads
 
 -- where pages stand: the keys in order
 stood : (w : tie.After-first)
-    → StandsBy (steps small (pagesOf small (w .before .before .before .before .before .args .image .now))) (w .before .before .settle .last .1 .0)
-    (w .first .given .0 .0) (w .first .given .0 .1 .0)
+    → (let a = w .before .before .before .before .before .args in StandsBy (steps (a .geometry) (pagesOf (a .geometry) (a .image .now))) (w .before .before .settle .last .1 .1 .0)
+    (w .first .given .0 .0) (w .first .given .0 .1 .0))
 stood w = let k = w .before .before .settle .ensures in says-stands _ _ _ _ (rw (w .first .given .1) at k)
 
 room : (w : tie.After-first)
-    → (w .first .given .0 .0 + w .first .given .0 .1 .0 < 1024) × (w .first .given .0 .0 ≤ 1024 - w .first .given .0 .1 .0) × (w .first .given .0 .1 .0 < 1024)
+    → (w .first .given .0 .0 + w .first .given .0 .1 .0 < mostPages) × (w .first .given .0 .0 ≤ mostPages - w .first .given .0 .1 .0) × (w .first .given .0 .1 .0 < mostPages)
 room w =
     let b = w .before .before .before .before in
     let a = b .before in
-    stands-room (a .args .image .now) _ _ _ (a .args .blocks) (a .pre) (λ i. omega (arith, b .shared-slice-known .given i)) (stood w)
+    stands-room (a .args .geometry) (a .pre .1) (a .args .image .now) _ _ _ (a .args .blocks) (a .pre .0) (λ i. omega (arith, b .shared-slice-known .given i)) (stood w)
 
 mul-limit : tie.Need-mul-limit
 mul-limit c = search needs
@@ -34,7 +36,10 @@ cast-limit : tie.Need-cast-limit
 cast-limit c = search needs
 
 settle-requires : tie.Need-settle-requires
-settle-requires c κs = search needs
+settle-requires c κs =
+    let s = c .before .before in
+    let o = on-chip (s .args .geometry) (s .pre .1) (s .args .blocks) (length (s .args .image .now)) (s .pre .0) in
+    (o .0, o .1, s .pre .1)
 
 enum-known-n : tie.Need-enum-known-n
 enum-known-n c = search needs
@@ -51,8 +56,9 @@ sub-to c = omega (arith, room (c .before))
 judge-requires : tie.Need-judge-requires
 judge-requires c κs =
     let w = c .before .before .before .before in
-    let p = w .before .before .before .before .before .pre in
-    (omega (arith, p .size), omega (arith, p .size, p .most), room w .1, omega arith, omega (arith, p .most))
+    let s = w .before .before .before .before .before in
+    let o = on-chip (s .args .geometry) (s .pre .1) (s .args .blocks) (length (s .args .image .now)) (s .pre .0) in
+    (o .0, o .1, room w .1, omega arith, omega (arith, s .pre .0 .most), s .pre .1)
 
 enum-told : tie.Need-enum-told
 enum-told c = search needs
@@ -68,7 +74,7 @@ passed-requires c κs =
     let w = c .before .before .before .before .before .before .before .before in
     let b = w .before .before .before .before in
     let a = b .before in
-    stands-numbered (a .args .image .now) _ _ _ (a .args .blocks) (a .pre) (λ i. omega (arith, b .shared-slice-known .given i)) (stood w)
+    stands-numbered (a .args .geometry) (a .pre .1) (a .args .image .now) _ _ _ (a .args .blocks) (a .pre .0) (λ i. omega (arith, b .shared-slice-known .given i)) (stood w)
 
 returns : tie.Need-returns
 returns c =
@@ -77,8 +83,8 @@ returns c =
     let a = s .before .before .before in
     let k = s .settle .ensures in
     rw (c .refused .ensures)
-    (refused-checks (a .args .image .now) _ _ (n .n .given .0 .0)
-    (says-refused (steps small (pagesOf small (a .args .image .now))) (s .settle .last .1 .0) (n .n .given .0 .0) (rw (n .n .given .1) at k)))
+    (refused-checks (a .args .geometry) (a .args .image .now) _ _ (n .n .given .0 .0)
+    (says-refused (steps (a .args .geometry) (pagesOf (a .args .geometry) (a .args .image .now))) (s .settle .last .1 .1 .0) (n .n .given .0 .0) (rw (n .n .given .1) at k)))
 
 returns-2 : tie.Need-returns-2
 returns-2 c =
@@ -87,8 +93,8 @@ returns-2 c =
     let b = w .before .before .before .before in
     let a = b .before in
     let k = j .judge .ensures in
-    stands-layout (a .args .image .now) _ _ _ (a .args .blocks) (a .pre) (λ i. omega (arith, b .shared-slice-known .given i)) (stood w)
-    (j .judge .last .1 .1 .1 .1 .1 .0) (j .judge .last .1 .1 .1 .1 .1 .1 .0) (rw (c .enum-told .given .1) at k)
+    stands-layout (a .args .geometry) (a .pre .1) (a .args .image .now) _ _ _ (a .args .blocks) (a .pre .0) (λ i. omega (arith, b .shared-slice-known .given i)) (stood w)
+    (j .judge .last .1 .1 .1 .1 .1 .1 .0) (j .judge .last .1 .1 .1 .1 .1 .1 .1 .0) (rw (c .enum-told .given .1) at k)
 
 returns-3 : tie.Need-returns-3
 returns-3 c =
@@ -97,8 +103,8 @@ returns-3 c =
     let b = w .before .before .before .before in
     let a = b .before in
     let k = j .judge .ensures in
-    stands-shape (a .args .image .now) _ _ _ (a .args .blocks) (a .pre) (λ i. omega (arith, b .shared-slice-known .given i)) (stood w)
-    (j .judge .last .1 .1 .1 .1 .1 .0) (j .judge .last .1 .1 .1 .1 .1 .1 .0) (rw (c .enum-told2 .given .1) at k)
+    stands-shape (a .args .geometry) (a .pre .1) (a .args .image .now) _ _ _ (a .args .blocks) (a .pre .0) (λ i. omega (arith, b .shared-slice-known .given i)) (stood w)
+    (j .judge .last .1 .1 .1 .1 .1 .1 .0) (j .judge .last .1 .1 .1 .1 .1 .1 .1 .0) (rw (c .enum-told2 .given .1) at k)
 
 returns-4 : tie.Need-returns-4
 returns-4 c =
@@ -109,7 +115,7 @@ returns-4 c =
     let a = b .before in
     let k = j .judge .ensures in
     rw (c .passed .ensures)
-    (stands-tree (a .args .image .now) _ _ _ (a .args .blocks) (a .pre) (λ i. omega (arith, b .shared-slice-known .given i)) (stood w) _ _ (rw (e .enum-told3 .given .1) at k))
+    (stands-tree (a .args .geometry) (a .pre .1) (a .args .image .now) _ _ _ (a .args .blocks) (a .pre .0) (λ i. omega (arith, b .shared-slice-known .given i)) (stood w) _ _ (rw (e .enum-told3 .given .1) at k))
 
 pub check-spec : {M : Type 1} → statement M
 check-spec =

@@ -9,18 +9,18 @@ use Rattle.tree.proofs.check.is_tree.Reads as is-tree-reads
 use Rattle.views.proofs.read.read_nodes.Reads as read-nodes-reads
 
 read-nodes-requires : tie.Need-read-nodes-requires
-read-nodes-requires c κs = search needs
+read-nodes-requires c κs = c .before .before .before .pre
 
 returns : tie.Need-returns
 returns c =
     let n = c .before in
     let a = n .before .before .before .before in
     λ v xs st ek.
-    judged-layout (a .args .image .now) _ _ (a .args .limit) (a .pre .4) v xs st (n .read-nodes .result) (n .read-nodes .ensures v xs st ek)
+    judged-layout (a .args .geometry) (a .args .image .now) _ _ (a .args .limit) (a .pre .4) v xs st (n .read-nodes .result) (n .read-nodes .ensures v xs st ek)
     (not-true _ (c .if1 .taken))
 
 is-tree-requires : tie.Need-is-tree-requires
-is-tree-requires c κs = search needs
+is-tree-requires c κs = let p = c .before .before .before .before .before .before .before .before .pre in (search needs, p .5)
 
 returns-2 : tie.Need-returns-2
 returns-2 c =
@@ -29,7 +29,7 @@ returns-2 c =
     let n = e .before in
     let a = n .before .before .before .before in
     λ v xs st ek.
-    judged-tree (a .args .image .now) _ _ (a .args .limit) (a .pre .4) v xs st (n .read-nodes .result) (n .read-nodes .ensures v xs st ek)
+    judged-tree (a .args .geometry) (a .args .image .now) _ _ (a .args .limit) (a .pre .4) v xs st (n .read-nodes .result) (n .read-nodes .ensures v xs st ek)
     (not-false _ (e .if1 .left)) (t .is-tree .result) (t .is-tree .ensures) (c .if2 .taken)
 
 returns-3 : tie.Need-returns-3
@@ -39,7 +39,7 @@ returns-3 c =
     let n = e .before in
     let a = n .before .before .before .before in
     λ v xs st ek.
-    judged-shape (a .args .image .now) _ _ (a .args .limit) (a .pre .4) v xs st (n .read-nodes .result) (n .read-nodes .ensures v xs st ek)
+    judged-shape (a .args .geometry) (a .args .image .now) _ _ (a .args .limit) (a .pre .4) v xs st (n .read-nodes .result) (n .read-nodes .ensures v xs st ek)
     (not-false _ (e .if1 .left)) (t .is-tree .result) (t .is-tree .ensures) (c .if2 .left)
 
 pub judge-spec : {M : Type 1} → statement M

@@ -25,11 +25,11 @@ low w = search needs
 
 -- the tests pass
 past : (w : tie.After-slice-known)
-    → (let a = w .before .args in Planning (a .numbers) (a .allowance) (length (a .image .now)) (length (a .torn .now)))
+    → (let a = w .before .args in Planning (a .geometry) (a .numbers) (a .allowance) (length (a .image .now)) (length (a .torn .now)))
 past w =
     let a = w .before .args in
     let h : a .numbers .commit < 4294967296 = search needs in
-    planning (a .numbers) (a .allowance) (length (a .image .now)) (length (a .torn .now)) h (w .before .pre)
+    planning (a .geometry) (a .numbers) (a .allowance) (length (a .image .now)) (length (a .torn .now)) h (w .before .pre .0)
 
 -- the length of the slots
 slots : (w : tie.After-all2) → length (w .before .before .before .before .before .before .before .before .args .slots .now) ≡ 1024
@@ -44,8 +44,9 @@ begin-requires c κs = search needs
 
 execute-requires : tie.Need-execute-requires
 execute-requires c κs =
-    let p = past (c .before .before .before .before .before .before .before .before .before .before .before .before .before .before .before) in
-    (p .chip .size, p .chip .least, p .chip .most, p .fits, p .slice, p .number)
+    let w = c .before .before .before .before .before .before .before .before .before .before .before .before .before .before .before in
+    let p = past w in
+    (p .chip .size, p .chip .least, p .chip .most, p .fits, p .slice, p .number, w .before .pre .1)
 
 quiet-requires : tie.Need-quiet-requires
 quiet-requires c κs = search needs
@@ -65,7 +66,7 @@ returns c =
     let a = w .before .args in
     let s = joined (a .numbers) (a .buffer .now) (a .lens .now) (a .slots .now) (a .erases .now) in
     rw (c .quiet .ensures)
-    (commit-stuck (a .allowance) (a .torn .now) s (a .image .now) (g .first) (g .pending) (g .number) (g .slice) (g .fits) (slots q) (figured f) (bytes w) _ _ _ _
+    (commit-stuck (a .geometry) (a .allowance) (a .torn .now) s (a .image .now) (g .first) (w .before .pre .1) (g .pending) (g .number) (g .slice) (g .fits) (slots q) (figured f) (bytes w) _ _ _ _
     (x .execute .result) (low w) (b .begin .result) (b .begin .ensures) (x .execute .ensures) (c .before .if1 .taken))
 
 add-n : tie.Need-add-n
@@ -93,7 +94,7 @@ returns-2 c =
     let g = past w in
     let a = w .before .args in
     let s = joined (a .numbers) (a .buffer .now) (a .lens .now) (a .slots .now) (a .erases .now) in
-    commit-ended (a .allowance) (a .torn .now) s (a .image .now) (g .first) (g .pending) (g .number) (g .slice) (g .fits) (slots q) (figured f) (bytes w) _ _ _ _
+    commit-ended (a .geometry) (a .allowance) (a .torn .now) s (a .image .now) (g .first) (w .before .pre .1) (g .pending) (g .number) (g .slice) (g .fits) (slots q) (figured f) (bytes w) _ _ _ _
     (x .execute .result) (low w) (b .begin .result) (b .begin .ensures) (x .execute .ensures) (l .if1 .left) (λ j. omega (arith, k .slice-known2 .given j)) _ (c .ended .ensures (a .buffer .now))
 
 pub commit-pending-spec : {M : Type 1} → statement M

@@ -1,6 +1,8 @@
 use mathlib.Core.Path.{refl, sym, ap, _∙_}
 use native.Mathlib.Omega.{arith}
 use Prim.Native.Nat.{_<_}
+use Rattle.chip.specs.Geometry.{small}
+use Rattle.chip.proofs.Sizes.{small-fits}
 use Rattle.tree.specs.Tree.{absent, found}
 use Rattle.tree.specs.Step6.{top}
 use Rattle.tree.specs.FindCode.{hitOf}
@@ -13,7 +15,7 @@ use Rattle.store.proofs.find.look_up_lent.Statement.{statement}
 use Rattle.store.proofs.find.look_up_lent.Tie as tie
 
 admit-requires : tie.Need-admit-requires
-admit-requires c κs = search needs
+admit-requires c κs = small-fits
 
 enum-told : tie.Need-enum-told
 enum-told c = search needs
@@ -24,23 +26,14 @@ enum-told-2 c = search needs
 enum-told-3 : tie.Need-enum-told-3
 enum-told-3 c = search needs
 
-mul-limit : tie.Need-mul-limit
-mul-limit c =
-    let m = c .before .before in
-    let h = m .admit .ensures .chip (c .enum-told3 .given .1) in
-    record { fits = omega (arith, h .most) }
-
-cast-limit : tie.Need-cast-limit
-cast-limit c =
-    let m = c .before .before in
-    let h = m .admit .ensures .chip (c .enum-told3 .given .1) in
-    record { fits = omega (arith, h .most) }
+scope-of-requires : tie.Need-scope-of-requires
+scope-of-requires c κs = c .before .before .admit .ensures .chip (c .enum-told3 .given .1) .most
 
 find-requires : tie.Need-find-requires
 find-requires c κs =
-    let m = c .before .before in
-    let h = m .admit .ensures .chip (c .enum-told3 .given .1) in
-    omega (arith, h .size)
+    let k = c .before in
+    let h = k .before .before .admit .ensures .chip (k .enum-told3 .given .1) in
+    rw (c .scope-of .ensures) (omega (arith, h .size), small-fits)
 
 enum-known-hit : tie.Need-enum-known-hit
 enum-known-hit c = search needs
@@ -53,34 +46,38 @@ returns c erases =
     let m = c .before .before in
     let a = m .before .before .args in
     let s = joined (a .numbers) (a .buffer .now) (a .lens .now) (a .slots .now) erases in
-    look-refused (a .key) s (a .image .now) L.Off 1 refl refl refl (sym (ap admitNumber (c .enum-told .given .1)) ∙ m .admit .ensures .number)
+    look-refused small (a .key) s (a .image .now) L.Off 1 refl refl refl (sym (ap admitNumber (c .enum-told .given .1)) ∙ m .admit .ensures .number)
 
 returns-2 : tie.Need-returns-2
 returns-2 c erases =
     let m = c .before .before in
     let a = m .before .before .args in
     let s = joined (a .numbers) (a .buffer .now) (a .lens .now) (a .slots .now) erases in
-    look-refused (a .key) s (a .image .now) L.Size 0 refl refl refl (sym (ap admitNumber (c .enum-told2 .given .1)) ∙ m .admit .ensures .number)
+    look-refused small (a .key) s (a .image .now) L.Size 0 refl refl refl (sym (ap admitNumber (c .enum-told2 .given .1)) ∙ m .admit .ensures .number)
 
 returns-3 : tie.Need-returns-3
 returns-3 c erases =
     let f = c .before .before .before in
-    let k = f .before in
+    let z = f .before in
+    let k = z .before in
     let m = k .before .before in
     let a = m .before .before .args in
     let s = joined (a .numbers) (a .buffer .now) (a .lens .now) (a .slots .now) erases in
     let h : a .key < top = search needs in
-    looked (a .key) s (a .image .now) (sym (ap admitNumber (k .enum-told3 .given .1)) ∙ m .admit .ensures .number) (f .find .result) (f .find .ensures) h (found _) (ap hitOf (c .before .hit .given .1))
+    let e = f .find .ensures in
+    looked small (a .key) s (a .image .now) (sym (ap admitNumber (k .enum-told3 .given .1)) ∙ m .admit .ensures .number) (f .find .result) (rw (z .scope-of .ensures) at e) h (found _) (ap hitOf (c .before .hit .given .1))
 
 returns-4 : tie.Need-returns-4
 returns-4 c erases =
     let f = c .before .before in
-    let k = f .before in
+    let z = f .before in
+    let k = z .before in
     let m = k .before .before in
     let a = m .before .before .args in
     let s = joined (a .numbers) (a .buffer .now) (a .lens .now) (a .slots .now) erases in
     let h : a .key < top = search needs in
-    looked (a .key) s (a .image .now) (sym (ap admitNumber (k .enum-told3 .given .1)) ∙ m .admit .ensures .number) (f .find .result) (f .find .ensures) h absent (ap hitOf (c .enum-told4 .given .1))
+    let e = f .find .ensures in
+    looked small (a .key) s (a .image .now) (sym (ap admitNumber (k .enum-told3 .given .1)) ∙ m .admit .ensures .number) (f .find .result) (rw (z .scope-of .ensures) at e) h absent (ap hitOf (c .enum-told4 .given .1))
 
 pub look-up-lent-spec : {M : Type 1} → statement M
 look-up-lent-spec =
@@ -90,8 +87,7 @@ look-up-lent-spec =
     enum-told
     enum-told-2
     enum-told-3
-    mul-limit
-    cast-limit
+    scope-of-requires
     find-requires
     enum-known-hit
     enum-told-4

@@ -1,6 +1,8 @@
 use mathlib.Core.Path.{subst}
 use Prim.Native.Nat.{_<_}
 use lib.ListN.{length}
+use Rattle.chip.proofs.Sizes.{small-fits}
+use Rattle.chip.specs.Geometry.{small, pageSize}
 use Rattle.store.specs.declared.admit.Beginning.{Beginning}
 use Rattle.store.specs.AdmitCode.{CommitBegins}
 use Rattle.store.proofs.ForecastState.{forecast-ends}
@@ -18,7 +20,7 @@ low : (t : tie.Start) → t .args .numbers .commit < 4294967296
 low t = search needs
 
 commit-begins-requires : tie.Need-commit-begins-requires
-commit-begins-requires c κs = search needs
+commit-begins-requires c κs = small-fits
 
 enum-known-answer : tie.Need-enum-known-answer
 enum-known-answer c = search needs
@@ -33,7 +35,7 @@ forecast-pending-requires : tie.Need-forecast-pending-requires
 forecast-pending-requires c κs =
     let b = c .before .before in
     let a = b .before .before .args in
-    subst (λ (r : Beginning). CommitBegins (a .numbers) (length (a .image .now)) 528 r) (c .enum-told .given .1) (b .commit-begins .ensures)
+    (subst (λ (r : Beginning). CommitBegins small (a .numbers) (length (a .image .now)) (pageSize small) r) (c .enum-told .given .1) (b .commit-begins .ensures), small-fits)
 
 returns : tie.Need-returns
 returns c erases =
@@ -41,8 +43,8 @@ returns c erases =
     let b = k .before .before in
     let a = b .before .before .args in
     rw (c .quiet .ensures)
-    (forecast-ends (a .numbers) (a .buffer .now) (a .lens .now) (a .slots .now) erases (a .image .now) _ (low (b .before .before))
-    (subst (λ (r : Beginning). CommitBegins (a .numbers) (length (a .image .now)) 528 r) (k .answer .given .1) (b .commit-begins .ensures)))
+    (forecast-ends small (a .numbers) (a .buffer .now) (a .lens .now) (a .slots .now) erases (a .image .now) _ (low (b .before .before))
+    (subst (λ (r : Beginning). CommitBegins small (a .numbers) (length (a .image .now)) (pageSize small) r) (k .answer .given .1) (b .commit-begins .ensures)))
 
 returns-2 : tie.Need-returns-2
 returns-2 c = search needs

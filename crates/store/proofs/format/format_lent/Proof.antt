@@ -1,5 +1,7 @@
 use Prim.Native.Nat.{_<_}
 use native.Mathlib.Omega.{arith}
+use Rattle.chip.specs.Geometry.{small}
+use Rattle.chip.proofs.Sizes.{small-fits}
 use Rattle.store.specs.Parts.{joined}
 use Rattle.store.proofs.FormatState.{format-size, format-ended}
 use borrow.Author.Needs.{needs}
@@ -18,7 +20,7 @@ low : (w : tie.After-shared-slice-known) → w .before .before .args .allowance 
 low w = search needs
 
 sized-requires : tie.Need-sized-requires
-sized-requires c κs = search needs
+sized-requires c κs = small-fits
 
 quiet-requires : tie.Need-quiet-requires
 quiet-requires c κs = search needs
@@ -29,7 +31,7 @@ returns c buffer =
     let z = h .before in
     let a = z .before .before .before .args in
     let s = joined (a .numbers) buffer (a .lens .now) (a .slots .now) (a .erases .now) in
-    rw (c .quiet .ensures) (format-size (a .allowance) (a .torn .now) s (a .image .now) (z .sized .result) (z .sized .ensures) (omega (arith, h .if1 .taken)))
+    rw (c .quiet .ensures) (format-size small (a .allowance) (a .torn .now) s (a .image .now) (z .sized .result) (z .sized .ensures) (omega (arith, h .if1 .taken)))
 
 begin-requires : tie.Need-begin-requires
 begin-requires c κs = search needs
@@ -39,7 +41,7 @@ format-requires c κs =
     let l = c .before .before in
     let z = l .before .sized in
     let p : 0 < z .result = omega (arith, l .if1 .left) in
-    (z .ensures .chip p .size, p, z .ensures .torn p)
+    (z .ensures .chip p .size, p, z .ensures .torn p, small-fits)
 
 same-length : tie.Need-same-length
 same-length c = search needs
@@ -59,7 +61,7 @@ returns-2 c buffer =
     let z = l .before .sized in
     let a = l .before .before .before .before .args in
     let s = joined (a .numbers) buffer (a .lens .now) (a .slots .now) (a .erases .now) in
-    format-ended (a .allowance) (a .torn .now) s (a .image .now) _ (z .result) (z .ensures) (omega (arith, l .if1 .left)) (low (l .before .before)) (g .begin .result) (f .format .result)
+    format-ended small small-fits (a .allowance) (a .torn .now) s (a .image .now) _ (z .result) (z .ensures) (omega (arith, l .if1 .left)) (low (l .before .before)) (g .begin .result) (f .format .result)
     (g .begin .ensures) (f .format .ensures)
     (λ j. omega (arith, k .slice-known2 .given j)) buffer _ (c .ended .ensures buffer)
 

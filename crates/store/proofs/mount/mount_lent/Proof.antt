@@ -2,6 +2,8 @@ use mathlib.Core.Path.{_≡_, refl}
 use Prim.Native.Nat.{ℕ, _<_}
 use native.Mathlib.Omega.{arith}
 use lib.ListN.{length, getD}
+use Rattle.chip.proofs.Sizes.{small-fits}
+use Rattle.chip.specs.Geometry.{small, pageSize}
 use Rattle.store.specs.declared.answer.Answer.the-variants.{Blank, Layout, Shape}
 use Rattle.store.specs.AdmitCode.{ChipOf}
 use Rattle.store.specs.CheckCode.{Read}
@@ -24,10 +26,10 @@ use Rattle.store.proofs.mount.retire.Reads as retire-reads
 
 -- the sizes are right
 sizes : (e : tie.Else1)
-    → ChipOf (e .before .sized .result) (length (e .before .before .before .before .args .image .now)) × (length (e .before .before .before .before .args .torn .now) ≡ 528)
+    → ChipOf small (e .before .sized .result) (length (e .before .before .before .before .args .image .now)) × (length (e .before .before .before .before .args .torn .now) ≡ pageSize small)
 sizes e =
     let a = e .before .before .before .before .args in
-    sized-chip (length (a .image .now)) (length (a .torn .now)) (e .before .sized .result) (e .before .sized .ensures) (e .if1 .left)
+    sized-chip small (length (a .image .now)) (length (a .torn .now)) (e .before .sized .result) (e .before .sized .ensures) (e .if1 .left)
 
 -- the image holds bytes
 bytes : (w : tie.After-slice-known) → (j : ℕ) → getD (w .before .args .image .now) j 0 < 256
@@ -39,12 +41,12 @@ low w = search needs
 
 -- what the image means
 meaning : (w : tie.After-commit)
-    → Read (w .before .before .before .before .before .before .before .before .before .before .args .image .now)
-    (w .before .before .check .last .1 .1 .0) (w .before .before .check .last .1 .1 .1 .0) (w .commit .given .0 .0) (w .commit .given .0 .1 .0)
+    → Read small (w .before .before .before .before .before .before .before .before .before .before .args .image .now)
+    (w .before .before .check .last .1 .1 .1 .0) (w .before .before .check .last .1 .1 .1 .1 .0) (w .commit .given .0 .0) (w .commit .given .0 .1 .0)
 meaning w = let k = w .before .before .check .ensures in rw (w .commit .given .1) at k
 
 sized-requires : tie.Need-sized-requires
-sized-requires c κs = search needs
+sized-requires c κs = small-fits
 
 quiet-requires : tie.Need-quiet-requires
 quiet-requires c κs = search needs
@@ -57,10 +59,10 @@ returns c buffer =
     let a = w .before .args in
     let s = joined (a .numbers) buffer (a .lens .now) (a .slots .now) (a .erases .now) in
     let k = z .sized .ensures in
-    rw (c .quiet .ensures) (size-mounts (a .allowance) (a .torn .now) s (a .image .now) (bytes w) (rw (h .if1 .taken) at k))
+    rw (c .quiet .ensures) (size-mounts small small-fits (a .allowance) (a .torn .now) s (a .image .now) (bytes w) (rw (h .if1 .taken) at k))
 
 check-requires : tie.Need-check-requires
-check-requires c κs = sizes (c .before .before .before) .0
+check-requires c κs = (sizes (c .before .before .before) .0, small-fits)
 
 enum-told : tie.Need-enum-told
 enum-told c = search needs
@@ -99,7 +101,7 @@ retire-requires : tie.Need-retire-requires
 retire-requires c κs =
     let k = c .before .before .before .before .before .before .before in
     let z = sizes (k .before .before .before .before) in
-    (omega (arith, z .0 .size), z .1)
+    (omega (arith, z .0 .size), z .1, small-fits)
 
 ended-requires : tie.Need-ended-requires
 ended-requires c κs = search needs
@@ -116,7 +118,7 @@ returns-2 c buffer =
     let s = joined (a .numbers) buffer (a .lens .now) (a .slots .now) (a .erases .now) in
     let m = k .check .ensures in
     rw (c .refused .ensures)
-    (invalid-mounts (a .allowance) (a .torn .now) s (a .image .now) (bytes w) (e .before .sized .result) (sizes e .0) (sizes e .1) Blank 7 refl (omega arith) refl
+    (invalid-mounts small small-fits (a .allowance) (a .torn .now) s (a .image .now) (bytes w) (e .before .sized .result) (sizes e .0) (sizes e .1) Blank 7 refl (omega arith) refl
     (rw (c .before .enum-told .given .1) at m))
 
 same-length-2 : tie.Need-same-length-2
@@ -131,7 +133,7 @@ returns-3 c buffer =
     let s = joined (a .numbers) buffer (a .lens .now) (a .slots .now) (a .erases .now) in
     let m = k .check .ensures in
     rw (c .refused2 .ensures)
-    (invalid-mounts (a .allowance) (a .torn .now) s (a .image .now) (bytes w) (e .before .sized .result) (sizes e .0) (sizes e .1) Layout 8 refl (omega arith) refl
+    (invalid-mounts small small-fits (a .allowance) (a .torn .now) s (a .image .now) (bytes w) (e .before .sized .result) (sizes e .0) (sizes e .1) Layout 8 refl (omega arith) refl
     (rw (c .before .enum-told2 .given .1) at m))
 
 same-length-3 : tie.Need-same-length-3
@@ -146,7 +148,7 @@ returns-4 c buffer =
     let s = joined (a .numbers) buffer (a .lens .now) (a .slots .now) (a .erases .now) in
     let m = k .check .ensures in
     rw (c .refused3 .ensures)
-    (invalid-mounts (a .allowance) (a .torn .now) s (a .image .now) (bytes w) (e .before .sized .result) (sizes e .0) (sizes e .1) Shape 9 refl (omega arith) refl
+    (invalid-mounts small small-fits (a .allowance) (a .torn .now) s (a .image .now) (bytes w) (e .before .sized .result) (sizes e .0) (sizes e .1) Shape 9 refl (omega arith) refl
     (rw (c .before .enum-told3 .given .1) at m))
 
 same-length-4 : tie.Need-same-length-4
@@ -164,9 +166,9 @@ returns-5 c buffer =
     let w = e .before .before .before in
     let a = w .before .args in
     let s = joined (a .numbers) buffer (a .lens .now) (a .slots .now) (a .erases .now) in
-    marked-mounts (a .allowance) (a .torn .now) s (a .image .now) (bytes w) (e .before .sized .result) (sizes e .0) (sizes e .1)
-    (k .check .last .1 .1 .0) (k .check .last .1 .1 .1 .0) (t .commit .given .0 .0) (t .commit .given .0 .1 .0) (meaning t)
-    (n .retire .last .0) (low w) (g .begin .result) (n .retire .result)
+    marked-mounts small small-fits (a .allowance) (a .torn .now) s (a .image .now) (bytes w) (e .before .sized .result) (sizes e .0) (sizes e .1)
+    (k .check .last .1 .1 .1 .0) (k .check .last .1 .1 .1 .1 .0) (t .commit .given .0 .0) (t .commit .given .0 .1 .0) (meaning t)
+    (n .retire .last .1 .0) (low w) (g .begin .result) (n .retire .result)
     (g .begin .ensures) (n .retire .ensures) (λ j. omega (arith, v .slice-known2 .given j)) (o .next-number .result) (o .next-number .ensures)
     buffer _ (c .ended .ensures buffer)
 

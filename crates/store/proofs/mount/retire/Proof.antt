@@ -1,5 +1,4 @@
 use borrow.Author.Tests.{eq-eqb, ne-eqb}
-use Rattle.chip.specs.Geometry.{small}
 use Rattle.chip.proofs.Runs.{ran-none}
 use borrow.Author.Needs.{needs}
 use Rattle.store.proofs.mount.retire.Statement.{statement}
@@ -11,10 +10,10 @@ use Rattle.log.proofs.mount.retire.Reads as retire-reads
 returns : tie.Need-returns
 returns c =
     let a = c .before .before .before in
-    rw (eq-eqb _ _ (c .if1 .taken)) (ran-none small (a .args .torn .now) (a .args .progress) (a .args .image .now))
+    rw (eq-eqb _ _ (c .if1 .taken)) (ran-none (a .args .geometry) (a .args .torn .now) (a .args .progress) (a .args .image .now))
 
 retire-requires : tie.Need-retire-requires
-retire-requires c κs = search needs
+retire-requires c κs = c .before .before .before .before .pre
 
 same-length : tie.Need-same-length
 same-length c = search needs

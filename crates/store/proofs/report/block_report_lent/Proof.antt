@@ -2,6 +2,8 @@ use mathlib.Core.Path.{refl, sym, ap, _∙_}
 use Prim.Native.Nat.{_+_, _*_, _-_}
 use native.Mathlib.Nat.{add-sub-cancel-left}
 use native.Mathlib.Omega.{arith}
+use Rattle.chip.specs.Geometry.{small, blockSize}
+use Rattle.chip.proofs.Sizes.{small-fits}
 use Rattle.store.specs.AdmitCode.{admitNumber}
 use Rattle.store.specs.Parts.{joined}
 use Rattle.store.specs.declared.answer.Report.the-variants as R
@@ -11,7 +13,7 @@ use Rattle.store.proofs.report.block_report_lent.Statement.{statement}
 use Rattle.store.proofs.report.block_report_lent.Tie as tie
 
 admit-requires : tie.Need-admit-requires
-admit-requires c κs = search needs
+admit-requires c κs = small-fits
 
 enum-told : tie.Need-enum-told
 enum-told c = search needs
@@ -28,7 +30,7 @@ returns c buffer lens slots =
     let m = k .before .before in
     let a = m .before .before .args in
     let s = joined (a .numbers) buffer lens slots (a .erases .now) in
-    report-absent (a .at) s (a .image .now) (sym (ap admitNumber (k .enum-told3 .given .1)) ∙ m .admit .ensures .number) (omega (arith, c .if1 .taken))
+    report-absent small (a .at) s (a .image .now) (sym (ap admitNumber (k .enum-told3 .given .1)) ∙ m .admit .ensures .number) (omega (arith, c .if1 .taken))
 
 mul-a : tie.Need-mul-a
 mul-a c = search needs
@@ -50,7 +52,7 @@ part-free-pages-end c =
     omega (arith, h .size, c .if1 .left)
 
 free-pages-requires : tie.Need-free-pages-requires
-free-pages-requires c κs = search needs
+free-pages-requires c κs = (search needs, small-fits)
 
 mul-figure : tie.Need-mul-figure
 mul-figure c = search needs
@@ -67,14 +69,14 @@ returns-2 c buffer lens slots =
     let m = c .before .before in
     let a = m .before .before .args in
     let s = joined (a .numbers) buffer lens slots (a .erases .now) in
-    report-first (a .at) s (a .image .now) R.Off (omega arith) (sym (ap admitNumber (c .enum-told .given .1)) ∙ m .admit .ensures .number)
+    report-first small (a .at) s (a .image .now) R.Off (omega arith) (sym (ap admitNumber (c .enum-told .given .1)) ∙ m .admit .ensures .number)
 
 returns-3 : tie.Need-returns-3
 returns-3 c buffer lens slots =
     let m = c .before .before in
     let a = m .before .before .args in
     let s = joined (a .numbers) buffer lens slots (a .erases .now) in
-    report-first (a .at) s (a .image .now) R.Size (omega arith) (sym (ap admitNumber (c .enum-told2 .given .1)) ∙ m .admit .ensures .number)
+    report-first small (a .at) s (a .image .now) R.Size (omega arith) (sym (ap admitNumber (c .enum-told2 .given .1)) ∙ m .admit .ensures .number)
 
 returns-4 : tie.Need-returns-4
 returns-4 c buffer lens slots =
@@ -85,8 +87,8 @@ returns-4 c buffer lens slots =
     let a = m .before .before .args in
     let s = joined (a .numbers) buffer lens slots (a .erases .now) in
     let h = m .admit .ensures .chip (k .enum-told3 .given .1) in
-    report-free (a .at) s (a .image .now) (sym (ap admitNumber (k .enum-told3 .given .1)) ∙ m .admit .ensures .number)
-    (omega (arith, e .if1 .left)) (h .size) _ _ _ (a .at * 16896 + 16896 - a .at * 16896) (add-sub-cancel-left (a .at * 16896) 16896)
+    report-free small (a .at) s (a .image .now) (sym (ap admitNumber (k .enum-told3 .given .1)) ∙ m .admit .ensures .number)
+    small-fits (omega (arith, e .if1 .left)) (h .size) _ _ _ (a .at * blockSize small + blockSize small - a .at * blockSize small) (add-sub-cancel-left (a .at * blockSize small) (blockSize small))
     (f .free-pages .ensures .0) (f .free-pages .ensures .1) refl
 
 pub block-report-lent-spec : {M : Type 1} → statement M

@@ -2,6 +2,7 @@ use mathlib.Core.Path.{sym, subst}
 use mathlib.Core.List.{List}
 use Prim.Native.Nat.{ℕ, _<_, _≤_, _*_}
 use native.Mathlib.Omega.{arith}
+use Rattle.chip.proofs.Sizes.{blocks-whole}
 use Rattle.tree.specs.Step6.{top}
 use Rattle.store.specs.declared.answer.Answer.the-variants.{Nodes}
 use Rattle.store.specs.Parts.{joined, updatedWith}
@@ -13,32 +14,36 @@ use Rattle.store.proofs.update.insert_admitted.Tie as tie
 
 returns : tie.Need-returns
 returns c erases =
-    let t = c .before .before in
+    let t = c .before .before .before in
     let a = t .args in
     let s = joined (a .numbers) (a .buffer .now) (a .lens .now) (a .slots .now) erases in
-    insert-many s (a .image .now) (t .pre .1) (c .if1 .taken) (a .key) (a .value)
+    insert-many (a .geometry) s (a .image .now) (t .pre .1) (c .if1 .taken) (a .key) (a .value)
 
-mul-limit : tie.Need-mul-limit
-mul-limit c = search needs
-
-cast-limit : tie.Need-cast-limit
-cast-limit c = search needs
+scope-of-requires : tie.Need-scope-of-requires
+scope-of-requires c κs = search needs
 
 insert-requires : tie.Need-insert-requires
-insert-requires c κs = search needs
+insert-requires c κs =
+    let z = c .before in
+    let l = z .before in
+    let t = l .before .before .before in
+    let p = t .pre .0 in
+    rw (z .scope-of .ensures) (blocks-whole (t .args .geometry) _ _ (p .size), omega (arith, p .most), omega (arith, l .if1 .left), t .pre .2)
 
 returns-2 : tie.Need-returns-2
 returns-2 c erases =
     let f = c .before in
-    let t = f .before .before .before .before .before in
+    let z = f .before .before in
+    let t = z .before .before .before .before in
     let a = t .args in
     let s = joined (a .numbers) (a .buffer .now) (a .lens .now) (a .slots .now) erases in
     let hk : a .key < top = search needs in
     let hv : a .value < top = search needs in
     let hl : 8 * a .numbers .blocks ≤ 256 = omega (arith, t .pre .0 .most) in
-    subst (λ (new : List ℕ). InsertsIn (a .key) (a .value) s (a .image .now) (updatedWith (record { answer = Nodes; numbers = a .numbers }) new (a .lens .now) (a .slots .now) erases))
+    let e = f .insert .ensures in
+    subst (λ (new : List ℕ). InsertsIn (a .geometry) (a .key) (a .value) s (a .image .now) (updatedWith (record { answer = Nodes; numbers = a .numbers }) new (a .lens .now) (a .slots .now) erases))
     (sym (f .insert .ensures .whole (c .if2 .taken)))
-    (insert-five s (a .image .now) (t .pre .1) (a .key) (a .value) hk hv hl _ (f .insert .result) (f .insert .ensures) (c .if2 .taken))
+    (insert-five (a .geometry) s (a .image .now) (t .pre .1) (a .key) (a .value) hk hv hl _ (f .insert .result) (rw (z .scope-of .ensures) at e) (c .if2 .taken))
 
 add-n : tie.Need-add-n
 add-n c = search needs
@@ -46,14 +51,16 @@ add-n c = search needs
 returns-3 : tie.Need-returns-3
 returns-3 c erases =
     let f = c .before .before in
-    let t = f .before .before .before .before .before in
+    let z = f .before .before in
+    let t = z .before .before .before .before in
     let a = t .args in
     let s = joined (a .numbers) (a .buffer .now) (a .lens .now) (a .slots .now) erases in
     let hk : a .key < top = search needs in
     let hv : a .value < top = search needs in
     let hl : 8 * a .numbers .blocks ≤ 256 = omega (arith, t .pre .0 .most) in
-    insert-accepted s (a .image .now) (t .pre .1) (a .key) (a .value) hk hv hl _ (f .insert .result) (f .insert .ensures) (c .before .if2 .left)
+    let e = f .insert .ensures in
+    insert-accepted (a .geometry) s (a .image .now) (t .pre .1) (a .key) (a .value) hk hv hl _ (f .insert .result) (rw (z .scope-of .ensures) at e) (c .before .if2 .left)
 
 pub insert-admitted-spec : {M : Type 1} → statement M
 insert-admitted-spec =
-    tie.close (tie.spec returns mul-limit cast-limit insert-requires returns-2 add-n returns-3)
+    tie.close (tie.spec returns scope-of-requires insert-requires returns-2 add-n returns-3)

@@ -2,6 +2,7 @@ use mathlib.Core.Path.{_≡_, refl, ap, _∙_}
 use Prim.Native.Nat.{_<_}
 use native.Mathlib.Omega.{arith}
 use lib.ListN.{length}
+use Rattle.chip.proofs.Sizes.{small-fits}
 use Rattle.chip.specs.Geometry.{small}
 use Rattle.promise.specs.Plain.{admission, insertion}
 use Rattle.promise.proofs.Proper.{insert-proper}
@@ -26,14 +27,14 @@ told n = n .number .ensures ∙ ap refusalIn (n .before .update-tests .ensures) 
 -- the tests pass
 passed : (e : tie.Else1)
     → (let a = e .before .before .before .before .args in
-    (0 ≡ admission small (a .numbers .on) (a .numbers .blocks) (length (a .image .now))) × ChipOf (a .numbers .blocks) (length (a .image .now)) × (a .numbers .pending < 16))
+    (0 ≡ admission small (a .numbers .on) (a .numbers .blocks) (length (a .image .now))) × ChipOf small (a .numbers .blocks) (length (a .image .now)) × (a .numbers .pending < 16))
 passed e =
     let a = e .before .before .before .before .args in
-    updates-pass (a .numbers .on) (a .numbers .blocks) (a .numbers .pending) (length (a .image .now)) (omega (arith, e .if1 .left, told (e .before)))
+    updates-pass small (a .numbers .on) (a .numbers .blocks) (a .numbers .pending) (length (a .image .now)) (omega (arith, e .if1 .left, told (e .before)))
 
 -- src/update.rt:119:9
 update-tests-requires : tie.Need-update-tests-requires
-update-tests-requires c κs = search needs
+update-tests-requires c κs = small-fits
 
 -- src/update.rt:120:8
 number-requires : tie.Need-number-requires
@@ -46,12 +47,12 @@ returns c erases =
     let t = n .before in
     let a = t .before .before .args in
     let s = joined (a .numbers) (a .buffer .now) (a .lens .now) (a .slots .now) erases in
-    updates-refused (insertion (a .key) (a .value)) s (a .image .now) _ (t .update-tests .ensures) refl (omega (arith, c .if1 .taken, told n))
+    updates-refused small (insertion (a .key) (a .value)) s (a .image .now) _ (t .update-tests .ensures) refl (omega (arith, c .if1 .taken, told n))
 
 -- src/update.rt:123:5
 insert-admitted-requires : tie.Need-insert-admitted-requires
 insert-admitted-requires c κs =
-    let w = passed (c .before) in (w .1, w .2)
+    let w = passed (c .before) in (w .1, w .2, small-fits)
 
 -- src/update.rt:107:1
 returns-2 : tie.Need-returns-2
@@ -60,7 +61,7 @@ returns-2 c erases =
     let a = e .before .before .before .before .args in
     let s = joined (a .numbers) (a .buffer .now) (a .lens .now) (a .slots .now) erases in
     let w = passed e in
-    updates-done (insertion (a .key) (a .value)) s (a .image .now) _ (w .0) (insert-proper (a .key) (a .value)) (w .2) (c .insert-admitted .ensures erases)
+    updates-done small (insertion (a .key) (a .value)) s (a .image .now) _ (w .0) (insert-proper (a .key) (a .value)) (w .2) (c .insert-admitted .ensures erases)
 
 pub insert-lent-spec : {M : Type 1} → statement M
 insert-lent-spec =

@@ -26,10 +26,10 @@ use Rattle.tree.proofs.check.+subtrees+visit.{statement}
 use Rattle.tree.proofs.check.+subtrees+visit.Tie.{close}
 
 abbrev μ-subtrees : Measures 4 subtrees-kinds.ps ℕ
-μ-subtrees κs a = 20 * a .1 .1 .1 .1 .1 .0 + (18 - a .1 .1 .1 .1 .1 .1 .1 .0)
+μ-subtrees κs a = 20 * a .1 .1 .1 .1 .1 .1 .0 + (18 - a .1 .1 .1 .1 .1 .1 .1 .1 .0)
 
 abbrev μ-visit : Measures 4 visit-kinds.ps ℕ
-μ-visit κs a = 20 * a .1 .1 .1 .1 .1 .0
+μ-visit κs a = 20 * a .1 .1 .1 .1 .1 .1 .0
 
 abbrev subtrees-at : ℕ → In 4 subtrees-kinds.ps
 subtrees-at t = and 4 subtrees-kinds.ps (is 4 subtrees-kinds.ps μ-subtrees t) subtrees.Pre
@@ -55,10 +55,10 @@ subtrees-returns : (t : ℕ) → subtrees-lts.Need-returns (
 ) (subtrees-at t) subtrees.Post
 subtrees-returns t c =
     let a = c .before .before .args in
-    kids-none (pagesTable (a .image .now) (a .lens .now) (a .slots .now) (a .limit)) (a .level) (a .hi) (a .t7 .len) (a .i) (a .t7 .keys) (a .t7 .values) (a .seen .now) (a .seen .now) (c .if1 .taken)
+    kids-none (pagesTable (a .geometry) (a .image .now) (a .lens .now) (a .slots .now) (a .limit)) (a .level) (a .hi) (a .t8 .len) (a .i) (a .t8 .keys) (a .t8 .values) (a .seen .now) (a .seen .now) (c .if1 .taken)
 
 -- src/check.rt:197:18
-subtrees-mul-number : (t : ℕ) → subtrees-lts.Need-mul-number (
+subtrees-mul-c : (t : ℕ) → subtrees-lts.Need-mul-c (
   end-at-reads.Asked,
   end-at-reads.Learnt,
   visit-below t,
@@ -66,10 +66,10 @@ subtrees-mul-number : (t : ℕ) → subtrees-lts.Need-mul-number (
   subtrees-below t,
   subtrees.Post,
 ) (subtrees-at t) subtrees.Post
-subtrees-mul-number t c = search needs
+subtrees-mul-c t c = search needs
 
 -- src/check.rt:197:18
-subtrees-element-copy-out-number : (t : ℕ) → subtrees-lts.Need-element-copy-out-number (
+subtrees-element-copy-out-c : (t : ℕ) → subtrees-lts.Need-element-copy-out-c (
   end-at-reads.Asked,
   end-at-reads.Learnt,
   visit-below t,
@@ -77,7 +77,7 @@ subtrees-element-copy-out-number : (t : ℕ) → subtrees-lts.Need-element-copy-
   subtrees-below t,
   subtrees.Post,
 ) (subtrees-at t) subtrees.Post
-subtrees-element-copy-out-number t c = search needs
+subtrees-element-copy-out-c t c = search needs
 
 -- src/check.rt:198:14
 subtrees-mul-lo : (t : ℕ) → subtrees-lts.Need-mul-lo (
@@ -138,11 +138,11 @@ subtrees-returns-2 t c =
     let b = d .before .before .before in
     let a = b .before .before .args in
     let e = d .end-at .ensures in
-    kids-stop (pagesTable (a .image .now) (a .lens .now) (a .slots .now) (a .limit)) (a .level) (a .hi) (a .t7 .len) (a .i) (a .t7 .keys) (a .t7 .values) (a .seen .now) _
+    kids-stop (pagesTable (a .geometry) (a .image .now) (a .lens .now) (a .slots .now) (a .limit)) (a .level) (a .hi) (a .t8 .len) (a .i) (a .t8 .keys) (a .t8 .values) (a .seen .now) _
     (b .if1 .left) (omega arith) (omega arith) (d .end-at .result) (e .0) (walk-as (not-true (v .visit .result) (c .if2 .taken)) (v .visit .ensures))
 
 -- src/check.rt:204:57
-subtrees-add-subtrees : (t : ℕ) → subtrees-lts.Need-add-subtrees (
+subtrees-add-j : (t : ℕ) → subtrees-lts.Need-add-j (
   end-at-reads.Asked,
   end-at-reads.Learnt,
   visit-below t,
@@ -150,7 +150,7 @@ subtrees-add-subtrees : (t : ℕ) → subtrees-lts.Need-add-subtrees (
   subtrees-below t,
   subtrees.Post,
 ) (subtrees-at t) subtrees.Post
-subtrees-add-subtrees t c = search needs
+subtrees-add-j t c = search needs
 
 -- src/check.rt:204:5
 subtrees-subtrees-requires : (t : ℕ) → subtrees-lts.Need-subtrees-requires (
@@ -179,7 +179,7 @@ subtrees-returns-3 t c =
     let b = d .before .before .before in
     let a = b .before .before .args in
     let e = d .end-at .ensures in
-    kids-next (pagesTable (a .image .now) (a .lens .now) (a .slots .now) (a .limit)) (a .level) (a .hi) (a .t7 .len) (a .i) (a .t7 .keys) (a .t7 .values) (a .seen .now) _
+    kids-next (pagesTable (a .geometry) (a .image .now) (a .lens .now) (a .slots .now) (a .limit)) (a .level) (a .hi) (a .t8 .len) (a .i) (a .t8 .keys) (a .t8 .values) (a .seen .now) _
     (b .if1 .left) (omega arith) (omega arith) (d .end-at .result) (e .0) _ (c .subtrees .result) (walk-as (not-false (v .visit .result) (f .if2 .left)) (v .visit .ensures)) (c .subtrees .ensures)
 
 -- src/check.rt:159:9
@@ -223,7 +223,7 @@ visit-returns t c =
     let o = c .before in
     let v = o .before in
     let a = v .before .before .args in
-    visit-unfit (a .image .now) (a .lens .now) (a .slots .now) (a .limit) (a .level) (a .number) (a .lo) (a .hi) (viewOf (v .list-view .result))
+    visit-unfit (a .geometry) (a .image .now) (a .lens .now) (a .slots .now) (a .limit) (a .level) (a .number) (a .lo) (a .hi) (viewOf (v .list-view .result))
     (v .list-view .ensures .is) (a .seen .now) (sym (o .own .ensures) ∙ not-true (o .own .result) (c .if1 .taken))
 
 -- src/check.rt:164:9
@@ -257,7 +257,7 @@ visit-returns-2 t c =
     let v = o .before in
     let k = v .before .before in
     let a = k .args in
-    visit-old (a .image .now) (a .lens .now) (a .slots .now) (a .limit) (a .level) (a .number) (a .lo) (a .hi) (viewOf (v .list-view .result))
+    visit-old (a .geometry) (a .image .now) (a .lens .now) (a .slots .now) (a .limit) (a .level) (a .number) (a .lo) (a .hi) (viewOf (v .list-view .result))
     (v .list-view .ensures .is) (sym (o .own .ensures) ∙ not-false (o .own .result) (f .if1 .left)) (a .seen .now) _ (mark-as (not-true (m .mark .result) (c .if2 .taken)) (m .mark .ensures))
 
 -- src/check.rt:169:9
@@ -278,11 +278,11 @@ visit-returns-3 t c =
     let o = f .before in
     let v = o .before in
     let a = v .before .before .args in
-    visit-leaf (a .image .now) (a .lens .now) (a .slots .now) (a .limit) (a .level) (a .number) (a .lo) (a .hi) (viewOf (v .list-view .result))
+    visit-leaf (a .geometry) (a .image .now) (a .lens .now) (a .slots .now) (a .limit) (a .level) (a .number) (a .lo) (a .hi) (viewOf (v .list-view .result))
     (v .list-view .ensures .is) (sym (o .own .ensures) ∙ not-false (o .own .result) (f .if1 .left)) (a .seen .now) _ (c .if3 .taken) (mark-as (not-false (m .mark .result) (q .if2 .left)) (m .mark .ensures))
 
 -- src/check.rt:172:47
-visit-sub-subtrees : (t : ℕ) → visit-lts.Need-sub-subtrees (
+visit-sub-low : (t : ℕ) → visit-lts.Need-sub-low (
   list-view-reads.Asked,
   list-view-reads.Learnt,
   own-reads.Asked,
@@ -292,7 +292,7 @@ visit-sub-subtrees : (t : ℕ) → visit-lts.Need-sub-subtrees (
   subtrees-below t,
   subtrees.Post,
 ) (visit-at t) visit.Post
-visit-sub-subtrees t c = search needs
+visit-sub-low t c = search needs
 
 -- src/check.rt:172:5
 visit-subtrees-requires : (t : ℕ) → visit-lts.Need-subtrees-requires (
@@ -330,7 +330,7 @@ visit-returns-4 t c =
     let fit = sym (o .own .ensures) ∙ not-false (o .own .result) (f .if1 .left) in
     let e : a .level ≡ suc (a .level - 1) = omega arith in
     let i = and-left (isLevel (a .level) w) (obeysAt (a .level) (a .lo) (a .hi) (T.entriesOf w)) fit in
-    visit-branch (a .image .now) (a .lens .now) (a .slots .now) (a .limit) (a .level) (a .number) (a .lo) (a .hi) (viewOf (v .list-view .result))
+    visit-branch (a .geometry) (a .image .now) (a .lens .now) (a .slots .now) (a .limit) (a .level) (a .number) (a .lo) (a .hi) (viewOf (v .list-view .result))
     (v .list-view .ensures .is) fit (a .level - 1) (entriesOf (v .list-view .result .node)) (a .seen .now) _ _ (c .subtrees .result) e
     (level-entries (a .level) (v .list-view .result .stage) (v .list-view .result .node) i) (mark-as (not-false (m .mark .result) (q .if2 .left)) (m .mark .ensures)) (c .subtrees .ensures)
 
@@ -346,14 +346,14 @@ pub +subtrees+visit-spec : {M : Type 1} → statement M
     (subtrees-at t)
     subtrees.Post
     (subtrees-returns t)
-    (subtrees-mul-number t)
-    (subtrees-element-copy-out-number t)
+    (subtrees-mul-c t)
+    (subtrees-element-copy-out-c t)
     (subtrees-mul-lo t)
     (subtrees-element-copy-out-lo t)
     (subtrees-end-at-requires t)
     (subtrees-visit-requires t)
     (subtrees-returns-2 t)
-    (subtrees-add-subtrees t)
+    (subtrees-add-j t)
     (subtrees-subtrees-requires t)
     (subtrees-returns-3 t))
     λ t. visit-lts.spec (
@@ -374,6 +374,6 @@ pub +subtrees+visit-spec : {M : Type 1} → statement M
     (visit-mark-requires t)
     (visit-returns-2 t)
     (visit-returns-3 t)
-    (visit-sub-subtrees t)
+    (visit-sub-low t)
     (visit-subtrees-requires t)
     (visit-returns-4 t)

@@ -15,11 +15,11 @@ use Rattle.tree.proofs.check.presence.Reads as presence-reads
 use Rattle.views.proofs.view.list_view.Reads as list-view-reads
 
 abbrev Inv-loop : tie.InvT-loop
-Inv-loop image lens slots limit seen n₀ n =
-    (n ≤ limit) × (countsFrom n (drop n (pagesTable image lens slots limit)) seen ≡ countsFrom 0 (pagesTable image lens slots limit) seen)
+Inv-loop geometry image lens slots limit seen n₀ n =
+    (n ≤ limit) × (countsFrom n (drop n (pagesTable geometry image lens slots limit)) seen ≡ countsFrom 0 (pagesTable geometry image lens slots limit) seen)
 
 abbrev μ-loop : tie.MeasureT-loop
-μ-loop image lens slots limit seen n₀ n = limit - n
+μ-loop geometry image lens slots limit seen n₀ n = limit - n
 
 -- src/check.rt:219:5
 loop-holds : tie.Need-loop-holds Inv-loop μ-loop
@@ -45,9 +45,9 @@ returns c =
     let v = p .before in
     let s = v .before .before in
     let a = s .before .before .args in
-    let t = pagesTable (a .image .now) (a .lens .now) (a .slots .now) (a .limit) in
-    let e = listed-same (a .image .now) (a .lens .now) (a .slots .now) (a .limit) there refl (s .loop .n) ∙ ap there (sym (v .list-view .ensures .is)) ∙ sym (p .presence .ensures) in
-    let l = length-listed (a .image .now) (a .lens .now) (a .slots .now) (a .limit) in
+    let t = pagesTable (a .geometry) (a .image .now) (a .lens .now) (a .slots .now) (a .limit) in
+    let e = listed-same (a .geometry) (a .image .now) (a .lens .now) (a .slots .now) (a .limit) there refl (s .loop .n) ∙ ap there (sym (v .list-view .ensures .is)) ∙ sym (p .presence .ensures) in
+    let l = length-listed (a .geometry) (a .image .now) (a .lens .now) (a .slots .now) (a .limit) in
     sym (counts-fail t (s .loop .n) (a .seen .now) (omega arith) (λ z. c .if1 .taken (q .count-at .ensures ∙ z ∙ e))) ∙ s .loop .inv .1
 
 -- src/check.rt:226:9
@@ -66,9 +66,9 @@ loop-again c =
     let v = p .before in
     let s = v .before .before in
     let a = s .before .before .args in
-    let t = pagesTable (a .image .now) (a .lens .now) (a .slots .now) (a .limit) in
-    let e = listed-same (a .image .now) (a .lens .now) (a .slots .now) (a .limit) there refl (s .loop .n) ∙ ap there (sym (v .list-view .ensures .is)) ∙ sym (p .presence .ensures) in
-    let l = length-listed (a .image .now) (a .lens .now) (a .slots .now) (a .limit) in
+    let t = pagesTable (a .geometry) (a .image .now) (a .lens .now) (a .slots .now) (a .limit) in
+    let e = listed-same (a .geometry) (a .image .now) (a .lens .now) (a .slots .now) (a .limit) there refl (s .loop .n) ∙ ap there (sym (v .list-view .ensures .is)) ∙ sym (p .presence .ensures) in
+    let l = length-listed (a .geometry) (a .image .now) (a .lens .now) (a .slots .now) (a .limit) in
     (omega arith, counts-pass t (s .loop .n) (a .seen .now) (omega arith) (sym (q .count-at .ensures) ∙ c .if1 .left ∙ sym e) ∙ s .loop .inv .1)
 
 -- src/check.rt:208:1
@@ -76,8 +76,8 @@ returns-2 : tie.Need-returns-2 Inv-loop μ-loop
 returns-2 c =
     let s = c .before in
     let a = s .before .before .args in
-    let t = pagesTable (a .image .now) (a .lens .now) (a .slots .now) (a .limit) in
-    let l = length-listed (a .image .now) (a .lens .now) (a .slots .now) (a .limit) in
+    let t = pagesTable (a .geometry) (a .image .now) (a .lens .now) (a .slots .now) (a .limit) in
+    let l = length-listed (a .geometry) (a .image .now) (a .lens .now) (a .slots .now) (a .limit) in
     sym (counts-end t (s .loop .n) (a .seen .now) (omega arith)) ∙ s .loop .inv .1
 
 pub all-once-spec : {M : Type 1} → statement M

@@ -42,8 +42,8 @@ returns c =
     let n = z .before .before in
     let f = n .before in
     let a = f .before .before .args in
-    let e = n .node-or-empty .ensures .level ∙ ap levelOf (f .list-view .ensures .is) ∙ sym (listed-same (a .image .now) (a .lens .now) (a .slots .now) (a .limit) levelOf refl 0) in
-    tree-counts (pagesTable (a .image .now) (a .lens .now) (a .slots .now) (a .limit)) (n .node-or-empty .result .level) _ _ e (z .clear .ensures) (c .all-once .result)
+    let e = n .node-or-empty .ensures .level ∙ ap levelOf (f .list-view .ensures .is) ∙ sym (listed-same (a .geometry) (a .image .now) (a .lens .now) (a .slots .now) (a .limit) levelOf refl 0) in
+    tree-counts (pagesTable (a .geometry) (a .image .now) (a .lens .now) (a .slots .now) (a .limit)) (n .node-or-empty .result .level) _ _ e (z .clear .ensures) (c .all-once .result)
     (walk-as (y .if1 .taken) (v .visit .ensures)) (c .all-once .ensures)
 
 -- src/check.rt:232:1
@@ -54,8 +54,8 @@ returns-2 c =
     let n = z .before .before in
     let f = n .before in
     let a = f .before .before .args in
-    let e = n .node-or-empty .ensures .level ∙ ap levelOf (f .list-view .ensures .is) ∙ sym (listed-same (a .image .now) (a .lens .now) (a .slots .now) (a .limit) levelOf refl 0) in
-    no-tree (pagesTable (a .image .now) (a .lens .now) (a .slots .now) (a .limit)) (n .node-or-empty .result .level) _ _ e (z .clear .ensures) (walk-as (c .if1 .left) (v .visit .ensures))
+    let e = n .node-or-empty .ensures .level ∙ ap levelOf (f .list-view .ensures .is) ∙ sym (listed-same (a .geometry) (a .image .now) (a .lens .now) (a .slots .now) (a .limit) levelOf refl 0) in
+    no-tree (pagesTable (a .geometry) (a .image .now) (a .lens .now) (a .slots .now) (a .limit)) (n .node-or-empty .result .level) _ _ e (z .clear .ensures) (walk-as (c .if1 .left) (v .visit .ensures))
 
 pub is-tree-spec : {M : Type 1} → statement M
 is-tree-spec =

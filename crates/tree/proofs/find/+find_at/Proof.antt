@@ -1,6 +1,5 @@
 use mathlib.Core.Path.{_≡_}
 use native.Mathlib.Omega.{arith}
-use Rattle.chip.specs.Geometry.{small}
 use Rattle.chip.specs.Chip.{pagesOf}
 use Rattle.tree.specs.Shown.{shown}
 use Rattle.tree.proofs.FindLaws.{at-leaf, at-branch}
@@ -19,7 +18,7 @@ use Rattle.tree.proofs.find.+find_at.{statement}
 use Rattle.tree.proofs.find.+find_at.Tie.{close}
 
 abbrev μ-find-at : Measures 4 find-at-kinds.ps ℕ
-μ-find-at κs a = a .1 .1 .1 .1 .1 .1 .0
+μ-find-at κs a = a .1 .1 .1 .1 .1 .0
 
 abbrev find-at-at : ℕ → In 4 find-at-kinds.ps
 find-at-at t = and 4 find-at-kinds.ps (is 4 find-at-kinds.ps μ-find-at t) find-at.Pre
@@ -74,8 +73,9 @@ find-at-returns t c =
     let q = c .before .before in
     let k = q .before .before in
     let a = k .args in
+    let s = a .scope in
     at-leaf (a .lens .now) (a .slots .now) (a .number) (a .key)
-    (shown small (a .limit) (pagesOf small (a .image .now)) (a .lens .now) (a .slots .now) (a .count) (a .buffer .now)) (a .n)
+    (shown (s .geometry) (s .limit) (pagesOf (s .geometry) (a .image .now)) (a .lens .now) (a .slots .now) (s .count) (a .buffer .now)) (a .n)
     (q .list-pages .result) (k .pre .1 .2) (q .list-pages .ensures .0) (q .list-pages .ensures .1) (a .level) (c .lookup .result) (c .before .if1 .taken)
     (c .lookup .ensures)
 
@@ -139,7 +139,7 @@ find-at-find-at-requires : (t : ℕ) → find-at-lts.Need-find-at-requires (
 ) (find-at-at t) find-at.Post
 find-at-find-at-requires t c κs =
     let k = c .before .before .before .before .before in
-    (omega (arith, k .pre .0), (k .pre .1 .0, omega (arith, k .pre .1 .1), c .node-at .ensures))
+    (omega (arith, k .pre .0), (k .pre .1 .0, omega (arith, k .pre .1 .1), c .node-at .ensures, k .pre .1 .3))
 
 -- src/find.rt:143:16
 find-at-add-sum : (t : ℕ) → find-at-lts.Need-add-sum (
@@ -174,9 +174,10 @@ find-at-returns-2 t c =
     let q = d .before .before in
     let k = q .before .before in
     let a = k .args in
+    let s = a .scope in
     let e : a .level ≡ suc (a .level - 1) = omega arith in
     at-branch (a .lens .now) (a .slots .now) (a .number) (a .key)
-    (shown small (a .limit) (pagesOf small (a .image .now)) (a .lens .now) (a .slots .now) (a .count) (a .buffer .now)) (a .n)
+    (shown (s .geometry) (s .limit) (pagesOf (s .geometry) (a .image .now)) (a .lens .now) (a .slots .now) (s .count) (a .buffer .now)) (a .n)
     (q .list-pages .result) (k .pre .1 .2) (q .list-pages .ensures .0) (q .list-pages .ensures .1) (a .level) (a .level - 1) (d .child .result)
     (c .find-at .result) e (d .child .ensures) (c .find-at .ensures)
 

@@ -1,4 +1,3 @@
-use Rattle.chip.specs.Geometry.{small}
 use Rattle.chip.specs.Chip.{pagesOf}
 use native.Mathlib.Omega.{arith}
 use Rattle.tree.specs.Shown.{shown}
@@ -20,18 +19,20 @@ find-at-requires : tie.Need-find-at-requires
 find-at-requires c κs =
     let k = c .before .before in
     let a = k .args in
-    let h = root-low small (a .limit) (pagesOf small (a .image .now)) (a .lens .now) (a .slots .now) (a .count) (a .buffer .now) in
-    (k .pre, omega (arith, c .node-at .ensures .level), c .node-at .ensures)
+    let s = a .scope in
+    let h = root-low (s .geometry) (s .limit) (pagesOf (s .geometry) (a .image .now)) (a .lens .now) (a .slots .now) (s .count) (a .buffer .now) in
+    (k .pre .0, omega (arith, c .node-at .ensures .level), c .node-at .ensures, k .pre .1)
 
 -- src/find.rt:156:1
 returns : tie.Need-returns
 returns c =
     let q = c .before in
     let a = q .before .before .args in
+    let s = a .scope in
     from-root (a .lens .now) (a .slots .now) (a .key)
-    (shown small (a .limit) (pagesOf small (a .image .now)) (a .lens .now) (a .slots .now) (a .count) (a .buffer .now))
+    (shown (s .geometry) (s .limit) (pagesOf (s .geometry) (a .image .now)) (a .lens .now) (a .slots .now) (s .count) (a .buffer .now))
     (q .node-at .result .level) (c .find-at .result) (q .node-at .ensures .level)
-    (root-low small (a .limit) (pagesOf small (a .image .now)) (a .lens .now) (a .slots .now) (a .count) (a .buffer .now)) (c .find-at .ensures)
+    (root-low (s .geometry) (s .limit) (pagesOf (s .geometry) (a .image .now)) (a .lens .now) (a .slots .now) (s .count) (a .buffer .now)) (c .find-at .ensures)
 
 pub find-spec : {M : Type 1} → statement M
 find-spec = tie.close (tie.spec node-at-requires find-at-requires returns)

@@ -1,4 +1,3 @@
-use Rattle.chip.specs.Geometry.{small}
 use Rattle.chip.specs.Chip.{pagesOf}
 use Rattle.views.specs.FoldCode.{viewOf}
 use Rattle.tree.proofs.FindLaws.{holds-shown}
@@ -23,7 +22,8 @@ returns : tie.Need-returns
 returns c =
     let q = c .before in
     let a = q .before .before .args in
-    holds-shown small (a .limit) (pagesOf small (a .image .now)) (a .lens .now) (a .slots .now) (a .count) (a .buffer .now) (a .number)
+    let s = a .scope in
+    holds-shown (s .geometry) (s .limit) (pagesOf (s .geometry) (a .image .now)) (a .lens .now) (a .slots .now) (s .count) (a .buffer .now) (a .number)
     (viewOf (q .node-view .result)) (c .node-or-empty .result) (q .node-view .ensures .is) (c .node-or-empty .ensures)
 
 pub node-at-spec : {M : Type 1} → statement M

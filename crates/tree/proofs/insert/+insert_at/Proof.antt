@@ -20,7 +20,7 @@ use Rattle.tree.proofs.insert.+insert_at.{statement}
 use Rattle.tree.proofs.insert.+insert_at.Tie.{close}
 
 abbrev μ-insert-at : Measures 4 insert-at-kinds.ps ℕ
-μ-insert-at κs a = a .1 .1 .1 .1 .1 .1 .1 .0
+μ-insert-at κs a = a .1 .1 .1 .1 .1 .1 .0 .level
 
 abbrev insert-at-at : ℕ → In 4 insert-at-kinds.ps
 insert-at-at t = and 4 insert-at-kinds.ps (is 4 insert-at-kinds.ps μ-insert-at t) insert-at.Pre
@@ -65,8 +65,8 @@ insert-at-returns t c =
     let a = s .args in
     let hk : a .key < top = search needs in
     let hv : a .value < top = search needs in
-    rises-leaf (a .image .now) (a .lens .now) (a .slots .now) (a .limit) (s .pre .1 .1) (a .next) (a .key) (a .value) (a .count) (a .buffer .now) hk hv (a .need) (a .node) _ (c .gain-leaf .result)
-    (a .level) (entriesOf (a .n)) (i .if1 .taken) (s .pre .1 .5 .entries) (s .pre .1 .2) (c .gain-leaf .ensures)
+    rises-leaf (a .scope .geometry) (a .image .now) (a .lens .now) (a .slots .now) (a .scope .limit) (s .pre .1 .1) (a .next) (a .key) (a .value) (a .scope .count) (a .buffer .now) hk hv (a .spot .need) (a .spot .node) _ (c .gain-leaf .result)
+    (a .spot .level) (entriesOf (a .n)) (i .if1 .taken) (s .pre .1 .5 .entries) (s .pre .1 .2) (c .gain-leaf .ensures)
 
 insert-at-child-requires : (t : ℕ) → insert-at-lts.Need-child-requires (
   gain-leaf-reads.Asked,
@@ -116,7 +116,7 @@ insert-at-needs-above-requires : (t : ℕ) → insert-at-lts.Need-needs-above-re
 ) (insert-at-at t) insert-at.Post
 insert-at-needs-above-requires t c κs = search needs
 
-insert-at-sub-insert-at : (t : ℕ) → insert-at-lts.Need-sub-insert-at (
+insert-at-sub-down : (t : ℕ) → insert-at-lts.Need-sub-down (
   gain-leaf-reads.Asked,
   gain-leaf-reads.Learnt,
   child-reads.Asked,
@@ -130,7 +130,7 @@ insert-at-sub-insert-at : (t : ℕ) → insert-at-lts.Need-sub-insert-at (
   pass-up-reads.Asked,
   pass-up-reads.Learnt,
 ) (insert-at-at t) insert-at.Post
-insert-at-sub-insert-at t c = search needs
+insert-at-sub-down t c = search needs
 
 insert-at-insert-at-requires : (t : ℕ) → insert-at-lts.Need-insert-at-requires (
   gain-leaf-reads.Asked,
@@ -152,7 +152,7 @@ insert-at-insert-at-requires t c κs =
     let e = m .before .before .before in
     let s = e .before .before in
     let a = s .args in
-    let z : a .level ≡ suc (a .level - 1) = omega (arith, e .if1 .left) in
+    let z : a .spot .level ≡ suc (a .spot .level - 1) = omega (arith, e .if1 .left) in
     let h = s .pre .1 in (
       omega (arith, s .pre .0, e .if1 .left),
       (
@@ -160,8 +160,9 @@ insert-at-insert-at-requires t c κs =
         h .1,
         h .2,
         omega (arith, h .3),
-        omega (arith, q .needs-above .ensures, needs-low (a .need) (a .level) (a .level - 1) (a .node) (suc (length (entriesOf (a .n)))) z (h .3) (h .4)),
+        omega (arith, q .needs-above .ensures, needs-low (a .spot .need) (a .spot .level) (a .spot .level - 1) (a .spot .node) (suc (length (entriesOf (a .n)))) z (h .3) (h .4)),
         m .node-at .ensures,
+        h .6,
       ),
     )
 
@@ -207,7 +208,7 @@ insert-at-returns-2 t c =
     let a = s .args in
     let hk : a .key < top = search needs in
     let hv : a .value < top = search needs in
-    rises-pass (a .image .now) (a .lens .now) (a .slots .now) (a .limit) (s .pre .1 .1) (a .next) (a .key) (a .value) (a .count) (a .buffer .now) hk hv (a .need) (a .level) (a .level - 1) (a .node)
+    rises-pass (a .scope .geometry) (a .image .now) (a .lens .now) (a .slots .now) (a .scope .limit) (s .pre .1 .1) (a .next) (a .key) (a .value) (a .scope .count) (a .buffer .now) hk hv (a .spot .need) (a .spot .level) (a .spot .level - 1) (a .spot .node)
     (d .child .result) (q .needs-above .result) (entriesOf (a .n)) _ _ (i .insert-at .result) (c .pass-up .result) (omega (arith, e .if1 .left)) (s .pre .1 .5 .entries) (d .child .ensures)
     (q .needs-above .ensures) (i .insert-at .ensures) (c .pass-up .ensures)
 
@@ -233,7 +234,7 @@ pub +insert-at-spec : {M : Type 1} → statement M
     (insert-at-child-requires t)
     (insert-at-node-at-requires t)
     (insert-at-needs-above-requires t)
-    (insert-at-sub-insert-at t)
+    (insert-at-sub-down t)
     (insert-at-insert-at-requires t)
     (insert-at-pass-up-requires t)
     (insert-at-returns-2 t)

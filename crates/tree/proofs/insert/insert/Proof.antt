@@ -1,4 +1,3 @@
-use Rattle.chip.specs.Geometry.{small}
 use Rattle.chip.specs.Chip.{pagesOf}
 use Prim.Native.Nat.{_<_}
 use native.Mathlib.Omega.{arith}
@@ -17,8 +16,9 @@ insert-at-requires c κs =
     let l = c .before in
     let s = l .before .before .before in
     let a = s .args in
-    let h = root-low small (a .limit) (pagesOf small (a .image .now)) (a .lens .now) (a .slots .now) (a .count) (a .buffer .now) in
-    (s .pre .0, s .pre .1, s .pre .2, omega (arith, l .node-at .ensures .level), omega (arith, l .node-at .ensures .level), l .node-at .ensures)
+    let o = a .scope in
+    let h = root-low (o .geometry) (o .limit) (pagesOf (o .geometry) (a .image .now)) (a .lens .now) (a .slots .now) (o .count) (a .buffer .now) in
+    (s .pre .0, s .pre .1, s .pre .2, omega (arith, l .node-at .ensures .level), omega (arith, l .node-at .ensures .level), l .node-at .ensures, s .pre .3)
 
 answer-requires : tie.Need-answer-requires
 answer-requires c κs = search needs
@@ -31,7 +31,7 @@ returns c =
     let a = s .args in
     let hk : a .key < top = search needs in
     let hv : a .value < top = search needs in
-    insert-answers (a .image .now) (a .lens .now) (a .slots .now) (a .limit) (s .pre .1) (a .next) (a .key) (a .value) (a .count) (a .buffer .now) hk hv (l .node-at .result .level) (l .node-at .ensures .level)
+    insert-answers (a .scope .geometry) (a .image .now) (a .lens .now) (a .slots .now) (a .scope .limit) (s .pre .1) (a .next) (a .key) (a .value) (a .scope .count) (a .buffer .now) hk hv (l .node-at .result .level) (l .node-at .ensures .level)
     (s .pre .2) (i .insert-at .result) _ (i .insert-at .ensures) (c .answer .result) (c .answer .ensures)
 
 pub insert-spec : {M : Type 1} → statement M

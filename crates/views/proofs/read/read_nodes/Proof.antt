@@ -24,7 +24,7 @@ returns c =
     let e = n .before .before .before in
     let k = e .before .before .before in
     let a = k .args in
-    λ v xs st ek. refused-units (a .image .now) (k .pre .1) v xs st (a .limit) _ _ _ _ _ (n .note-all .result) ek (e .clear .ensures) (n .note-all .ensures) (not-true _ (c .if1 .taken))
+    λ v xs st ek. refused-units (a .geometry) (a .image .now) (k .pre .1) v xs st (a .limit) _ _ _ _ _ (n .note-all .result) ek (e .clear .ensures) (n .note-all .ensures) (not-true _ (c .if1 .taken))
 
 -- src/read.rt:27:5
 all-well-requires : tie.Need-all-well-requires
@@ -38,7 +38,7 @@ returns-2 c =
     let e = n .before .before .before in
     let k = e .before .before .before in
     let a = k .args in
-    λ v xs st ek. read-table (a .image .now) (k .pre .1) v xs st (a .limit) _ _ _ _ _ (n .note-all .result) ek (e .clear .ensures) (n .note-all .ensures)
+    λ v xs st ek. read-table (a .geometry) (a .image .now) (k .pre .1) v xs st (a .limit) _ _ _ _ _ (n .note-all .result) ek (e .clear .ensures) (n .note-all .ensures)
     (not-false _ (i .if1 .left)) (k .pre .4) (c .all-well .result) (c .all-well .ensures)
 
 pub read-nodes-spec : {M : Type 1} → statement M

@@ -11,15 +11,15 @@ use Rattle.views.proofs.table.note_keys.Lts as lts
 use Rattle.views.proofs.table.note_at.Reads as note-at-reads
 
 abbrev Inv-loop : tie.InvT-loop
-Inv-loop image keys limit lens₀ slots₀ i₀ lens slots i = (i ≤ length keys) × Passing image limit keys lens₀ slots₀ i lens slots
+Inv-loop geometry image keys limit lens₀ slots₀ i₀ lens slots i = (i ≤ length keys) × Passing geometry image limit keys lens₀ slots₀ i lens slots
 
 abbrev μ-loop : tie.MeasureT-loop
-μ-loop image keys limit lens₀ slots₀ i₀ lens slots i = length keys - i
+μ-loop geometry image keys limit lens₀ slots₀ i₀ lens slots i = length keys - i
 
 loop-holds : tie.Need-loop-holds Inv-loop μ-loop
 loop-holds c =
     let a = c .before .before .args in
-    (omega arith, passing-start (a .image .now) (a .limit) (a .keys .now) (a .lens .now) (a .slots .now))
+    (omega arith, passing-start (a .geometry) (a .image .now) (a .limit) (a .keys .now) (a .lens .now) (a .slots .now))
 
 mul-place : tie.Need-mul-place Inv-loop μ-loop
 mul-place c = search needs
@@ -39,7 +39,7 @@ returns c =
     let t = n .before .before .before .before in
     let s = t .before in
     let a = s .before .before .before .args in
-    passing-stop (a .image .now) (a .limit) (a .keys .now) (a .lens .now) (a .slots .now) (s .loop .i) (s .loop .lens) (s .loop .slots)
+    passing-stop (a .geometry) (a .image .now) (a .limit) (a .keys .now) (a .lens .now) (a .slots .now) (s .loop .i) (s .loop .lens) (s .loop .slots)
     (t .loop-test .taken) (s .loop .inv .1) _ _ (n .note-at .result) (n .note-at .ensures) (not-true _ (c .if1 .taken))
 
 add-i : tie.Need-add-i Inv-loop μ-loop
@@ -55,7 +55,7 @@ loop-again c =
     let s = t .before in
     let a = s .before .before .before .args in (
       omega arith,
-      passing-next (a .image .now) (a .limit) (a .keys .now) (a .lens .now) (a .slots .now) (s .loop .i) (s .loop .lens) (s .loop .slots)
+      passing-next (a .geometry) (a .image .now) (a .limit) (a .keys .now) (a .lens .now) (a .slots .now) (s .loop .i) (s .loop .lens) (s .loop .slots)
           (t .loop-test .taken) (s .loop .inv .1) _ _ (n .note-at .result) (n .note-at .ensures) (not-false _ (c .if1 .left)),
     )
 
@@ -63,7 +63,7 @@ returns-2 : tie.Need-returns-2 Inv-loop μ-loop
 returns-2 c =
     let s = c .before in
     let a = s .before .before .before .args in
-    passing-end (a .image .now) (a .limit) (a .keys .now) (a .lens .now) (a .slots .now) (s .loop .i) (s .loop .lens) (s .loop .slots) (c .loop-test .left) (s .loop .inv .1)
+    passing-end (a .geometry) (a .image .now) (a .limit) (a .keys .now) (a .lens .now) (a .slots .now) (s .loop .i) (s .loop .lens) (s .loop .slots) (c .loop-test .left) (s .loop .inv .1)
 
 pub note-keys-spec : {M : Type 1} → statement M
 note-keys-spec =

@@ -35,9 +35,9 @@ returns : tie.Need-returns
 returns c =
     let b = c .before .before .before .buffer-view in
     let l = c .before .before .before .before .before .before .before .before in
-    let a = l .before .before .before .before .before .before .args in
+    let a = l .before .before .before .before .before .before .before .args in
     handed (b .result) _ _ _ (c .whole .result)
-    (renamed (b .result) _ _ _ _ (b .ensures) (ap (bufferView (a .limit) (a .node) (a .count) (a .buffer .now)) (l .slots-view .ensures .is))) (c .whole .ensures)
+    (renamed (b .result) _ _ _ _ (b .ensures) (ap (bufferView (a .scope .limit) (a .node) (a .scope .count) (a .buffer .now)) (l .slots-view .ensures .is))) (c .whole .ensures)
 
 pub node-view-spec : {M : Type 1} → statement M
 node-view-spec =

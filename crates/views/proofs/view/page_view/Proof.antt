@@ -41,19 +41,19 @@ returns : tie.Need-returns
 returns c =
     let u = c .before .before .before .before in
     let t = u .before .before .before .before in
-    let q = t .before in
+    let q = t .before .before in
     let k = q .before .before .before .before in
     let a = k .args in
     renamed (u .fold-units .result) _ _ _ _ (u .fold-units .ensures)
-    (page-few (a .limit) (a .node) (viewIn (a .s) (a .keys .now) (a .values .now)) (a .page .now) (q .read-half .result) (q .read-half .ensures .0) (k .pre .3) (t .if1 .taken))
+    (page-few (a .geometry) (k .pre .4) (a .limit) (a .node) (viewIn (a .s) (a .keys .now) (a .values .now)) (a .page .now) (q .read-half .result) (q .read-half .ensures .0) (k .pre .3) (t .if1 .taken))
 
 returns-2 : tie.Need-returns-2
 returns-2 c =
-    let q = c .before .before in
+    let q = c .before .before .before in
     let k = q .before .before .before .before in
     let a = k .args in
     spoilt (c .spoil .result) (a .keys .now) (a .values .now) _ (k .pre .0) (k .pre .1) (c .spoil .ensures)
-    (page-many (a .limit) (a .node) (viewIn (a .s) (a .keys .now) (a .values .now)) (a .page .now) (q .read-half .result) (q .read-half .ensures .0) (c .before .if1 .left))
+    (page-many (a .geometry) (k .pre .4) (a .limit) (a .node) (viewIn (a .s) (a .keys .now) (a .values .now)) (a .page .now) (q .read-half .result) (q .read-half .ensures .0) (c .before .if1 .left))
 
 pub page-view-spec : {M : Type 1} → statement M
 page-view-spec =

@@ -2,7 +2,6 @@ use mathlib.Core.Path.{_≡_, refl}
 use Prim.Native.Nat.{_-_, _≤_}
 use native.Mathlib.Omega.{arith}
 use lib.ListN.{length, drop}
-use Rattle.chip.specs.Geometry.{small}
 use Rattle.chip.specs.Chip.{pagesOf}
 use Rattle.views.specs.FoldCode.{viewIn}
 use Rattle.views.specs.Stored.{storedList, listView}
@@ -17,13 +16,13 @@ use Rattle.views.proofs.view.slot.Reads as slot-reads
 use Rattle.views.proofs.view.used_slots.Reads as used-slots-reads
 
 abbrev Inv-loop : tie.InvT-loop
-Inv-loop keys₀ values₀ image lens slots node limit used s₀ i₀ keys values s i =
+Inv-loop geometry keys₀ values₀ image lens slots node limit used s₀ i₀ keys values s i =
     (i ≤ used) × (length keys ≡ 17) × (length values ≡ 17) × (s .len ≤ 16)
-    × (afterPages limit (pagesOf small image) node (viewIn s keys values) (drop i (storedList lens slots node))
-    ≡ listView small limit (pagesOf small image) node (storedList lens slots node))
+    × (afterPages geometry limit (pagesOf geometry image) node (viewIn s keys values) (drop i (storedList lens slots node))
+    ≡ listView geometry limit (pagesOf geometry image) node (storedList lens slots node))
 
 abbrev μ-loop : tie.MeasureT-loop
-μ-loop keys₀ values₀ image lens slots node limit used s₀ i₀ keys values s i = used - i
+μ-loop geometry keys₀ values₀ image lens slots node limit used s₀ i₀ keys values s i = used - i
 
 used-slots-requires : tie.Need-used-slots-requires Inv-loop μ-loop
 used-slots-requires c κs = search needs
@@ -65,7 +64,7 @@ loop-again c =
       p .keys,
       p .values,
       p .room,
-      slot-next (a .lens .now) (a .slots .now) (a .node) (a .limit) (pagesOf small (a .image .now)) (l .i)
+      slot-next (a .lens .now) (a .slots .now) (a .node) (a .geometry) (a .limit) (pagesOf (a .geometry) (a .image .now)) (l .i)
           (viewIn (l .s) (l .keys) (l .values)) (omega (arith, e .0, q .before .loop-test .taken)) (l .inv .4)
           (q .slot .result) (q .slot .ensures) _ (p .is),
     )
@@ -85,7 +84,7 @@ returns c =
     let a = k .args in
     let e = u .used-slots .ensures in
     record {
-      is = slots-done (a .lens .now) (a .slots .now) (a .node) (a .limit) (pagesOf small (a .image .now)) (l .i)
+      is = slots-done (a .lens .now) (a .slots .now) (a .node) (a .geometry) (a .limit) (pagesOf (a .geometry) (a .image .now)) (l .i)
           (viewIn (l .s) (l .keys) (l .values)) (omega (arith, e .0, c .loop-test .left)) (l .inv .4);
       room = l .inv .3;
       keys = l .inv .1;

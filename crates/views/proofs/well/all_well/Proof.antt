@@ -3,7 +3,6 @@ use Prim.Native.Nat.{_≤_}
 use native.Mathlib.Omega.{arith}
 use borrow.Author.Tests.{not-true, not-false}
 use Rattle.lists.specs.Lists.{allBelow}
-use Rattle.chip.specs.Geometry.{small}
 use Rattle.chip.specs.Chip.{pagesOf}
 use Rattle.views.specs.WellCode.{allWellStored, wellStored}
 use Rattle.views.proofs.WellLaws.{below-fails, below-passes, below-none}
@@ -15,10 +14,10 @@ use Rattle.views.proofs.well.all_well.Lts as lts
 use Rattle.views.proofs.well.is_well.Reads as is-well-reads
 
 abbrev Inv-loop : tie.InvT-loop
-Inv-loop image lens slots limit n₀ n = (n ≤ limit) × (allWellStored small limit (pagesOf small image) lens slots ≡ allBelow n (wellStored small limit (pagesOf small image) lens slots))
+Inv-loop geometry image lens slots limit n₀ n = (n ≤ limit) × (allWellStored geometry limit (pagesOf geometry image) lens slots ≡ allBelow n (wellStored geometry limit (pagesOf geometry image) lens slots))
 
 abbrev μ-loop : tie.MeasureT-loop
-μ-loop image lens slots limit n₀ n = n
+μ-loop geometry image lens slots limit n₀ n = n
 
 -- src/well.rt:44:5
 loop-holds : tie.Need-loop-holds Inv-loop μ-loop
@@ -38,7 +37,7 @@ returns c =
     let i = c .before in
     let l = i .before .before .loop in
     let a = i .before .before .before .before .args in
-    let p = wellStored small (a .limit) (pagesOf small (a .image .now)) (a .lens .now) (a .slots .now) in
+    let p = wellStored (a .geometry) (a .limit) (pagesOf (a .geometry) (a .image .now)) (a .lens .now) (a .slots .now) in
     below-fails p (allBelow (a .limit) p) (l .n) (i .is-well .result) (search needs) (l .inv .1) (i .is-well .ensures) (not-true _ (c .if1 .taken))
 
 -- src/well.rt:44:5
@@ -51,7 +50,7 @@ loop-again c =
     let i = c .before in
     let l = i .before .before .loop in
     let a = i .before .before .before .before .args in
-    let p = wellStored small (a .limit) (pagesOf small (a .image .now)) (a .lens .now) (a .slots .now) in
+    let p = wellStored (a .geometry) (a .limit) (pagesOf (a .geometry) (a .image .now)) (a .lens .now) (a .slots .now) in
     (search needs, below-passes p (allBelow (a .limit) p) (l .n) (i .is-well .result) (search needs) (l .inv .1) (i .is-well .ensures) (not-false _ (c .if1 .left)))
 
 -- src/well.rt:39:1
@@ -59,7 +58,7 @@ returns-2 : tie.Need-returns-2 Inv-loop μ-loop
 returns-2 c =
     let l = c .before .loop in
     let a = c .before .before .before .args in
-    let p = wellStored small (a .limit) (pagesOf small (a .image .now)) (a .lens .now) (a .slots .now) in
+    let p = wellStored (a .geometry) (a .limit) (pagesOf (a .geometry) (a .image .now)) (a .lens .now) (a .slots .now) in
     below-none p (allBelow (a .limit) p) (l .n) (omega arith) (l .inv .1)
 
 pub all-well-spec : {M : Type 1} → statement M
