@@ -47,7 +47,7 @@ impl Both {
     /// Both formatted as they are.
     pub fn format(&mut self) -> Told {
         let told = self.library.format(&mut self.image, &TORN, ALLOWANCE);
-        let twin = self.twin.format(&mut self.twin_image, &TORN, ALLOWANCE);
+        let twin = twin::format(&mut self.twin, &mut self.twin_image, &TORN, ALLOWANCE);
         assert_eq!(told, twin, "format");
         assert_eq!(told.refusal, 0);
         assert!(self.image == self.twin_image, "the images differ after a format");

@@ -32,9 +32,9 @@ fn twin(call: &str, both: &mut Both, number: u32) {
         "insert" => assert_eq!(both.twin.insert(&both.twin_image, number, number), 0),
         "commit" => assert_eq!(both.twin.commit(&mut both.twin_image, &TORN, ALLOWANCE).refusal, 0),
         "forecast" => assert_eq!(black_box(both.twin.forecast(&both.twin_image)).refusal, 0),
-        "mount" => assert_eq!(both.twin.mount(&mut both.twin_image, &TORN, ALLOWANCE).refusal, 0),
+        "mount" => assert_eq!(twin::mount(&mut both.twin, &mut both.twin_image, &TORN, ALLOWANCE).refusal, 0),
         "block-report" => drop(black_box(twin::block_report(&both.twin, &both.twin_image, number))),
-        _ => assert_eq!(both.twin.format(&mut both.twin_image, &TORN, ALLOWANCE).refusal, 0),
+        _ => assert_eq!(twin::format(&mut both.twin, &mut both.twin_image, &TORN, ALLOWANCE).refusal, 0),
     }
 }
 

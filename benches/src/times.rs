@@ -158,7 +158,7 @@ pub fn mount(both: &mut Both, rounds: usize) -> Vec<Round> {
         let (mut library, mut twin) = (0.0, 0.0);
         for _ in 0..4 {
             library += nanos(|| assert_eq!(both.library.mount(&mut both.image, &TORN, ALLOWANCE).refusal, 0)) - clock;
-            twin += nanos(|| assert_eq!(both.twin.mount(&mut both.twin_image, &TORN, ALLOWANCE).refusal, 0)) - clock;
+            twin += nanos(|| assert_eq!(twin::mount(&mut both.twin, &mut both.twin_image, &TORN, ALLOWANCE).refusal, 0)) - clock;
         }
         assert!(both.image == both.twin_image, "the images differ after a mount");
         (library / 4.0, twin / 4.0)
@@ -174,7 +174,7 @@ pub fn format(blocks: usize, rounds: usize) -> Vec<Round> {
         let (mut library, mut twin) = (0.0, 0.0);
         for _ in 0..4 {
             library += nanos(|| assert_eq!(both.library.format(&mut both.image, &TORN, ALLOWANCE).refusal, 0)) - clock;
-            twin += nanos(|| assert_eq!(both.twin.format(&mut both.twin_image, &TORN, ALLOWANCE).refusal, 0)) - clock;
+            twin += nanos(|| assert_eq!(twin::format(&mut both.twin, &mut both.twin_image, &TORN, ALLOWANCE).refusal, 0)) - clock;
         }
         assert!(both.image == both.twin_image, "the images differ after a format");
         (library / 4.0, twin / 4.0)

@@ -1,14 +1,14 @@
 //! The bench program's lines, executed by the twin: document 01, 'Bench program'.
 
 use crate::frame::parse;
-use crate::twin::chip::{BLOCK, PAGE};
+use crate::twin::geometry::SMALL;
 use crate::twin::state::State;
 
 /// A store that starts off, on a chip of 3 blocks of 255, with torn bytes 5A.
 pub struct Bench {
     state: State,
-    image: [u8; 3 * BLOCK],
-    torn: [u8; PAGE],
+    image: [u8; 3 * SMALL.block()],
+    torn: [u8; SMALL.page()],
 }
 
 impl Default for Bench {
@@ -21,7 +21,7 @@ impl Default for Bench {
 impl Bench {
     /// The program at its start.
     pub fn new() -> Bench {
-        Bench { state: State::new(), image: [255; 3 * BLOCK], torn: [0x5A; PAGE] }
+        Bench { state: State::new(), image: [255; 3 * SMALL.block()], torn: [0x5A; SMALL.page()] }
     }
 
     /// The state.
@@ -43,7 +43,7 @@ impl Bench {
         let (kind, len, first, second) = parse(line)?;
         let (state, image, torn) = (&mut self.state, &mut self.image, &self.torn);
         let refusal = match (kind, len) {
-            (0, 2) => state.format(image, torn, u32::MAX).refusal,
+            (0, 2) => state.format(SMALL, image, torn, u32::MAX).refusal,
             (1, 18) => state.insert(image, first, second),
             (2, 10) => state.delete(image, first),
             (3, 10) => {
@@ -51,7 +51,7 @@ impl Bench {
                 return Some((look.refusal, Some(look.value)));
             }
             (4, 10) => state.commit(image, torn, first).refusal,
-            (5, 10) => state.mount(image, torn, first).refusal,
+            (5, 10) => state.mount(SMALL, image, torn, first).refusal,
             _ => return None,
         };
         Some((refusal, None))

@@ -1,5 +1,6 @@
 //! The crash test: every allowance of a commit, of a mount and of a format, with several torn slices, then a mount and look ups.
 
+use crate::model::geometry::Geometry;
 use crate::random::Random;
 use crate::scripts::torn;
 use crate::scripts::writer::Writer;
@@ -88,7 +89,7 @@ impl Case {
 
     /// A script that has formatted a chip of the case's size.
     fn begin(&self) -> Writer {
-        let mut writer = Writer::new();
+        let mut writer = Writer::new(Geometry::SMALL);
         writer.lend(self.blocks);
         writer.format(2000);
         writer

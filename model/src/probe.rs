@@ -1,8 +1,8 @@
-//! The protocol of the program `probe`, executed by the twin.
+//! The protocol of the program `probe`, executed by the twin on the small part.
 
 use crate::crc::crc32;
 use crate::frame::parse;
-use crate::twin::chip::{BLOCK, PAGE};
+use crate::twin::geometry::SMALL;
 use crate::twin::report::Report;
 use crate::twin::show::show;
 use crate::twin::state::State;
@@ -48,7 +48,13 @@ fn ranged(good: bool) -> String {
 impl Probe {
     /// The store off, on a chip of 3 blocks of 255 and with torn bytes 5A.
     pub fn new() -> Probe {
-        Probe { state: State::new(), image: vec![255; BLOCKS * BLOCK], len: 3 * BLOCK, torn: [0x5A; TORN], torn_len: PAGE }
+        Probe {
+            state: State::new(),
+            image: vec![255; BLOCKS * SMALL.block()],
+            len: 3 * SMALL.block(),
+            torn: [0x5A; TORN],
+            torn_len: SMALL.page(),
+        }
     }
 
     /// The image lent.
@@ -79,12 +85,12 @@ impl Probe {
     fn call(&mut self, kind: u32, len: usize, first: u32, second: u32) -> String {
         let (image, torn) = (&mut self.image[..self.len], &self.torn[..self.torn_len]);
         match (kind, len) {
-            (0, 10) => wrote(self.state.format(image, torn, first)),
+            (0, 10) => wrote(self.state.format(SMALL, image, torn, first)),
             (1, 18) => plain(self.state.insert(image, first, second)),
             (2, 10) => plain(self.state.delete(image, first)),
             (3, 10) => self.look_up(first),
             (4, 10) => wrote(self.state.commit(image, torn, first)),
-            (5, 10) => wrote(self.state.mount(image, torn, first)),
+            (5, 10) => wrote(self.state.mount(SMALL, image, torn, first)),
             (6, 10) => match self.state.block_report(image, first) {
                 Ok(Report { free, first, erases }) => format!("00{free:02X}{first:02X}{erases:016X}"),
                 Err(refusal) => plain(refusal),
@@ -107,7 +113,7 @@ impl Probe {
 
     /// A show: the part's bytes.
     fn show(&self, page: u32) -> String {
-        match show(self.image(), page) {
+        match show(SMALL, self.image(), page) {
             Ok((start, len)) => self.image()[start..start + len].iter().fold("00".into(), |text, b| text + &format!("{b:02X}")),
             Err(refusal) => plain(refusal),
         }
@@ -118,7 +124,7 @@ impl Probe {
         let at = first as usize;
         match (kind, len) {
             (0x10, 10) => ranged(self.lend_blocks(at)),
-            (0x11, 10) => ranged(set_length(&mut self.len, at, BLOCKS * BLOCK)),
+            (0x11, 10) => ranged(set_length(&mut self.len, at, BLOCKS * SMALL.block())),
             (0x12, 12) => ranged(set_byte(&mut self.image[..self.len], at, second)),
             (0x13, 12) => ranged(set_byte(&mut self.torn[..self.torn_len], at, second)),
             (0x14, 10) => ranged(set_length(&mut self.torn_len, at, TORN)),
@@ -134,7 +140,7 @@ impl Probe {
             return false;
         }
         self.image.fill(255);
-        self.len = blocks * BLOCK;
+        self.len = blocks * SMALL.block();
         true
     }
 
@@ -152,9 +158,9 @@ impl Probe {
     pub fn need(&self, kind: u32) -> Counts {
         let (mut state, mut image) = (self.state.clone(), self.image().to_vec());
         let told = match kind {
-            0 => state.format(&mut image, self.torn(), u32::MAX),
+            0 => state.format(SMALL, &mut image, self.torn(), u32::MAX),
             4 => state.commit(&mut image, self.torn(), u32::MAX),
-            _ => state.mount(&mut image, self.torn(), u32::MAX),
+            _ => state.mount(SMALL, &mut image, self.torn(), u32::MAX),
         };
         told.counts
     }

@@ -1,6 +1,7 @@
 //! The lines of document 01, 'What is shown of the cases', and the example of its 'Bench program'.
-use model::model::chip::{self, blocks_of, Power, BLOCK, DATA, PAGE, TORN};
+use model::model::chip::{self, Power};
 use model::model::crc::crc32;
+use model::model::geometry::Geometry;
 use model::model::image::{meaning, Meaning};
 use model::model::plain::{Answer, Call, Lengths, Plain};
 use model::model::tree::{Node, Tree};
@@ -8,6 +9,16 @@ use model::model::unit::{encode, page_data, Deed, Unit, UNIT};
 use model::random::Random;
 use std::collections::BTreeMap;
 
+/// The part of these tests.
+const SMALL: Geometry = Geometry::SMALL;
+/// Bytes of its blocks.
+const BLOCK: usize = SMALL.block();
+/// Bytes of its pages.
+const PAGE: usize = SMALL.page();
+/// Data bytes of its pages.
+const DATA: usize = SMALL.data;
+/// Bytes of its torn slices.
+const TORN: usize = SMALL.torn;
 /// Right lengths of a chip of 3 blocks.
 const LENGTHS: Lengths = Lengths { image: 3 * BLOCK, torn: TORN };
 
@@ -24,16 +35,16 @@ fn reset(node: u16, level: u32) -> [u8; UNIT] {
 /// An image of 3 blocks whose first pages are given by commit number, index, count and units.
 fn image(pages: &[(u32, u8, u8, Vec<[u8; UNIT]>)]) -> Vec<u8> {
     let mut image = vec![255; 3 * BLOCK];
-    let mut power = Power::new(u32::MAX, &[]);
+    let mut power = Power::new(SMALL, u32::MAX, &[]);
     for (place, (commit, index, count, units)) in pages.iter().enumerate() {
-        assert!(chip::write_page(&mut image, &mut power, place, &page_data(*commit, *index, *count, units)));
+        assert!(chip::write_page(&mut image, &mut power, place, &page_data(SMALL, *commit, *index, *count, units)));
     }
     image
 }
 
 /// The meaning of such an image.
 fn read(pages: &[(u32, u8, u8, Vec<[u8; UNIT]>)]) -> Result<Meaning, u32> {
-    meaning(&image(pages), 3)
+    meaning(SMALL, &image(pages), 3)
 }
 
 /// The tree of keys 1 to n, inserted in order.
@@ -59,7 +70,7 @@ fn insert_in_node_0() {
 /// The first bytes of format's page.
 #[test]
 fn formats_page() {
-    let data = page_data(1, 0, 1, &[reset(0, 0)]);
+    let data = page_data(SMALL, 1, 0, 1, &[reset(0, 0)]);
     assert_eq!(data[..9], [1, 0, 0, 0, 0, 1, 1, 0, 3]);
     assert_eq!(data.len(), DATA);
 }
@@ -91,7 +102,7 @@ fn forty_two_and_forty_three_units() {
     assert!(read(&[(1, 0, 1, units.clone())]).is_ok());
     let mut bytes = image(&[(1, 0, 1, units)]);
     bytes[6] = 43;
-    assert_eq!(meaning(&bytes, 3), Err(8));
+    assert_eq!(meaning(SMALL, &bytes, 3), Err(8));
 }
 
 /// The greatest commit with page 0 of 2 is void.
@@ -138,7 +149,7 @@ fn key_below_its_leafs_low_bound() {
 #[test]
 fn seventeenth_update_and_block_numbers() {
     let mut plain = Plain::new();
-    assert_eq!(plain.call(Call::Format(2000), LENGTHS, false, false), Answer::Accepted);
+    assert_eq!(plain.call(Call::Format(SMALL, 2000), LENGTHS, false, false), Answer::Accepted);
     for key in 0..16 {
         assert_eq!(plain.call(Call::Insert(key, 1), LENGTHS, false, false), Answer::Accepted);
     }
@@ -146,10 +157,10 @@ fn seventeenth_update_and_block_numbers() {
     assert_eq!(plain.call(Call::Delete(99), LENGTHS, false, false), Answer::Refused(3));
     for blocks in [0, 2, 33] {
         let lengths = Lengths { image: blocks * BLOCK, torn: TORN };
-        assert_eq!(plain.call(Call::Format(2000), lengths, false, false), Answer::Refused(1));
-        assert_eq!(blocks_of(blocks * BLOCK), None);
+        assert_eq!(plain.call(Call::Format(SMALL, 2000), lengths, false, false), Answer::Refused(1));
+        assert_eq!(SMALL.blocks_of(blocks * BLOCK), None);
     }
-    assert_eq!((blocks_of(3 * BLOCK), blocks_of(32 * BLOCK), blocks_of(3 * BLOCK + 1)), (Some(3), Some(32), None));
+    assert_eq!((SMALL.blocks_of(3 * BLOCK), SMALL.blocks_of(32 * BLOCK), SMALL.blocks_of(3 * BLOCK + 1)), (Some(3), Some(32), None));
 }
 
 /// The example of 'Bench program' through the plain store.
@@ -157,12 +168,12 @@ fn seventeenth_update_and_block_numbers() {
 fn bench_example() {
     let mut plain = Plain::new();
     let calls = [
-        (Call::Format(2000), false, Answer::Accepted),
+        (Call::Format(SMALL, 2000), false, Answer::Accepted),
         (Call::Insert(7, 99), false, Answer::Accepted),
         (Call::LookUp(7), false, Answer::Found(99)),
         (Call::Commit(0), true, Answer::Refused(10)),
         (Call::LookUp(7), false, Answer::Refused(2)),
-        (Call::Mount(255), false, Answer::Accepted),
+        (Call::Mount(SMALL, 255), false, Answer::Accepted),
         (Call::LookUp(7), false, Answer::Refused(4)),
     ];
     for (call, was_ten, answer) in calls {
@@ -174,7 +185,7 @@ fn bench_example() {
 #[test]
 fn a_commit_is_not_cut_with_2000_or_with_nothing_pending() {
     let mut plain = Plain::new();
-    plain.call(Call::Format(2000), LENGTHS, false, false);
+    plain.call(Call::Format(SMALL, 2000), LENGTHS, false, false);
     assert_eq!(plain.call(Call::Commit(0), LENGTHS, true, false), Answer::Accepted);
     plain.call(Call::Insert(1, 1), LENGTHS, false, false);
     assert_eq!(plain.call(Call::Commit(2000), LENGTHS, true, false), Answer::Accepted);
@@ -187,14 +198,14 @@ fn torn_operations() {
     let mut torn = [7; TORN];
     torn[DATA + 3] = 0;
     let mut image = vec![9; 3 * BLOCK];
-    chip::torn(&mut image, &chip::Operation::Erase(1), &torn);
+    chip::torn(SMALL, &mut image, &chip::Operation::Erase(1), &torn);
     assert_eq!((image[BLOCK - 1], image[BLOCK], image[BLOCK + DATA + 3], image[BLOCK + PAGE + DATA + 3]), (9, 7, 255, 255));
-    chip::torn(&mut image, &chip::Operation::Mark(0, 2), &torn);
+    chip::torn(SMALL, &mut image, &chip::Operation::Mark(0, 2), &torn);
     assert_eq!(image[DATA + 2], 7);
     torn[0] = 0;
-    chip::torn(&mut image, &chip::Operation::Erase(0), &torn);
+    chip::torn(SMALL, &mut image, &chip::Operation::Erase(0), &torn);
     assert_eq!(image[0], 9);
-    chip::torn(&mut image, &chip::Operation::Program(0, &[1; DATA]), &torn);
+    chip::torn(SMALL, &mut image, &chip::Operation::Program(0, &[1; DATA]), &torn);
     assert_eq!((image[0], image[1], image[DATA - 1], image[DATA]), (0, 7, 7, 9));
 }
 
@@ -248,19 +259,19 @@ fn random_updates_equal_a_map() {
             assert_eq!(tree.find(key), map.get(&key).copied());
         }
         assert!(map.iter().all(|(key, value)| tree.find(*key) == Some(*value)));
-        assert_eq!(meaning(&written(&tree), 32).expect("a meaning").tree, tree);
+        assert_eq!(meaning(SMALL, &written(&tree), 32).expect("a meaning").tree, tree);
     }
 }
 
 /// An image of 32 blocks with the nodes of a tree, a page each, as commits 1, 2 and so on.
 fn written(tree: &Tree) -> Vec<u8> {
     let mut image = vec![255; 32 * BLOCK];
-    let mut power = Power::new(u32::MAX, &[]);
+    let mut power = Power::new(SMALL, u32::MAX, &[]);
     for (number, node) in tree.nodes.iter().enumerate().filter_map(|(number, node)| Some((number, node.as_ref()?))) {
         let unit = |deed| encode(&Unit { node: number as u16, deed });
         let mut units = vec![unit(Deed::Reset(node.level))];
         units.extend(node.entries.iter().map(|entry| unit(Deed::Insert(entry.0, entry.1))));
-        chip::write_page(&mut image, &mut power, number, &page_data(number as u32 + 1, 0, 1, &units));
+        chip::write_page(&mut image, &mut power, number, &page_data(SMALL, number as u32 + 1, 0, 1, &units));
     }
     image
 }

@@ -6,10 +6,23 @@ mod hand;
 mod pays;
 
 use hand::{data, obsolete, reply, write, Hand};
-use model::model::chip::{Operation, DATA, PAGE, TORN, USED};
+use model::model::chip::{Operation, USED};
 use model::model::frame::Frame;
+use model::model::geometry::Geometry;
 use model::model::unit::Deed;
 
+/// The part of these tests.
+const SMALL: Geometry = Geometry::SMALL;
+/// Bytes of its blocks.
+const BLOCK: usize = SMALL.block();
+/// Bytes of its pages.
+const PAGE: usize = SMALL.page();
+/// Pages of its blocks.
+const PAGES: usize = SMALL.pages;
+/// Data bytes of its pages.
+const DATA: usize = SMALL.data;
+/// Bytes of its torn slices.
+const TORN: usize = SMALL.torn;
 /// Three zeros.
 const NONE: [u32; 3] = [0, 0, 0];
 /// An allowance that cuts nothing.

@@ -1,9 +1,13 @@
 //! The makers of images: valid ones have a meaning, damaged ones the refusal intended, and each fault occurs.
 use model::model::foreign::{damaged, damaged_by, faults, full_path, valid};
+use model::model::geometry::Geometry;
 use model::model::image::meaning;
 use model::model::tree::FULL;
 use model::random::Random;
 use std::collections::BTreeMap;
+
+/// The part of these tests.
+const SMALL: Geometry = Geometry::SMALL;
 
 /// Valid images have a meaning, all of them.
 #[test]
@@ -12,8 +16,8 @@ fn valid_images_have_a_meaning() {
     let (mut good, mut levels, mut void, mut longest) = (0, [0; 4], 0, 0);
     for round in 0..2000 {
         let blocks = if round % 20 == 0 { 3 + random.index(30) } else { 3 + random.index(4) };
-        let image = valid(&mut random, blocks);
-        match meaning(&image, blocks) {
+        let image = valid(&mut random, SMALL, blocks);
+        match meaning(SMALL, &image, blocks) {
             Ok(means) => {
                 good += 1;
                 levels[means.tree.node(0).level as usize] += 1;
@@ -34,8 +38,8 @@ fn damaged_images_give_the_refusal_intended() {
     for fault in faults() {
         for round in 0..40 {
             let blocks = if round % 20 == 0 { 32 } else { 3 + random.index(4) };
-            let made = damaged_by(&mut random, blocks, &fault).unwrap_or_else(|| panic!("{} never made", fault.name));
-            assert_eq!(meaning(&made.image, blocks).err(), Some(fault.refusal), "{} round {round}", fault.name);
+            let made = damaged_by(&mut random, SMALL, blocks, &fault).unwrap_or_else(|| panic!("{} never made", fault.name));
+            assert_eq!(meaning(SMALL, &made.image, blocks).err(), Some(fault.refusal), "{} round {round}", fault.name);
         }
     }
 }
@@ -46,8 +50,8 @@ fn each_fault_occurs() {
     let mut random = Random::new(3);
     let mut counts: BTreeMap<&str, u32> = BTreeMap::new();
     for _ in 0..4000 {
-        let made = damaged(&mut random, 3);
-        assert_eq!(meaning(&made.image, 3).err(), Some(made.refusal), "{}", made.fault);
+        let made = damaged(&mut random, SMALL, 3);
+        assert_eq!(meaning(SMALL, &made.image, 3).err(), Some(made.refusal), "{}", made.fault);
         *counts.entry(made.fault).or_default() += 1;
     }
     println!("{counts:#?}");
@@ -63,8 +67,8 @@ fn full_paths_meet_both_grounds_of_refusal_5() {
     let (mut fits, mut numbers, mut top) = (0, 0, 0);
     for round in 0..600 {
         let blocks = [3, 6, 12, 16][round % 4];
-        let (image, key) = full_path(&mut random, blocks);
-        let mut tree = meaning(&image, blocks).expect("a meaning").tree;
+        let (image, key) = full_path(&mut random, SMALL, blocks);
+        let mut tree = meaning(SMALL, &image, blocks).expect("a meaning").tree;
         let path = tree.path(key);
         let full = path.iter().all(|number| tree.node(*number).entries.len() == FULL);
         let left = tree.nodes.iter().rev().take_while(|node| node.is_none()).count();

@@ -2,16 +2,26 @@
 mod lists;
 mod tiny;
 
-use model::model::chip::{BLOCK, PAGE};
 use model::model::counts::Counts;
 use model::model::foreign;
 use model::model::frame::{line, Frame};
+use model::model::geometry::Geometry;
 use model::model::judge::Judge;
 use model::random::Random;
 use std::collections::BTreeMap;
 use std::time::{Duration, Instant};
 use tiny::{Bug, Tiny};
 
+/// The part of these tests.
+const SMALL: Geometry = Geometry::SMALL;
+/// Bytes of its blocks.
+const BLOCK: usize = SMALL.block();
+/// Bytes of its pages.
+const PAGE: usize = SMALL.page();
+/// Pages of its blocks.
+const PAGES: usize = SMALL.pages;
+/// Data bytes of its pages.
+const DATA: usize = SMALL.data;
 /// Format of 3 blocks finished: a data program, 2 marks set, 3 erases.
 const FORMATTED: &str = "00000000010000000200000003";
 /// Finished without an operation.
@@ -33,7 +43,7 @@ struct Run {
 impl Run {
     /// A run from the probe's start.
     fn new(bug: Bug) -> Run {
-        Run { tiny: Tiny::new(bug), judge: Judge::new(), lines: 0, spent: BTreeMap::new() }
+        Run { tiny: Tiny::new(SMALL, bug), judge: Judge::new(), lines: 0, spent: BTreeMap::new() }
     }
 
     /// One line of bytes.
@@ -243,9 +253,9 @@ fn each_fault_is_seen() {
 fn foreign_image(random: &mut Random, round: usize) -> (Vec<u8>, u32) {
     let blocks = if round % 30 == 29 { 32 } else { 3 + random.index(4) };
     match round % 3 {
-        0 => (foreign::damaged(random, blocks).image, 7),
-        1 => (foreign::valid(random, blocks), 7),
-        _ => foreign::full_path(random, blocks),
+        0 => (foreign::damaged(random, SMALL, blocks).image, 7),
+        1 => (foreign::valid(random, SMALL, blocks), 7),
+        _ => foreign::full_path(random, SMALL, blocks),
     }
 }
 

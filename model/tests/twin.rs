@@ -3,7 +3,8 @@ mod filled;
 
 use filled::{formatted, update, TORN};
 use model::random::Random;
-use model::twin::chip::{is_live, BLOCK, PAGE};
+use model::twin::chip::is_live;
+use model::twin::geometry::SMALL;
 use model::twin::state::State;
 use model::twin::told::{Counts, Kind, Told};
 use model::twin::unit::word;
@@ -29,7 +30,7 @@ fn cut_everywhere(kinds: &[Kind], call: impl Fn(u32) -> Told) {
 
 /// The pages of a commit number on an image.
 fn pages_of(image: &[u8], commit: u32) -> u32 {
-    image.chunks_exact(PAGE).filter(|page| is_live(page) && word(page, 0) == commit).count() as u32
+    image.chunks_exact(SMALL.page()).filter(|page| is_live(SMALL, page) && word(page, 0) == commit).count() as u32
 }
 
 /// A format erases all blocks and writes one page.
@@ -37,7 +38,7 @@ fn pages_of(image: &[u8], commit: u32) -> u32 {
 fn formats() {
     for blocks in [3, 8, 32] {
         let (state, image) = formatted(blocks);
-        cut_everywhere(&kinds(blocks as u32, 1), |allowance| state.clone().format(&mut image.clone(), &TORN, allowance));
+        cut_everywhere(&kinds(blocks as u32, 1), |allowance| state.clone().format(SMALL, &mut image.clone(), &TORN, allowance));
     }
 }
 
@@ -48,7 +49,7 @@ fn commit_and_mount(state: &State, image: &[u8], counts: Counts) {
     let mut torn = image.to_vec();
     commit(&mut torn, counts.total() - 1);
     let voids = vec![Kind::Mark; counts.programs as usize - 1];
-    cut_everywhere(&voids, |allowance| State::new().mount(&mut torn.clone(), &TORN, allowance));
+    cut_everywhere(&voids, |allowance| State::new().mount(SMALL, &mut torn.clone(), &TORN, allowance));
 }
 
 /// Commits of random updates, some of which erase a block and some of which have several pages, and mounts after them.
@@ -80,10 +81,10 @@ fn quiet_calls() {
     let (mut state, mut image) = formatted(3);
     assert_eq!(state.commit(&mut image, &TORN, 2000), Told::quiet(0));
     assert_eq!(state.commit(&mut image[1..], &TORN, 2000), Told::quiet(1));
-    assert_eq!(state.mount(&mut image[1..], &TORN, 255), Told::quiet(1));
-    assert_eq!(state.format(&mut image, &TORN[1..], 2000), Told::quiet(1));
+    assert_eq!(state.mount(SMALL, &mut image[1..], &TORN, 255), Told::quiet(1));
+    assert_eq!(state.format(SMALL, &mut image, &TORN[1..], 2000), Told::quiet(1));
     image[0] = 0;
-    assert_eq!(state.mount(&mut image, &TORN, 255), Told::quiet(8));
+    assert_eq!(state.mount(SMALL, &mut image, &TORN, 255), Told::quiet(8));
     assert_eq!(state.commit(&mut image, &TORN, 2000), Told::quiet(2));
-    assert_eq!(State::new().mount(&mut [255; 3 * BLOCK], &TORN, 255), Told::quiet(7));
+    assert_eq!(State::new().mount(SMALL, &mut [255; 3 * SMALL.block()], &TORN, 255), Told::quiet(7));
 }

@@ -4,7 +4,7 @@ mod filled;
 use filled::{formatted, update, TORN};
 use model::probe::Probe;
 use model::random::Random;
-use model::twin::chip::BLOCK;
+use model::twin::geometry::SMALL;
 use model::twin::state::State;
 use model::twin::told::Told;
 
@@ -13,7 +13,7 @@ const NONE: [u64; 32] = [0; 32];
 
 /// Whether a block was erased between two images: only an erase sets a bit.
 fn was_erased(before: &[u8], after: &[u8], block: usize) -> bool {
-    let bytes = block * BLOCK..(block + 1) * BLOCK;
+    let bytes = block * SMALL.block()..(block + 1) * SMALL.block();
     before[bytes.clone()].iter().zip(&after[bytes]).any(|(x, y)| y & !x != 0)
 }
 
@@ -81,11 +81,11 @@ fn mounts_and_formats() {
     let mut worn = Worn::new(3);
     for _ in 0..3 {
         worn.wear(&mut random, 2);
-        assert_eq!(worn.state.mount(&mut worn.image, &TORN, 255).refusal, 0);
+        assert_eq!(worn.state.mount(SMALL, &mut worn.image, &TORN, 255).refusal, 0);
         worn.shown = NONE;
         assert_eq!(worn.state.erases, NONE);
         worn.wear(&mut random, 1);
-        assert_eq!(worn.state.format(&mut worn.image, &TORN, 2000).counts.erases, 3);
+        assert_eq!(worn.state.format(SMALL, &mut worn.image, &TORN, 2000).counts.erases, 3);
         worn.shown = NONE;
         worn.reported();
         assert_eq!(worn.state.erases, NONE);
@@ -112,7 +112,7 @@ fn cut_commits() {
         assert_eq!(state.commit(&mut image, &TORN, allowance).refusal, 10);
         assert_eq!(state.erases, shown);
         assert_eq!(state.block_report(&image, 0), Err(2));
-        assert_eq!(state.mount(&mut image, &TORN, 255).refusal, 0);
+        assert_eq!(state.mount(SMALL, &mut image, &TORN, 255).refusal, 0);
         assert_eq!(state.erases, NONE);
     }
 }
@@ -124,7 +124,7 @@ fn cut_mounts_and_formats() {
     let mut worn = Worn::new(3);
     worn.wear(&mut random, 1);
     let Worn { mut state, mut image, shown } = worn.clone();
-    assert_eq!(state.format(&mut image, &TORN, 2).refusal, 10);
+    assert_eq!(state.format(SMALL, &mut image, &TORN, 2).refusal, 10);
     assert_eq!((state.on, state.erases), (false, shown));
     while worn.state.clone().commit(&mut worn.image.clone(), &TORN, u32::MAX).counts.programs < 2 {
         worn.round(&mut random, 300);
@@ -133,7 +133,7 @@ fn cut_mounts_and_formats() {
     let Worn { mut state, mut image, shown } = worn.clone();
     let need = state.clone().commit(&mut image.clone(), &TORN, u32::MAX).counts.total();
     assert_eq!(state.commit(&mut image, &TORN, need - 1).refusal, 10);
-    assert_eq!(state.mount(&mut image, &TORN, 0).refusal, 10);
+    assert_eq!(state.mount(SMALL, &mut image, &TORN, 0).refusal, 10);
     assert_eq!((state.on, state.erases), (false, shown));
 }
 
@@ -145,8 +145,8 @@ fn quiet_calls() {
     let Worn { mut state, mut image, shown } = worn;
     assert_eq!(state.commit(&mut image, &TORN, 2000), Told::quiet(0));
     assert_eq!(state.commit(&mut image[1..], &TORN, 2000), Told::quiet(1));
-    assert_eq!(state.mount(&mut image, &TORN[1..], 255), Told::quiet(1));
-    assert_eq!(state.format(&mut image[1..], &TORN, 2000), Told::quiet(1));
+    assert_eq!(state.mount(SMALL, &mut image, &TORN[1..], 255), Told::quiet(1));
+    assert_eq!(state.format(SMALL, &mut image[1..], &TORN, 2000), Told::quiet(1));
     assert_eq!(state.insert(&image, 0, 1), 0);
     assert_eq!(state.delete(&image, 0), 0);
     assert_eq!(state.insert(&image[1..], 0, 1), 1);
@@ -155,7 +155,7 @@ fn quiet_calls() {
     assert_eq!(state.commit(&mut image, &TORN, 2000), Told::quiet(6));
     assert_eq!((state.on, state.erases), (true, shown));
     image.fill(255);
-    assert_eq!(state.mount(&mut image, &TORN, 255), Told::quiet(7));
+    assert_eq!(state.mount(SMALL, &mut image, &TORN, 255), Told::quiet(7));
     assert_eq!((state.on, state.erases), (false, shown));
 }
 

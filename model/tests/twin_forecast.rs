@@ -5,7 +5,8 @@ use filled::{formatted, update, TORN};
 use model::bench::Bench;
 use model::probe::Probe;
 use model::random::Random;
-use model::twin::chip::{is_blank, BLOCK, PAGE};
+use model::twin::chip::is_blank;
+use model::twin::geometry::SMALL;
 use model::twin::state::{State, BUFFER};
 use model::twin::told::{Counts, Told};
 
@@ -58,7 +59,7 @@ impl List {
             let told = self.state.commit(&mut self.image, torn, allowance);
             assert_eq!((told.refusal, told.counts.total()), (10, allowance));
             assert_eq!(self.state.forecast(&self.image), Told::quiet(2));
-            assert_eq!(self.state.mount(&mut self.image, &TORN, 255).refusal, 0);
+            assert_eq!(self.state.mount(SMALL, &mut self.image, &TORN, 255).refusal, 0);
         }
     }
 
@@ -67,10 +68,10 @@ impl List {
         update(random, &mut self.state, &self.image, range);
         match random.below(40) {
             0..=3 => self.cut(random, &TORN),
-            4 => self.cut(random, &[0; PAGE]),
-            5 => self.cut(random, &[255; PAGE]),
-            6 | 7 => assert_eq!(self.state.mount(&mut self.image, &TORN, 255).refusal, 0),
-            8 if random.once_in(12) => assert_eq!(self.state.format(&mut self.image, &TORN, 2000).refusal, 0),
+            4 => self.cut(random, &[0; SMALL.page()]),
+            5 => self.cut(random, &[255; SMALL.page()]),
+            6 | 7 => assert_eq!(self.state.mount(SMALL, &mut self.image, &TORN, 255).refusal, 0),
+            8 if random.once_in(12) => assert_eq!(self.state.format(SMALL, &mut self.image, &TORN, 2000).refusal, 0),
             _ => self.commit(),
         }
         if random.once_in(9) {
@@ -127,7 +128,17 @@ fn pending() -> (State, Vec<u8>) {
 #[test]
 fn refusals() {
     let (state, image) = pending();
-    for len in [0, 1, PAGE, 2 * BLOCK, 3 * BLOCK - 1, 3 * BLOCK + 1, 4 * BLOCK, 32 * BLOCK, 33 * BLOCK] {
+    for len in [
+        0,
+        1,
+        SMALL.page(),
+        2 * SMALL.block(),
+        3 * SMALL.block() - 1,
+        3 * SMALL.block() + 1,
+        4 * SMALL.block(),
+        32 * SMALL.block(),
+        33 * SMALL.block(),
+    ] {
         let lent = vec![255; len];
         assert_eq!(foretold(&State::new(), &lent), Told::quiet(2));
         assert_eq!(foretold(&state, &lent), Told::quiet(1));
@@ -169,7 +180,7 @@ fn stuck() {
         state.lens[block] = 1;
         state.slots[4 * block] = 32 * block as u32;
     }
-    image[..BLOCK].iter_mut().for_each(|byte| *byte &= 254);
+    image[..SMALL.block()].iter_mut().for_each(|byte| *byte &= 254);
     assert_eq!(foretold(&state, &image), Told::quiet(6));
 }
 
@@ -182,9 +193,9 @@ fn changed_images() {
     for _ in 0..600 {
         update(&mut random, &mut state, &image, 200);
         let mut changed = image.clone();
-        let end = [1, 20, BLOCK, 3 * BLOCK][random.index(4)];
+        let end = [1, 20, SMALL.block(), 3 * SMALL.block()][random.index(4)];
         for byte in 0..end {
-            let at = if end < BLOCK { random.index(image.len()) } else { byte };
+            let at = if end < SMALL.block() { random.index(image.len()) } else { byte };
             changed[at] = [0, 255, random.byte()][random.index(3)];
         }
         let told = foretold(&state, &changed);
@@ -217,7 +228,7 @@ fn snapshot() {
         state.slots[4 * n + state.lens[n] as usize] = 32 * block;
         state.lens[n] += 1;
     }
-    image.chunks_exact_mut(PAGE).filter(|page| is_blank(page)).for_each(|page| page[0] = 0);
+    image.chunks_exact_mut(SMALL.page()).filter(|page| is_blank(page)).for_each(|page| page[0] = 0);
     let told = foretold(&state, &image);
     println!("{told:?}");
     assert!(told.refusal == 0 && told.counts.programs > 32 && told.counts.erases > 1);

@@ -1,11 +1,15 @@
 //! The twin held by the judge in long lists that note 8 of document 02 is about: no cut, no format, all blocks reported after each commit.
-use model::model::chip::{self, BLOCK, PAGES};
+use model::model::chip;
 use model::model::erases;
 use model::model::frame::{hexadecimal, line, Frame};
+use model::model::geometry::Geometry;
 use model::model::judge::Judge;
 use model::probe::Probe;
 use model::random::Random;
 use model::{runner, scripts};
+
+/// The part of these tests.
+const SMALL: Geometry = Geometry::SMALL;
 
 /// Which keys a list uses.
 #[derive(Clone, Copy, Debug)]
@@ -83,7 +87,7 @@ impl List {
         }
         self.commits += (self.judge.store().pending > 0) as u64;
         let reply = self.frame(Frame::Commit(2000));
-        let free = (0..self.blocks * PAGES).any(|place| chip::free(chip::page(self.twin.image(), place)));
+        let free = (0..self.blocks * SMALL.pages).any(|place| chip::free(chip::page(SMALL, self.twin.image(), place)));
         assert!(free || hexadecimal(&reply.as_bytes()[18..]) == Some(0));
         self.reports();
         match random.below(12) {
@@ -99,11 +103,11 @@ impl List {
 
     /// Calls that are refused since another length is lent.
     fn refused(&mut self) {
-        self.frame(Frame::Length((self.blocks * BLOCK) as u32 - 1));
+        self.frame(Frame::Length((self.blocks * SMALL.block()) as u32 - 1));
         for frame in [Frame::Insert(1, 1), Frame::Commit(2000), Frame::Mount(255), Frame::Format(2000)] {
             assert!(self.frame(frame).starts_with("01"));
         }
-        self.frame(Frame::Length((self.blocks * BLOCK) as u32));
+        self.frame(Frame::Length((self.blocks * SMALL.block()) as u32));
     }
 }
 
@@ -142,7 +146,7 @@ fn thirty_two_blocks() {
 #[test]
 fn scripts() {
     for seed in 0..6 {
-        let script = scripts::pays::make(&mut Random::new(seed));
+        let script = scripts::pays::make(&mut Random::new(seed), SMALL);
         let replies = runner::probe_replies(&script);
         runner::judge(&script, &replies).unwrap();
         let commits = script.iter().zip(&replies).filter(|(line, _)| line.starts_with(b"04"));

@@ -1,16 +1,7 @@
-//! The chip of document 01, 'Chip and power': geometry, the three flash operations and their torn effects.
+//! The chip of document 01, 'Chip and power', of a geometry: pages, marks, the three flash operations and their torn effects.
 use super::counts::{Counts, Kind};
+use super::geometry::Geometry;
 
-/// Data bytes of a page.
-pub const DATA: usize = 512;
-/// Bytes of a page: data, then 16 spare.
-pub const PAGE: usize = 528;
-/// Pages of a block.
-pub const PAGES: usize = 32;
-/// Bytes of a block.
-pub const BLOCK: usize = PAGES * PAGE;
-/// Bytes of a torn slice.
-pub const TORN: usize = 528;
 /// Spare byte of the used mark.
 pub const USED: usize = 0;
 /// Spare byte of the valid mark.
@@ -18,32 +9,45 @@ pub const VALID: usize = 1;
 /// Spare byte of the obsolete mark.
 pub const OBSOLETE: usize = 2;
 
-/// The number of blocks of an image length, when it is B blocks for a B from 3 to 32.
-pub fn blocks_of(length: usize) -> Option<usize> {
-    let blocks = length / BLOCK;
-    (length.is_multiple_of(BLOCK) && (3..=32).contains(&blocks)).then_some(blocks)
+/// Bytes of 255, as many as the longest page has.
+static BLANK: [u8; Geometry::LARGE.page()] = [255; Geometry::LARGE.page()];
+
+/// As many bytes of 255 as asked for, at most those of a page.
+pub fn blank(length: usize) -> &'static [u8] {
+    &BLANK[..length]
 }
 
-/// The 528 bytes of the page at a place, counted from 0 through the whole chip.
-pub fn page(image: &[u8], place: usize) -> &[u8] {
-    &image[place * PAGE..(place + 1) * PAGE]
+/// The bytes of the page at a place, counted from 0 through the whole chip.
+pub fn page(geometry: Geometry, image: &[u8], place: usize) -> &[u8] {
+    &image[place * geometry.page()..(place + 1) * geometry.page()]
+}
+
+/// The data area of the page at a place, to be changed.
+fn data_mut(geometry: Geometry, image: &mut [u8], place: usize) -> &mut [u8] {
+    &mut image[place * geometry.page()..][..geometry.data]
+}
+
+/// The bytes of a block, to be changed.
+fn block_mut(geometry: Geometry, image: &mut [u8], block: usize) -> &mut [u8] {
+    &mut image[block * geometry.block()..(block + 1) * geometry.block()]
 }
 
 /// A mark of a page: 0 means set.
-pub fn mark(page: &[u8], which: usize) -> u8 {
-    page[DATA + which]
+pub fn mark(geometry: Geometry, page: &[u8], which: usize) -> u8 {
+    page[geometry.data + which]
 }
 
 /// A page is free when all its bytes are 255.
 pub fn free(page: &[u8]) -> bool {
-    *page == [255; PAGE]
+    page == blank(page.len())
 }
 
-/// The free pages of a block: how many, and the first counted from 0, 32 if none.
-pub fn free_pages(image: &[u8], block: usize) -> (usize, usize) {
-    let pages: Vec<bool> = (0..PAGES).map(|i| free(page(image, block * PAGES + i))).collect();
+/// The free pages of a block: how many, and the first counted from 0, the number of pages of a block if none.
+pub fn free_pages(geometry: Geometry, image: &[u8], block: usize) -> (usize, usize) {
+    let first = block * geometry.pages;
+    let pages: Vec<bool> = (0..geometry.pages).map(|i| free(page(geometry, image, first + i))).collect();
     let count = pages.iter().filter(|is| **is).count();
-    (count, pages.iter().position(|is| *is).unwrap_or(PAGES))
+    (count, pages.iter().position(|is| *is).unwrap_or(geometry.pages))
 }
 
 /// A flash operation on the chip.
@@ -68,23 +72,23 @@ impl Operation<'_> {
 }
 
 /// The whole effect of an operation.
-pub fn done(image: &mut [u8], operation: &Operation) {
+pub fn done(geometry: Geometry, image: &mut [u8], operation: &Operation) {
     match operation {
-        Operation::Program(place, data) => image[place * PAGE..place * PAGE + DATA].copy_from_slice(data),
-        Operation::Mark(place, which) => image[place * PAGE + DATA + which] = 0,
-        Operation::Erase(block) => image[block * BLOCK..(block + 1) * BLOCK].fill(255),
+        Operation::Program(place, data) => data_mut(geometry, image, *place).copy_from_slice(data),
+        Operation::Mark(place, which) => image[place * geometry.page() + geometry.data + which] = 0,
+        Operation::Erase(block) => block_mut(geometry, image, *block).fill(255),
     }
 }
 
 /// The effect of a torn operation.
-pub fn torn(image: &mut [u8], operation: &Operation, torn: &[u8]) {
+pub fn torn(geometry: Geometry, image: &mut [u8], operation: &Operation, torn: &[u8]) {
     match operation {
-        Operation::Program(place, _) => image[place * PAGE..place * PAGE + DATA].copy_from_slice(&torn[..DATA]),
-        Operation::Mark(place, which) => image[place * PAGE + DATA + which] = torn[0],
+        Operation::Program(place, _) => data_mut(geometry, image, *place).copy_from_slice(&torn[..geometry.data]),
+        Operation::Mark(place, which) => image[place * geometry.page() + geometry.data + which] = torn[0],
         Operation::Erase(_) if torn[0] == 0 => {}
         Operation::Erase(block) => {
-            let page = torn_page(torn);
-            for part in image[block * BLOCK..(block + 1) * BLOCK].chunks_mut(PAGE) {
+            let page = torn_page(geometry, torn);
+            for part in block_mut(geometry, image, *block).chunks_mut(geometry.page()) {
                 part.copy_from_slice(&page);
             }
         }
@@ -92,17 +96,17 @@ pub fn torn(image: &mut [u8], operation: &Operation, torn: &[u8]) {
 }
 
 /// A page of a block after a torn erase: the torn bytes, 255 in place of each 0 in the spare part.
-pub fn torn_page(torn: &[u8]) -> [u8; PAGE] {
-    let mut page = [0; PAGE];
-    page.copy_from_slice(&torn[..PAGE]);
-    for byte in page[DATA..].iter_mut().filter(|byte| **byte == 0) {
+pub fn torn_page(geometry: Geometry, torn: &[u8]) -> Vec<u8> {
+    let mut page = torn[..geometry.page()].to_vec();
+    for byte in page[geometry.data..].iter_mut().filter(|byte| **byte == 0) {
         *byte = 255;
     }
     page
 }
 
-/// The power of one call: an allowance of whole operations, then a torn one, then none.
+/// The power of one call on a chip of a geometry: an allowance of whole operations, then a torn one, then none.
 pub struct Power<'a> {
+    geometry: Geometry,
     allowance: u32,
     torn: &'a [u8],
     done: Counts,
@@ -111,8 +115,8 @@ pub struct Power<'a> {
 
 impl<'a> Power<'a> {
     /// The power at a call's start.
-    pub fn new(allowance: u32, torn: &'a [u8]) -> Power<'a> {
-        Power { allowance, torn, done: Counts::NONE, gone: false }
+    pub fn new(geometry: Geometry, allowance: u32, torn: &'a [u8]) -> Power<'a> {
+        Power { geometry, allowance, torn, done: Counts::NONE, gone: false }
     }
 
     /// Does an operation as far as the power goes; tells whether it was done whole.
@@ -122,11 +126,11 @@ impl<'a> Power<'a> {
         }
         if self.done.sum() == self.allowance as u64 {
             self.gone = true;
-            torn(image, operation, self.torn);
+            torn(self.geometry, image, operation, self.torn);
             return false;
         }
         self.done = self.done.and(Counts::one(operation.kind()));
-        done(image, operation);
+        done(self.geometry, image, operation);
         true
     }
 

@@ -7,6 +7,7 @@ mod grow;
 mod history;
 mod steep;
 
+use crate::model::geometry::Geometry;
 use crate::model::tree::Tree;
 use crate::random::Random;
 use draft::Draft;
@@ -32,30 +33,35 @@ pub struct Damaged {
 }
 
 /// An image that obeys the layout and is no product of a store's commits.
-pub fn valid(random: &mut Random, blocks: usize) -> Vec<u8> {
+pub fn valid(random: &mut Random, geometry: Geometry, blocks: usize) -> Vec<u8> {
+    valid_of(random, geometry, blocks).0
+}
+
+/// A valid image, and the tree that it was built to mean.
+pub fn valid_of(random: &mut Random, geometry: Geometry, blocks: usize) -> (Vec<u8>, Tree) {
     let tree = grow::tree(random, blocks);
-    history::draft(random, blocks, &tree).render()
+    (history::draft(random, geometry, blocks, &tree).render(), tree)
 }
 
 /// A valid image whose tree is full, or almost, on the path of a key that it does not have, and that key.
-pub fn full_path(random: &mut Random, blocks: usize) -> (Vec<u8>, u32) {
+pub fn full_path(random: &mut Random, geometry: Geometry, blocks: usize) -> (Vec<u8>, u32) {
     let (tree, key) = steep::tree(random, blocks);
-    (history::draft(random, blocks, &tree).render(), key)
+    (history::draft(random, geometry, blocks, &tree).render(), key)
 }
 
 /// A valid image with one fault, drawn from all.
-pub fn damaged(random: &mut Random, blocks: usize) -> Damaged {
+pub fn damaged(random: &mut Random, geometry: Geometry, blocks: usize) -> Damaged {
     let faults = faults();
     loop {
         let at = random.index(faults.len());
-        if let Some(damaged) = damaged_by(random, blocks, &faults[at]) {
+        if let Some(damaged) = damaged_by(random, geometry, blocks, &faults[at]) {
             return damaged;
         }
     }
 }
 
 /// A valid image with one given fault; none when many valid images gave no occasion for it.
-pub fn damaged_by(random: &mut Random, blocks: usize, fault: &Fault) -> Option<Damaged> {
+pub fn damaged_by(random: &mut Random, geometry: Geometry, blocks: usize, fault: &Fault) -> Option<Damaged> {
     for _ in 0..400 {
         let mut tree = grow::tree(random, blocks);
         if let Make::Tree(make) = fault.make {
@@ -63,7 +69,7 @@ pub fn damaged_by(random: &mut Random, blocks: usize, fault: &Fault) -> Option<D
                 continue;
             }
         }
-        let mut draft = history::draft(random, blocks, &tree);
+        let mut draft = history::draft(random, geometry, blocks, &tree);
         if let Make::Pages(make) = fault.make {
             if !make(&mut draft, random) {
                 continue;

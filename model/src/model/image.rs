@@ -1,7 +1,8 @@
 //! What an image means: steps 1 to 6 of document 01, sentence by sentence.
-use super::chip::{self, DATA, OBSOLETE, PAGES, VALID};
+use super::chip::{self, OBSOLETE, VALID};
+use super::geometry::Geometry;
 use super::tree::{Node, Tree, FULL};
-use super::unit::{self, Deed, HEAD, ROOM, UNIT};
+use super::unit::{self, Deed, HEAD, UNIT};
 
 /// Refusal of steps 1 and 3: no page to read from.
 pub const NOTHING: u32 = 7;
@@ -35,16 +36,16 @@ pub struct Head {
     pub place: usize,
 }
 
-/// The meaning of an image of a number of blocks, or the refusal 7, 8 or 9.
-pub fn meaning(image: &[u8], blocks: usize) -> Result<Meaning, u32> {
-    let live = live_places(image, blocks);
+/// The meaning of an image of a number of blocks of a geometry, or the refusal 7, 8 or 9.
+pub fn meaning(geometry: Geometry, image: &[u8], blocks: usize) -> Result<Meaning, u32> {
+    let live = live_places(geometry, image, blocks);
     if live.is_empty() {
         return Err(NOTHING);
     }
-    let mut heads = step_two(image, &live)?;
+    let mut heads = step_two(geometry, image, &live)?;
     heads.sort_by_key(|head| (head.commit, head.index));
     let (standing, void) = step_three(&heads)?;
-    let views = step_four(image, standing, 8 * blocks)?;
+    let views = step_four(geometry, image, standing, 8 * blocks)?;
     if views.iter().any(|view| view.list.len() > LIST) {
         return Err(BROKEN);
     }
@@ -58,31 +59,32 @@ pub fn meaning(image: &[u8], blocks: usize) -> Result<Meaning, u32> {
 }
 
 /// A page is live when its valid mark is set and its obsolete mark is not.
-pub fn live(page: &[u8]) -> bool {
-    chip::mark(page, VALID) == 0 && chip::mark(page, OBSOLETE) != 0
+pub fn live(geometry: Geometry, page: &[u8]) -> bool {
+    chip::mark(geometry, page, VALID) == 0 && chip::mark(geometry, page, OBSOLETE) != 0
 }
 
 /// The places of the live pages.
-fn live_places(image: &[u8], blocks: usize) -> Vec<usize> {
-    (0..blocks * PAGES).filter(|place| live(chip::page(image, *place))).collect()
+fn live_places(geometry: Geometry, image: &[u8], blocks: usize) -> Vec<usize> {
+    (0..blocks * geometry.pages).filter(|place| live(geometry, chip::page(geometry, image, *place))).collect()
 }
 
-/// A page's own rules in step 2: commit number 1 or more, count 1 or more, index below count, 1 to 42 units, 255 after.
-pub fn own_rules(page: &[u8], place: usize) -> Option<Head> {
+/// A page's own rules in step 2: commit number 1 or more, count 1 or more, index below count, from 1 unit to the room of a
+/// page, 255 after.
+pub fn own_rules(geometry: Geometry, page: &[u8], place: usize) -> Option<Head> {
     let (commit, index, count) = (unit::number(page, 0), page[4], page[5]);
     let units = unit::half(page, 6) as usize;
-    if commit == 0 || count == 0 || index >= count || units == 0 || units > ROOM {
+    if commit == 0 || count == 0 || index >= count || units == 0 || units > geometry.room {
         return None;
     }
-    let rest = &page[HEAD + units * UNIT..DATA];
-    (*rest == [255; DATA][..rest.len()]).then_some(Head { commit, index, count, units, place })
+    let rest = &page[HEAD + units * UNIT..geometry.data];
+    (rest == chip::blank(rest.len())).then_some(Head { commit, index, count, units, place })
 }
 
 /// Step 2: each live page passes its own rules; pages of equal commit number have equal counts and different indexes.
-fn step_two(image: &[u8], live: &[usize]) -> Result<Vec<Head>, u32> {
+fn step_two(geometry: Geometry, image: &[u8], live: &[usize]) -> Result<Vec<Head>, u32> {
     let mut heads = Vec::with_capacity(live.len());
     for place in live {
-        heads.push(own_rules(chip::page(image, *place), *place).ok_or(BROKEN)?);
+        heads.push(own_rules(geometry, chip::page(geometry, image, *place), *place).ok_or(BROKEN)?);
     }
     let mut sorted: Vec<&Head> = heads.iter().collect();
     sorted.sort_by_key(|head| (head.commit, head.index));
@@ -157,10 +159,10 @@ impl View {
 }
 
 /// Step 4: the views of all node numbers below the limit, from the units of standing pages in order.
-fn step_four(image: &[u8], standing: &[Head], limit: usize) -> Result<Vec<View>, u32> {
+fn step_four(geometry: Geometry, image: &[u8], standing: &[Head], limit: usize) -> Result<Vec<View>, u32> {
     let mut views = vec![View::default(); limit];
     for head in standing {
-        let page = chip::page(image, head.place);
+        let page = chip::page(geometry, image, head.place);
         for bytes in page[HEAD..HEAD + head.units * UNIT].chunks_exact(UNIT) {
             let unit = unit::decode(bytes, limit).ok_or(BROKEN)?;
             views[unit.node as usize].take(unit.deed, head.place);

@@ -7,20 +7,21 @@ mod lend;
 mod ways;
 mod writes;
 
-use super::chip::{self, BLOCK, TORN};
 use super::counts::Counts;
 use super::erases::Erases;
 use super::frame::{self, Frame};
+use super::geometry::Geometry;
 use super::image::{self, Meaning};
 use super::pays::Pays;
 use super::plain::{Call, Lengths, Plain};
 use forecast::Forecasts;
 use std::rc::Rc;
+pub use writes::{format, spend};
 
-/// Bytes of the probe's image buffer.
-const BUFFER: usize = 40 * BLOCK;
-/// Torn bytes of the probe.
-const TORN_BUFFER: usize = 600;
+/// Blocks of the probe's image buffer.
+const BUFFER: usize = 40;
+/// Torn bytes of the probe above the right number.
+const TORN_MORE: usize = 72;
 /// Image bytes compared after a line that writes nothing.
 const GLANCE: usize = 4096;
 /// Image bytes compared after an update.
@@ -36,6 +37,8 @@ pub struct Judge {
     lent: usize,
     torn: Vec<u8>,
     torn_lent: usize,
+    /// The geometry that format, mount and show name.
+    named: Geometry,
     plain: Plain,
     /// The meaning of the image that the state goes with.
     ground: Shared,
@@ -53,8 +56,8 @@ pub struct Judge {
     left: Option<Vec<u8>>,
     /// Whether the image differs from the one left, once compared.
     differs: Option<bool>,
-    /// The meaning of the image lent, once read.
-    meaning: Option<Shared>,
+    /// The meaning of the image lent, once read, and the geometry it was read with.
+    meaning: Option<(Geometry, Shared)>,
     /// The CRC-32 of the image lent, once computed.
     sum: Option<u32>,
     /// Where the following partial comparison of images begins.
@@ -69,13 +72,19 @@ impl Default for Judge {
 }
 
 impl Judge {
-    /// The probe's start: off, a chip of 3 blocks of 255, torn bytes 5A.
+    /// The probe's start: off, a chip of 3 blocks of 255, torn bytes 5A; its frames name the small part.
     pub fn new() -> Judge {
+        Judge::naming(Geometry::SMALL)
+    }
+
+    /// The start of a probe whose frames name a geometry.
+    pub fn naming(geometry: Geometry) -> Judge {
         Judge {
-            buffer: vec![255; BUFFER],
-            lent: 3 * BLOCK,
-            torn: vec![0x5A; TORN_BUFFER],
-            torn_lent: TORN,
+            buffer: vec![255; BUFFER * geometry.block()],
+            lent: 3 * geometry.block(),
+            torn: vec![0x5A; geometry.torn + TORN_MORE],
+            torn_lent: geometry.torn,
+            named: geometry,
             plain: Plain::new(),
             ground: Rc::new(Err(image::NOTHING)),
             erases: Erases::none(0),
@@ -100,6 +109,11 @@ impl Judge {
     /// Whether the judge's chip was begun by a format, and its state given by a call whose image is lent: all is fixed.
     pub fn all_fixed(&mut self) -> bool {
         self.begun && self.fixed()
+    }
+
+    /// Names a geometry from now on; what is lent stays.
+    pub fn name(&mut self, geometry: Geometry) {
+        self.named = geometry;
     }
 
     /// The judge's plain store: K, P, pending, G, on or off; of a wild state only on or off and B are right.
@@ -181,14 +195,15 @@ impl Judge {
         self.differs = None;
     }
 
-    /// The meaning of the image lent, which has a right length.
+    /// The meaning of the image lent with the geometry named, for which it has a right length.
     fn read(&mut self) -> Shared {
-        if let Some(meaning) = &self.meaning {
-            return meaning.clone();
+        match &self.meaning {
+            Some((geometry, meaning)) if *geometry == self.named => return meaning.clone(),
+            _ => {}
         }
-        let blocks = chip::blocks_of(self.lent).unwrap_or(0);
-        let meaning = Rc::new(image::meaning(self.image(), blocks));
-        self.meaning = Some(meaning.clone());
+        let blocks = self.named.blocks_of(self.lent).unwrap_or(0);
+        let meaning = Rc::new(image::meaning(self.named, self.image(), blocks));
+        self.meaning = Some((self.named, meaning.clone()));
         meaning
     }
 

@@ -5,6 +5,7 @@ pub mod crc;
 pub mod erases;
 pub mod foreign;
 pub mod frame;
+pub mod geometry;
 pub mod image;
 pub mod judge;
 pub mod pays;

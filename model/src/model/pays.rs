@@ -6,8 +6,9 @@
 //! - of k commits in a row, at most (k + 1) / 2 erase it, rounded down.
 //!
 //! A mount starts the figures of note 5 at 0; which blocks the last commit erased, it leaves.
-use super::chip::{self, PAGE};
+use super::chip;
 use super::erases::{Erases, Range};
+use super::geometry::Geometry;
 
 /// The figures that a block may have if the last commit did not erase it, and if it did; none where that cannot be.
 #[derive(Clone, Copy, Debug, PartialEq, Eq)]
@@ -108,8 +109,8 @@ fn again(block: usize) -> String {
 }
 
 /// A commit that reclaims leaves at least one page free.
-pub fn leaves_a_page(erases: u32, after: &[u8]) -> Result<(), String> {
-    if erases == 0 || after.chunks_exact(PAGE).any(chip::free) {
+pub fn leaves_a_page(geometry: Geometry, erases: u32, after: &[u8]) -> Result<(), String> {
+    if erases == 0 || after.chunks_exact(geometry.page()).any(chip::free) {
         return Ok(());
     }
     Err("a commit that reclaims leaves no page free".to_string())

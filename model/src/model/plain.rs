@@ -1,5 +1,5 @@
 //! The plain store of document 01: fed kinds, numbers, slice lengths and whether the answer was 10.
-use super::chip::{self, TORN};
+use super::geometry::Geometry;
 use super::tree::Tree;
 
 /// Refusal of a wrong size.
@@ -18,20 +18,18 @@ pub const LAST_NUMBER: u32 = 6;
 pub const POWER: u32 = 10;
 /// Updates that may be pending.
 pub const MOST_PENDING: u32 = 16;
-/// The allowance with which no format or commit is cut.
-pub const NEVER_CUT: u32 = 2000;
 /// The allowance with which no mount is cut.
 const MOUNT_NEVER_CUT: u32 = 255;
 
-/// A call: its kind and its numbers.
+/// A call: its kind, the geometry that format and mount name, and its numbers.
 #[derive(Clone, Copy, Debug, PartialEq, Eq)]
 pub enum Call {
-    Format(u32),
+    Format(Geometry, u32),
     Insert(u32, u32),
     Delete(u32),
     LookUp(u32),
     Commit(u32),
-    Mount(u32),
+    Mount(Geometry, u32),
 }
 
 /// The lengths of the slices lent.
@@ -62,7 +60,9 @@ pub struct Plain {
     pub number: u32,
     /// On or off.
     pub on: bool,
-    /// The B of the last finished format.
+    /// The geometry of the last finished format or mount; before the first that of the small part, read by no call.
+    pub geometry: Geometry,
+    /// The B of the last finished format or mount.
     pub blocks: usize,
 }
 
@@ -77,12 +77,12 @@ impl Plain {
     /// A store that is off and was never formatted.
     pub fn new() -> Plain {
         let tree = Tree { nodes: Vec::new() };
-        Plain { kept: tree.clone(), present: tree, pending: 0, number: 0, on: false, blocks: 0 }
+        Plain { kept: tree.clone(), present: tree, pending: 0, number: 0, on: false, geometry: Geometry::SMALL, blocks: 0 }
     }
 
     /// The store as a finished mount of a chip not begun by a format leaves it: from what the image means.
-    pub fn mounted(tree: &Tree, number: u32, blocks: usize) -> Plain {
-        Plain { kept: tree.clone(), present: tree.clone(), pending: 0, number, on: true, blocks }
+    pub fn mounted(geometry: Geometry, tree: &Tree, number: u32, blocks: usize) -> Plain {
+        Plain { kept: tree.clone(), present: tree.clone(), pending: 0, number, on: true, geometry, blocks }
     }
 
     /// One call. A cut commit keeps the present tree when so chosen.
@@ -97,24 +97,24 @@ impl Plain {
         self.finish(call, lengths)
     }
 
-    /// Refusals 2 and 1 of the calls that can give 2; commit alone is lent a torn slice.
+    /// Refusals 2 and 1 of the calls that can give 2, read with the store's geometry; commit alone is lent a torn slice.
     pub fn off_or_size(&self, lengths: Lengths, torn_lent: bool) -> Option<u32> {
         if !self.on {
             return Some(OFF);
         }
-        let fits = chip::blocks_of(lengths.image) == Some(self.blocks) && (!torn_lent || lengths.torn == TORN);
+        let fits = self.geometry.blocks_of(lengths.image) == Some(self.blocks) && (!torn_lent || lengths.torn == self.geometry.torn);
         (!fits).then_some(SIZE)
     }
 
-    /// Refusal 1 of format and mount.
-    pub fn size(lengths: Lengths) -> Option<u32> {
-        (chip::blocks_of(lengths.image).is_none() || lengths.torn != TORN).then_some(SIZE)
+    /// Refusal 1 of format and mount, read with the geometry named.
+    pub fn size(geometry: Geometry, lengths: Lengths) -> Option<u32> {
+        (geometry.blocks_of(lengths.image).is_none() || lengths.torn != geometry.torn).then_some(SIZE)
     }
 
     /// The first of the refusals 1 to 6 that holds, in the order of document 01's calls.
     fn refusal(&self, call: Call, lengths: Lengths) -> Option<u32> {
         match call {
-            Call::Format(_) | Call::Mount(_) => Plain::size(lengths),
+            Call::Format(geometry, _) | Call::Mount(geometry, _) => Plain::size(geometry, lengths),
             Call::Commit(_) => self.off_or_size(lengths, true).or(self.last_number()),
             Call::LookUp(key) => self.off_or_size(lengths, false).or_else(|| self.absent(key)),
             Call::Delete(key) => self.off_or_size(lengths, false).or_else(|| self.full().or_else(|| self.absent(key))),
@@ -145,9 +145,9 @@ impl Plain {
     /// Whether a call that is not refused with 1 to 6 may be cut.
     fn may_be_cut(&self, call: Call) -> bool {
         match call {
-            Call::Format(allowance) => allowance < NEVER_CUT,
-            Call::Commit(allowance) => allowance < NEVER_CUT && self.pending > 0,
-            Call::Mount(allowance) => allowance < MOUNT_NEVER_CUT,
+            Call::Format(geometry, allowance) => allowance < geometry.never_cut,
+            Call::Commit(allowance) => allowance < self.geometry.never_cut && self.pending > 0,
+            Call::Mount(_, allowance) => allowance < MOUNT_NEVER_CUT,
             _ => false,
         }
     }
@@ -170,11 +170,13 @@ impl Plain {
     /// A call that is accepted or finished.
     fn finish(&mut self, call: Call, lengths: Lengths) -> Answer {
         match call {
-            Call::Format(_) => {
-                let blocks = chip::blocks_of(lengths.image).unwrap_or(0);
-                *self = Plain::mounted(&Tree::leaf(blocks), 1, blocks);
+            Call::Format(geometry, _) => {
+                let blocks = geometry.blocks_of(lengths.image).unwrap_or(0);
+                *self = Plain::mounted(geometry, &Tree::leaf(blocks), 1, blocks);
             }
-            Call::Mount(_) => {
+            Call::Mount(geometry, _) => {
+                self.geometry = geometry;
+                self.blocks = geometry.blocks_of(lengths.image).unwrap_or(0);
                 self.present = self.kept.clone();
                 self.pending = 0;
                 self.on = true;

@@ -1,11 +1,10 @@
 //! Units of document 01, 'Pages and units': 12 bytes that insert, delete or reset in a node.
+use super::geometry::Geometry;
 
 /// Bytes of a unit.
 pub const UNIT: usize = 12;
 /// Bytes of a page before its units.
 pub const HEAD: usize = 8;
-/// Units that a page has room for.
-pub const ROOM: usize = 42;
 
 /// What a unit does to its node.
 #[derive(Clone, Copy, Debug, PartialEq, Eq)]
@@ -71,8 +70,8 @@ pub fn decode(bytes: &[u8], limit: usize) -> Option<Unit> {
 }
 
 /// The data area of a page: commit number, page index, page count, units; the rest 255.
-pub fn page_data(commit: u32, index: u8, count: u8, units: &[[u8; UNIT]]) -> [u8; 512] {
-    let mut data = [255; 512];
+pub fn page_data(geometry: Geometry, commit: u32, index: u8, count: u8, units: &[[u8; UNIT]]) -> Vec<u8> {
+    let mut data = vec![255; geometry.data];
     data[0..4].copy_from_slice(&commit.to_le_bytes());
     data[4] = index;
     data[5] = count;

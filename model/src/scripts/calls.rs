@@ -2,6 +2,7 @@
 
 use super::torn::tear;
 use super::writer::Writer;
+use crate::model::geometry::Geometry;
 use crate::random::Random;
 
 /// The sizes of chips, the small ones more often.
@@ -36,10 +37,11 @@ impl Keys {
 
 /// A call that changes nothing: a look up, a show, a block report, a checksum, a forecast.
 pub fn read(random: &mut Random, writer: &mut Writer, keys: &mut Keys) {
-    let blocks = (writer.probe().image().len() / 16896) as u64;
+    let geometry = writer.geometry();
+    let blocks = writer.probe().image().len() / geometry.block();
     match random.below(12) {
-        0 => writer.show(random.below(blocks * 32 + 2) as u32),
-        1 => writer.report(random.below(blocks + 1) as u32),
+        0 => writer.show(random.index(blocks * geometry.pages + 2) as u32),
+        1 => writer.report(random.index(blocks + 1) as u32),
         2 => {
             writer.check();
             0
@@ -65,10 +67,10 @@ fn commit(random: &mut Random, writer: &mut Writer) {
     }
     let allowance = match random.below(4) {
         0 => writer.allowance(random, 4),
-        1 => 2000,
+        1 => writer.enough(),
         _ => u32::MAX,
     };
-    if allowance < 2000 && random.once_in(2) {
+    if allowance < writer.enough() && random.once_in(2) {
         tear(random, writer);
     }
     writer.commit(allowance);
@@ -97,14 +99,14 @@ fn mount(random: &mut Random, writer: &mut Writer) {
 fn format(random: &mut Random, writer: &mut Writer) {
     let allowance = match random.below(2) {
         0 => writer.allowance(random, 0),
-        _ => 2000,
+        _ => writer.enough(),
     };
     writer.format(allowance);
     writer.check();
     writer.reports();
-    if allowance < 2000 {
+    if allowance < writer.enough() {
         writer.mount(255);
-        writer.format(2000);
+        writer.format(writer.enough());
     }
 }
 
@@ -130,12 +132,12 @@ pub fn step(random: &mut Random, writer: &mut Writer, keys: &mut Keys) {
 }
 
 /// A list of calls from a format on.
-pub fn make(random: &mut Random) -> Vec<Vec<u8>> {
-    let mut writer = Writer::new();
+pub fn make(random: &mut Random, geometry: Geometry) -> Vec<Vec<u8>> {
+    let mut writer = Writer::new(geometry);
     let blocks = SIZES[random.index(SIZES.len())];
     let mut keys = Keys::any(random);
     writer.lend(blocks);
-    writer.format(2000);
+    writer.format(writer.enough());
     let lines = 150 + random.index(1500);
     while writer.len() < lines {
         step(random, &mut writer, &mut keys);

@@ -3,9 +3,9 @@
 use super::calls::{read, update, Keys};
 use super::torn::tear;
 use super::writer::Writer;
+use crate::model::geometry::Geometry;
+use crate::model::unit::{half, HEAD, UNIT};
 use crate::random::Random;
-use crate::twin::chip::{BLOCK, PAGE, UNITS};
-use crate::twin::unit::{half, UNIT};
 
 /// A page of a node's list: that of node 0 in one of three cases, else of any node; none where the node has no list.
 fn listed(random: &mut Random, writer: &Writer) -> Option<(u32, usize)> {
@@ -13,15 +13,17 @@ fn listed(random: &mut Random, writer: &Writer) -> Option<(u32, usize)> {
     let node = if random.once_in(3) { 0 } else { random.below(u64::from(state.next.max(1))) as u32 };
     let list = state.list(node);
     let place = *list.get(random.index(list.len()))? as usize;
-    (place * PAGE + PAGE <= writer.probe().image().len()).then_some((node, place * PAGE))
+    let page = writer.geometry().page();
+    (place * page + page <= writer.probe().image().len()).then_some((node, place * page))
 }
 
 /// The offset of a unit of a node on the page at an offset, often its first; any unit's where the node has none there.
-fn unit_of(random: &mut Random, image: &[u8], node: u32, page: usize) -> usize {
-    let count = (half(image, page + 6) as usize).min(UNITS);
-    let own: Vec<usize> = (0..count).map(|i| page + 8 + UNIT * i).filter(|&at| half(image, at + 2) == node).collect();
+fn unit_of(random: &mut Random, writer: &Writer, node: u32, page: usize) -> usize {
+    let (room, image) = (writer.geometry().room, writer.probe().image());
+    let count = (half(image, page + 6) as usize).min(room);
+    let own: Vec<usize> = (0..count).map(|i| page + HEAD + UNIT * i).filter(|&at| u32::from(half(image, at + 2)) == node).collect();
     match own.first() {
-        None => page + 8 + UNIT * random.index(UNITS),
+        None => page + HEAD + UNIT * random.index(room),
         Some(&first) if random.once_in(3) => first,
         Some(_) => own[random.index(own.len())],
     }
@@ -62,25 +64,26 @@ fn wound_unit(random: &mut Random, writer: &mut Writer, at: usize) {
 /// A page made blank.
 fn blank(writer: &mut Writer, page: usize) {
     let mut image = writer.probe().image().to_vec();
-    image[page..page + PAGE].fill(255);
+    image[page..page + writer.geometry().page()].fill(255);
     writer.upload(&image);
 }
 
 /// The image changed, while the state stays as it is.
 pub fn change(random: &mut Random, writer: &mut Writer) {
+    let geometry = writer.geometry();
     let any = random.index(writer.probe().image().len());
     let Some((node, page)) = listed(random, writer) else { return };
     match random.below(24) {
         0 => drop(writer.noise(random.next() as u32)),
         1 => drop(writer.lend(writer.probe().state().blocks as u32)),
         2..=5 => blank(writer, page),
-        6 => writer.set(page + 6, random.below(50) as u8),
+        6 => writer.set(page + 6, random.index(geometry.room + 8) as u8),
         7 => writer.set(page + random.index(8), random.byte()),
-        8 => writer.set(page + 512 + random.index(4), [0, 255, 1][random.index(3)]),
+        8 => writer.set(page + geometry.data + random.index(4), [0, 255, 1][random.index(3)]),
         9 => writer.set(any, random.byte()),
-        10 => writer.set(page + random.index(PAGE), random.byte()),
+        10 => writer.set(page + random.index(geometry.page()), random.byte()),
         _ => {
-            let at = unit_of(random, writer.probe().image(), node, page);
+            let at = unit_of(random, writer, node, page);
             wound_unit(random, writer, at);
         }
     }
@@ -91,7 +94,7 @@ fn commit(random: &mut Random, writer: &mut Writer) {
     if random.once_in(2) {
         writer.forecast();
     }
-    let allowance = if random.once_in(3) { writer.allowance(random, 4) } else { 2000 };
+    let allowance = if random.once_in(3) { writer.allowance(random, 4) } else { writer.enough() };
     writer.commit(allowance);
     writer.check();
 }
@@ -142,23 +145,23 @@ fn grow(random: &mut Random, writer: &mut Writer, keys: &mut Keys) {
             }
         }
         if writer.probe().state().pending == 16 || random.once_in(4) {
-            writer.commit(2000);
+            writer.commit(writer.enough());
         }
     }
 }
 
 /// A store with a tree of several nodes whose image is changed while it is on.
-pub fn make(random: &mut Random) -> Vec<Vec<u8>> {
-    let mut writer = Writer::new();
+pub fn make(random: &mut Random, geometry: Geometry) -> Vec<Vec<u8>> {
+    let mut writer = Writer::new(geometry);
     writer.lend([3, 3, 3, 3, 4, 5, 8, 32][random.index(8)]);
     for _ in 0..3 {
         let mut keys = Keys::any(random);
-        writer.format(2000);
+        writer.format(writer.enough());
         grow(random, &mut writer, &mut keys);
         if random.once_in(4) {
             tear(random, &mut writer);
         }
-        if writer.probe().image().len() >= 3 * BLOCK {
+        if writer.probe().image().len() >= 3 * geometry.block() {
             go_on(random, &mut writer, &mut keys);
         }
         writer.mount(255);

@@ -2,6 +2,7 @@
 
 use super::calls::{step, Keys};
 use super::writer::Writer;
+use crate::model::geometry::Geometry;
 use crate::random::Random;
 
 /// Keys in an order that fills nodes: rising, falling, random, or from both ends.
@@ -16,11 +17,11 @@ fn order(random: &mut Random, i: u32, way: u64) -> u32 {
 }
 
 /// Inserts until the tree step is refused with 5, with commits between them, then updates of the full tree.
-pub fn full(random: &mut Random) -> Vec<Vec<u8>> {
-    let mut writer = Writer::new();
+pub fn full(random: &mut Random, geometry: Geometry) -> Vec<Vec<u8>> {
+    let mut writer = Writer::new(geometry);
     let blocks = [3, 3, 3, 3, 4, 5, 8][random.index(7)];
     writer.lend(blocks);
-    writer.format(2000);
+    writer.format(writer.enough());
     let way = random.below(4);
     let mut keys = Keys::any(random);
     let mut i = 0;
@@ -29,7 +30,7 @@ pub fn full(random: &mut Random) -> Vec<Vec<u8>> {
         if random.once_in(14) || writer.probe().state().pending == 16 {
             writer.insert(0, i);
             writer.delete(u32::MAX);
-            writer.commit(2000);
+            writer.commit(writer.enough());
         }
     }
     writer.check();
@@ -48,10 +49,10 @@ pub fn full(random: &mut Random) -> Vec<Vec<u8>> {
 }
 
 /// 17 pending updates and more, of few keys with 0 and the greatest among them, then a forecast and a commit or a mount.
-pub fn pending(random: &mut Random) -> Vec<Vec<u8>> {
-    let mut writer = Writer::new();
+pub fn pending(random: &mut Random, geometry: Geometry) -> Vec<Vec<u8>> {
+    let mut writer = Writer::new(geometry);
     writer.lend([3, 4, 8, 32][random.index(4)]);
-    writer.format(2000);
+    writer.format(writer.enough());
     for _ in 0..12 {
         for _ in 0..16 + random.below(20) {
             let key = [0, 1, 2, u32::MAX, u32::MAX - 1, 1 << 31][random.index(6)];
@@ -64,7 +65,7 @@ pub fn pending(random: &mut Random) -> Vec<Vec<u8>> {
         writer.forecast();
         match random.below(3) {
             0 => writer.mount(255),
-            _ => writer.commit(2000),
+            _ => writer.commit(writer.enough()),
         };
         writer.check();
     }

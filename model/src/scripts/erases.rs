@@ -3,8 +3,8 @@
 use super::calls::{update, Keys};
 use super::torn::tear;
 use super::writer::Writer;
+use crate::model::geometry::Geometry;
 use crate::random::Random;
-use crate::twin::chip::BLOCK;
 
 /// A commit that is cut, in half of the cases with other torn bytes, and a mount after it.
 fn cut(random: &mut Random, writer: &mut Writer) {
@@ -21,9 +21,9 @@ fn cut(random: &mut Random, writer: &mut Writer) {
 /// A format, a commit and a mount that are refused since the image lent is too long; the store stays on, and the figures stay.
 pub fn refused(writer: &mut Writer) {
     let len = writer.probe().image().len();
-    writer.lend_bytes((len + BLOCK) as u32 - 1);
-    writer.format(2000);
-    writer.commit(2000);
+    writer.lend_bytes((len + writer.geometry().block()) as u32 - 1);
+    writer.format(writer.enough());
+    writer.commit(writer.enough());
     writer.mount(255);
     writer.report(0);
     writer.lend_bytes(len as u32);
@@ -35,7 +35,7 @@ fn restart(random: &mut Random, writer: &mut Writer) {
     match random.below(3) {
         0 => return cut(random, writer),
         1 => writer.mount(255),
-        _ => writer.format(2000),
+        _ => writer.format(writer.enough()),
     };
     writer.reports();
 }
@@ -54,18 +54,18 @@ fn between(random: &mut Random, writer: &mut Writer) {
 }
 
 /// Commits of few updates each; the figures of the blocks are asked for whenever one has changed.
-pub fn make(random: &mut Random) -> Vec<Vec<u8>> {
-    let mut writer = Writer::new();
+pub fn make(random: &mut Random, geometry: Geometry) -> Vec<Vec<u8>> {
+    let mut writer = Writer::new(geometry);
     let mut keys = Keys::any(random);
     writer.lend([3, 3, 3, 3, 4, 5][random.index(6)]);
-    writer.format(2000);
+    writer.format(writer.enough());
     writer.reports();
     for _ in 0..300 + random.below(600) {
         for _ in 0..[1, 1, 1, 1, 2, 8][random.index(6)] {
             update(random, &mut writer, &mut keys);
         }
         between(random, &mut writer);
-        writer.commit(2000);
+        writer.commit(writer.enough());
     }
     writer.reports();
     writer.check();

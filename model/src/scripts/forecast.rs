@@ -6,31 +6,32 @@ use super::changed::change;
 use super::images::{renumber, spent_image, valid_image};
 use super::torn::tear;
 use super::writer::Writer;
+use crate::model::geometry::Geometry;
 use crate::random::Random;
-use crate::twin::chip::{BLOCK, PAGE};
 
 /// Forecasts with the image lent at other lengths, and at its own again.
 fn sizes(random: &mut Random, writer: &mut Writer) {
-    let len = writer.probe().image().len();
-    for other in [len - 1, len + 1, len + BLOCK, len - BLOCK, random.index(40 * BLOCK)] {
+    let (len, block) = (writer.probe().image().len(), writer.geometry().block());
+    for other in [len - 1, len + 1, len + block, len - block, random.index(40 * block)] {
         writer.lend_bytes(other as u32);
         writer.forecast();
     }
-    writer.commit(2000);
+    writer.commit(writer.enough());
     writer.lend_bytes(len as u32);
     writer.forecast();
 }
 
 /// Forecasts with torn slices of other lengths, at times with a commit that is refused for it.
 fn odd_torn(random: &mut Random, writer: &mut Writer) {
-    for len in [0, 1, PAGE - 1, PAGE + 1, 600, random.index(PAGE)] {
+    let torn = writer.geometry().torn;
+    for len in [0, 1, torn - 1, torn + 1, torn + 72, random.index(torn)] {
         writer.lend_torn(len as u32);
         writer.forecast();
     }
     if random.once_in(2) {
-        writer.commit(2000);
+        writer.commit(writer.enough());
     }
-    writer.lend_torn(PAGE as u32);
+    writer.lend_torn(torn as u32);
     writer.forecast();
 }
 
@@ -61,7 +62,7 @@ fn allowance(random: &mut Random, writer: &Writer) -> u32 {
         1 => 0,
         2 => random.below(u64::from(sum) + 1) as u32,
         3 => sum + 1,
-        4 | 5 => [2000, u32::MAX][random.index(2)],
+        4 | 5 => [writer.enough(), u32::MAX][random.index(2)],
         _ => sum,
     }
 }
@@ -69,10 +70,11 @@ fn allowance(random: &mut Random, writer: &Writer) -> u32 {
 /// A commit, in half of the cases with a forecast right before it, in one of eight with a further one between its refusal and itself.
 fn commit(random: &mut Random, writer: &mut Writer) {
     if random.once_in(8) {
-        writer.lend_torn(random.below(600) as u32);
-        writer.commit(2000);
+        let torn = writer.geometry().torn;
+        writer.lend_torn(random.index(torn + 72) as u32);
+        writer.commit(writer.enough());
         writer.forecast();
-        writer.lend_torn(PAGE as u32);
+        writer.lend_torn(torn as u32);
     }
     if random.once_in(2) {
         writer.forecast();
@@ -119,7 +121,7 @@ fn worn(random: &mut Random, writer: &mut Writer, keys: &mut Keys) {
         if writer.probe().need(4).erases > 0 {
             break;
         }
-        writer.commit(2000);
+        writer.commit(writer.enough());
     }
     for _ in 0..10 + random.below(40) {
         round(random, writer, keys);
@@ -128,7 +130,8 @@ fn worn(random: &mut Random, writer: &mut Writer, keys: &mut Keys) {
 
 /// A chip that no format began, mounted.
 fn foreign(random: &mut Random, writer: &mut Writer, keys: &mut Keys) {
-    let image = if random.once_in(3) { spent_image(random) } else { valid_image(random) };
+    let geometry = writer.geometry();
+    let image = if random.once_in(3) { spent_image(random, geometry) } else { valid_image(random, geometry) };
     writer.bring(&image);
     writer.forecast();
     mount(random, writer);
@@ -172,8 +175,8 @@ fn changed(random: &mut Random, writer: &mut Writer, keys: &mut Keys) {
 }
 
 /// A list of calls with forecasts, and behind it in three of four cases one of the other chips and images.
-pub fn make(random: &mut Random) -> Vec<Vec<u8>> {
-    let mut writer = Writer::new();
+pub fn make(random: &mut Random, geometry: Geometry) -> Vec<Vec<u8>> {
+    let mut writer = Writer::new(geometry);
     let mut keys = Keys::any(random);
     writer.forecast();
     writer.lend([3, 3, 3, 4, 5, 8, 32][random.index(7)]);
@@ -181,7 +184,7 @@ pub fn make(random: &mut Random) -> Vec<Vec<u8>> {
     let allowance = writer.allowance(random, 0);
     writer.format(allowance);
     writer.forecast();
-    writer.format(2000);
+    writer.format(writer.enough());
     sizes(random, &mut writer);
     for _ in 0..random.below(60) {
         round(random, &mut writer, &mut keys);

@@ -3,10 +3,12 @@
 use super::calls::{read, step, update, Keys};
 use super::torn::tear;
 use super::writer::Writer;
+use crate::model::chip::{USED, VALID};
 use crate::model::foreign;
+use crate::model::geometry::Geometry;
+use crate::model::image::live;
+use crate::model::unit::{self, encode, page_data, Deed, Unit, HEAD, UNIT};
 use crate::random::Random;
-use crate::twin::chip::{is_live, BLOCK, DATA, PAGE, PAGES};
-use crate::twin::unit::{encode, put_header, word, Header, Update, UNIT};
 
 /// A number of blocks, mostly small.
 fn blocks(random: &mut Random) -> usize {
@@ -32,20 +34,20 @@ fn short(random: &mut Random, tries: usize, make: &dyn Fn(&mut Random, usize) ->
 }
 
 /// A valid image that no format began.
-pub fn valid_image(random: &mut Random) -> Vec<u8> {
+pub fn valid_image(random: &mut Random, geometry: Geometry) -> Vec<u8> {
     loop {
-        if let Some(image) = short(random, 2, &|random, n| Some(foreign::valid(random, n))) {
+        if let Some(image) = short(random, 2, &|random, n| Some(foreign::valid(random, geometry, n))) {
             return image;
         }
     }
 }
 
 /// A damaged image, each fault as often as another.
-fn damaged_image(random: &mut Random) -> Vec<u8> {
+fn damaged_image(random: &mut Random, geometry: Geometry) -> Vec<u8> {
     let faults = foreign::faults();
     loop {
         let fault = &faults[random.index(faults.len())];
-        let make = |random: &mut Random, n| foreign::damaged_by(random, n, fault).map(|damaged| damaged.image);
+        let make = |random: &mut Random, n| foreign::damaged_by(random, geometry, n, fault).map(|damaged| damaged.image);
         if let Some(image) = short(random, 4, &make) {
             return image;
         }
@@ -54,45 +56,52 @@ fn damaged_image(random: &mut Random) -> Vec<u8> {
 
 /// An image of one leaf whose newest commit has pages that no list names, since a later page of it resets the leaf again;
 /// other pages are free or have a used mark alone.
-pub fn spent_image(random: &mut Random) -> Vec<u8> {
+pub fn spent_image(random: &mut Random, geometry: Geometry) -> Vec<u8> {
     let blocks = 3 + random.index(4);
-    let mut image = vec![255; blocks * BLOCK];
-    let mut places: Vec<usize> = (0..blocks * PAGES).collect();
+    let mut image = vec![255; blocks * geometry.block()];
+    let mut places: Vec<usize> = (0..blocks * geometry.pages).collect();
     random.shuffle(&mut places);
     let number = 1 + random.below(9) as u32;
     let count = 1 + random.below(6) as u8;
     for index in 0..count {
-        let page = &mut image[places[usize::from(index)] * PAGE..][..PAGE];
-        let units = 1 + random.index(16);
-        put_header(page, Header { commit: number, index, count }, units);
-        page[8..20].copy_from_slice(&encode(0, Update::Reset(0)));
-        for i in 1..units {
-            let update = Update::Insert(random.below(40) as u32, random.next() as u32);
-            page[8 + UNIT * i..][..UNIT].copy_from_slice(&encode(0, update));
-        }
-        page[DATA..DATA + 2].fill(0);
+        let (data, spare) = image[places[usize::from(index)] * geometry.page()..].split_at_mut(geometry.data);
+        data.copy_from_slice(&page_data(geometry, number, index, count, &leaf_units(random)));
+        spare[USED] = 0;
+        spare[VALID] = 0;
     }
     let free = random.below(3);
     for &place in &places[usize::from(count)..] {
         if random.below(2) >= free {
-            image[place * PAGE + DATA] = 0;
+            image[place * geometry.page() + geometry.data + USED] = 0;
         }
     }
     image
 }
 
+/// A reset of node 0 as a leaf, and up to 15 inserts.
+fn leaf_units(random: &mut Random) -> Vec<[u8; UNIT]> {
+    let unit = |deed| encode(&Unit { node: 0, deed });
+    let inserts = random.index(16);
+    let mut units = vec![unit(Deed::Reset(0))];
+    for _ in 0..inserts {
+        units.push(unit(Deed::Insert(random.below(40) as u32, random.next() as u32)));
+    }
+    units
+}
+
 /// Every call on the image as it is: mount, look ups, shows and reports.
 fn look_round(random: &mut Random, writer: &mut Writer, keys: &mut Keys) {
-    let pages = (writer.probe().image().len() / PAGE) as u32;
-    let live: Vec<u32> = (0..pages).filter(|&p| is_live(&writer.probe().image()[p as usize * PAGE..][..PAGE])).collect();
-    for &page in live.iter().take(40) {
-        writer.show(page);
+    let geometry = writer.geometry();
+    let pages = writer.probe().image().chunks_exact(geometry.page()).enumerate();
+    let shown: Vec<usize> = pages.filter(|(_, page)| live(geometry, page)).map(|(place, _)| place).collect();
+    for &place in shown.iter().take(40) {
+        writer.show(place as u32);
     }
     for _ in 0..20 {
         read(random, writer, keys);
     }
-    for block in 0..=(pages / 32).min(6) {
-        writer.report(block);
+    for block in 0..=(writer.probe().image().len() / geometry.block()).min(6) {
+        writer.report(block as u32);
     }
     for key in stored_keys(writer).into_iter().take(60) {
         writer.look_up(key);
@@ -101,8 +110,10 @@ fn look_round(random: &mut Random, writer: &mut Writer, keys: &mut Keys) {
 
 /// Keys that units of the image's live pages hold.
 fn stored_keys(writer: &Writer) -> Vec<u32> {
-    let live = writer.probe().image().chunks_exact(PAGE).filter(|page| is_live(page));
-    let mut keys: Vec<u32> = live.flat_map(|page| (0..42).map(|i| word(page, 12 + 12 * i))).filter(|&k| k != u32::MAX).collect();
+    let geometry = writer.geometry();
+    let pages = writer.probe().image().chunks_exact(geometry.page()).filter(|page| live(geometry, page));
+    let units = pages.flat_map(|page| page[HEAD..geometry.data].chunks_exact(UNIT));
+    let mut keys: Vec<u32> = units.map(|bytes| unit::number(bytes, 4)).filter(|&key| key != u32::MAX).collect();
     keys.sort_unstable();
     keys.dedup();
     keys
@@ -116,9 +127,9 @@ fn work(random: &mut Random, writer: &mut Writer, keys: &mut Keys, steps: u64) {
 }
 
 /// A valid image that no format began, mounted, read back, updated and committed.
-pub fn valid(random: &mut Random) -> Vec<Vec<u8>> {
-    let mut writer = Writer::new();
-    let image = if random.once_in(4) { spent_image(random) } else { valid_image(random) };
+pub fn valid(random: &mut Random, geometry: Geometry) -> Vec<Vec<u8>> {
+    let mut writer = Writer::new(geometry);
+    let image = if random.once_in(4) { spent_image(random, geometry) } else { valid_image(random, geometry) };
     let mut keys = Keys::any(random);
     writer.bring(&image);
     writer.check();
@@ -135,7 +146,7 @@ pub fn valid(random: &mut Random) -> Vec<Vec<u8>> {
             update(random, &mut writer, &mut keys);
         }
         writer.forecast();
-        writer.commit(2000);
+        writer.commit(writer.enough());
         writer.check();
     }
     work(random, &mut writer, &mut keys, 200);
@@ -144,11 +155,11 @@ pub fn valid(random: &mut Random) -> Vec<Vec<u8>> {
 }
 
 /// An image whose nodes are full, or almost, on the path of a key: mounted, that key and its neighbours inserted, and committed.
-pub fn steep(random: &mut Random) -> Vec<Vec<u8>> {
-    let mut writer = Writer::new();
+pub fn steep(random: &mut Random, geometry: Geometry) -> Vec<Vec<u8>> {
+    let mut writer = Writer::new(geometry);
     let (image, key) = loop {
         let n = [3, 3, 4, 5, 8, 16][random.index(6)];
-        let (image, key) = foreign::full_path(random, n);
+        let (image, key) = foreign::full_path(random, geometry, n);
         if weight(&image) <= UPLOAD / 2 {
             break (image, key);
         }
@@ -161,14 +172,14 @@ pub fn steep(random: &mut Random) -> Vec<Vec<u8>> {
         writer.insert(near, random.next() as u32);
         writer.look_up(near);
         if random.once_in(8) {
-            writer.commit(2000);
+            writer.commit(writer.enough());
             writer.check();
         }
     }
     writer.mount(255);
     writer.insert(key, 7);
     writer.forecast();
-    writer.commit(2000);
+    writer.commit(writer.enough());
     writer.check();
     look_round(random, &mut writer, &mut keys);
     work(random, &mut writer, &mut keys, 60);
@@ -176,14 +187,14 @@ pub fn steep(random: &mut Random) -> Vec<Vec<u8>> {
 }
 
 /// A damaged image: what a mount says of it, with every other call beside it.
-pub fn damaged(random: &mut Random) -> Vec<Vec<u8>> {
-    let mut writer = Writer::new();
+pub fn damaged(random: &mut Random, geometry: Geometry) -> Vec<Vec<u8>> {
+    let mut writer = Writer::new(geometry);
     for _ in 0..1 + random.below(3) {
-        let image = damaged_image(random);
+        let image = damaged_image(random, geometry);
         let mut keys = Keys::any(random);
         if random.once_in(3) {
-            writer.lend((image.len() / BLOCK) as u32);
-            writer.format(2000);
+            writer.lend((image.len() / geometry.block()) as u32);
+            writer.format(writer.enough());
         }
         writer.bring(&image);
         look_round(random, &mut writer, &mut keys);
@@ -197,21 +208,21 @@ pub fn damaged(random: &mut Random) -> Vec<Vec<u8>> {
 }
 
 /// An image of noise, here and there with marks that make its pages live.
-pub fn noise(random: &mut Random) -> Vec<Vec<u8>> {
-    let mut writer = Writer::new();
+pub fn noise(random: &mut Random, geometry: Geometry) -> Vec<Vec<u8>> {
+    let mut writer = Writer::new(geometry);
     let mut keys = Keys::any(random);
     for _ in 0..4 {
         let n = random.below(41) as u32;
         writer.lend(n);
         if random.once_in(4) {
-            writer.lend_bytes(random.below(675_841) as u32);
+            writer.lend_bytes(random.index(40 * geometry.block() + 1) as u32);
         }
         writer.noise(random.next() as u32);
         writer.check();
         writer.mount(255);
-        let pages = writer.probe().image().len() / PAGE;
+        let pages = writer.probe().image().len() / geometry.page();
         for _ in 0..random.below(20).min(pages as u64) {
-            writer.set(random.index(pages) * PAGE + 513, 0);
+            writer.set(random.index(pages) * geometry.page() + geometry.data + VALID, 0);
         }
         for _ in 0..40 {
             read(random, &mut writer, &mut keys);
@@ -219,23 +230,23 @@ pub fn noise(random: &mut Random) -> Vec<Vec<u8>> {
         writer.mount(255);
         update(random, &mut writer, &mut keys);
         writer.forecast();
-        writer.commit(2000);
+        writer.commit(writer.enough());
         writer.check();
     }
     writer.lines()
 }
 
 /// Commits up to the last commit number, which refuses with 6.
-pub fn last(random: &mut Random) -> Vec<Vec<u8>> {
-    let mut writer = Writer::new();
+pub fn last(random: &mut Random, geometry: Geometry) -> Vec<Vec<u8>> {
+    let mut writer = Writer::new(geometry);
     let mut keys = Keys::any(random);
     writer.lend(blocks(random) as u32);
-    writer.format(2000);
+    writer.format(writer.enough());
     for _ in 0..random.below(6) {
         for _ in 0..1 + random.below(16) {
             update(random, &mut writer, &mut keys);
         }
-        writer.commit(2000);
+        writer.commit(writer.enough());
     }
     renumber(&mut writer, u32::MAX - random.below(4) as u32);
     writer.check();
@@ -248,7 +259,7 @@ pub fn last(random: &mut Random) -> Vec<Vec<u8>> {
         if random.once_in(2) {
             writer.forecast();
         }
-        let allowance = if random.once_in(5) { writer.allowance(random, 4) } else { 2000 };
+        let allowance = if random.once_in(5) { writer.allowance(random, 4) } else { writer.enough() };
         writer.commit(allowance);
         writer.check();
         read(random, &mut writer, &mut keys);
@@ -261,10 +272,10 @@ pub fn last(random: &mut Random) -> Vec<Vec<u8>> {
 
 /// The pages of the greatest commit given another number.
 pub fn renumber(writer: &mut Writer, number: u32) {
-    let mut image = writer.probe().image().to_vec();
+    let (geometry, mut image) = (writer.geometry(), writer.probe().image().to_vec());
     let greatest = writer.probe().state().commit;
-    for page in image.chunks_exact_mut(PAGE).filter(|page| is_live(page)) {
-        if word(page, 0) == greatest {
+    for page in image.chunks_exact_mut(geometry.page()).filter(|page| live(geometry, page)) {
+        if unit::number(page, 0) == greatest {
             page[..4].copy_from_slice(&number.to_le_bytes());
         }
     }

@@ -2,6 +2,7 @@
 
 use super::calls::{step, Keys};
 use super::writer::Writer;
+use crate::model::geometry::Geometry;
 use crate::random::Random;
 
 /// A frame, which the changes below take apart.
@@ -37,13 +38,13 @@ fn broken(random: &mut Random) -> Vec<u8> {
 }
 
 /// A list of calls with lines between them that are no frames.
-pub fn make(random: &mut Random) -> Vec<Vec<u8>> {
-    let mut writer = Writer::new();
+pub fn make(random: &mut Random, geometry: Geometry) -> Vec<Vec<u8>> {
+    let mut writer = Writer::new(geometry);
     let mut keys = Keys::any(random);
     for _ in 0..10 {
         writer.say(broken(random));
     }
-    writer.format(2000);
+    writer.format(writer.enough());
     for _ in 0..300 {
         if random.once_in(2) {
             writer.say(broken(random));

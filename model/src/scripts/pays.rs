@@ -3,6 +3,7 @@
 use super::calls::{update, Keys};
 use super::erases::refused;
 use super::writer::Writer;
+use crate::model::geometry::Geometry;
 use crate::random::Random;
 
 /// Which updates a list has: inserts and deletes of keys of a range, of a few keys alone, or inserts of rising keys.
@@ -51,17 +52,17 @@ fn between(random: &mut Random, writer: &mut Writer, erased: bool) {
 }
 
 /// Commits of few updates each, with power enough; the figures of the blocks are asked for whenever one has changed.
-pub fn make(random: &mut Random) -> Vec<Vec<u8>> {
-    let mut writer = Writer::new();
+pub fn make(random: &mut Random, geometry: Geometry) -> Vec<Vec<u8>> {
+    let mut writer = Writer::new(geometry);
     let mut updates = Updates::pick(random);
     writer.lend([3, 3, 3, 3, 4, 6][random.index(6)]);
-    writer.format(2000);
+    writer.format(writer.enough());
     for _ in 0..600 + random.below(600) {
         for _ in 0..[1, 1, 1, 1, 1, 2, 16][random.index(7)] {
             updates.next(random, &mut writer);
         }
         let erased = writer.probe().need(4).erases > 0;
-        writer.commit([2000, u32::MAX][random.index(2)]);
+        writer.commit([writer.enough(), u32::MAX][random.index(2)]);
         between(random, &mut writer, erased);
     }
     writer.reports();

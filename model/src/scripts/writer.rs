@@ -1,26 +1,30 @@
 //! A script while it is made: its lines, and the twin that has run them.
 
+use crate::model::geometry::Geometry;
 use crate::probe::Probe;
 use crate::random::Random;
-use crate::twin::chip::{BLOCK, PAGE};
 
-/// The lines so far and the twin behind them.
+/// The lines so far, the twin behind them, and the geometry that they name.
 pub struct Writer {
     lines: Vec<Vec<u8>>,
     probe: Probe,
-}
-
-impl Default for Writer {
-    /// A script without lines.
-    fn default() -> Writer {
-        Writer::new()
-    }
+    geometry: Geometry,
 }
 
 impl Writer {
-    /// A script without lines.
-    pub fn new() -> Writer {
-        Writer { lines: Vec::new(), probe: Probe::new() }
+    /// A script without lines, on chips of a geometry.
+    pub fn new(geometry: Geometry) -> Writer {
+        Writer { lines: Vec::new(), probe: Probe::new(), geometry }
+    }
+
+    /// The geometry.
+    pub fn geometry(&self) -> Geometry {
+        self.geometry
+    }
+
+    /// An allowance with which no format or commit is cut.
+    pub fn enough(&self) -> u32 {
+        self.geometry.never_cut
     }
 
     /// The script.
@@ -104,7 +108,7 @@ impl Writer {
 
     /// The reports of all blocks lent and of one past the last.
     pub fn reports(&mut self) {
-        for block in 0..=(self.probe.image().len() / BLOCK) as u32 {
+        for block in 0..=(self.probe.image().len() / self.geometry.block()) as u32 {
             self.report(block);
         }
     }
@@ -169,7 +173,7 @@ impl Writer {
 
     /// An image lent and uploaded.
     pub fn bring(&mut self, image: &[u8]) {
-        self.lend((image.len() / (32 * PAGE)) as u32);
+        self.lend((image.len() / self.geometry.block()) as u32);
         self.upload(image);
     }
 

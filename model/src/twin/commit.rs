@@ -1,6 +1,7 @@
 //! Commit: the pending updates written as commit G + 1, as a delta where that leaves enough unused blocks, else as a snapshot.
 
-use super::chip::{Chip, DATA, PAGE};
+use super::chip::Chip;
+use super::geometry::AREA;
 use super::plan::{Plan, Sorted};
 use super::ready::Site;
 use super::state::State;
@@ -10,7 +11,7 @@ use super::unit::{put_header, Header, UNIT};
 impl State {
     /// The pending updates committed: 2, 1, 6, 10.
     pub fn commit(&mut self, image: &mut [u8], torn: &[u8], allowance: u32) -> Told {
-        if self.on && torn.len() != PAGE {
+        if self.on && torn.len() != self.geometry.page() {
             return Told::quiet(1);
         }
         if let Err(refusal) = self.admit_commit(image) {
@@ -19,7 +20,7 @@ impl State {
         let sorted = Sorted::of(self.buffered(), self.limit());
         let mut plan = Plan::empty();
         match self.make_ready(image, &sorted, &mut plan) {
-            Some(site) => self.carry_out(&mut Chip::new(image, torn, allowance), &sorted, &plan, &site),
+            Some(site) => self.carry_out(&mut Chip::new(self.geometry, image, torn, allowance), &sorted, &plan, &site),
             None => Told::quiet(6),
         }
     }
@@ -56,11 +57,12 @@ impl State {
 
     /// One page of a commit built from the nodes as they are then, written at its place, counted and noted.
     fn write_page(&mut self, chip: &mut Chip, sorted: &Sorted, plan: &Plan, index: usize, place: usize, counts: &mut Counts) {
-        let mut data = [255; DATA];
-        let units = self.gather(sorted, plan, index, &mut data);
+        let mut room = [255; AREA];
+        let data = &mut room[..self.geometry.area];
+        let units = self.gather(sorted, plan, index, data);
         let header = Header { commit: self.commit + 1, index: index as u8, count: plan.pages as u8 };
-        put_header(&mut data, header, units);
-        chip.write(place, &data, counts);
+        put_header(data, header, units);
+        chip.write(place, data, counts);
         self.note(&data[8..].as_chunks::<UNIT>().0[..units], place as u32, self.limit());
     }
 }

@@ -6,6 +6,7 @@ pub mod commit;
 pub mod find;
 pub mod forecast;
 pub mod format;
+pub mod geometry;
 pub mod ground;
 pub mod mount;
 pub mod plan;

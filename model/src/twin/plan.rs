@@ -1,6 +1,5 @@
 //! The plan of a commit: which nodes are written, each anew or in its own buffered units, and into which of its pages.
 
-use super::chip::{DATA, PAGES, UNITS};
 use super::ground::Ground;
 use super::state::{State, BUFFER};
 use super::unit::{decode, encode, node_of, Update, UNIT};
@@ -48,7 +47,7 @@ const WHOLE: usize = 17;
 /// No page.
 const NONE: u8 = 255;
 
-/// The most pages of a commit.
+/// The most pages of a commit: 256 nodes, of which each page but the last holds two or more.
 pub const MOST: usize = 128;
 
 /// The pages of a commit: for each node its page, if it has one, and whether it is written anew; of a node that was read, `whole` is how
@@ -97,13 +96,13 @@ impl Plan {
         self.target[n] = page as u8;
     }
 
-    /// A node of this many units put into the first page that has room, else into a new one.
-    fn pack(&mut self, n: usize, size: u8) {
+    /// A node of this many units put into the first page that has room, else into a new one, which has room for `units`.
+    fn pack(&mut self, n: usize, size: u8, units: usize) {
         if size == 0 || self.target[n] != NONE {
             return;
         }
         let page = self.first(size).unwrap_or_else(|| {
-            self.rooms[self.pages] = UNITS as u8;
+            self.rooms[self.pages] = units as u8;
             self.pages += 1;
             self.pages - 1
         });
@@ -153,7 +152,7 @@ impl State {
 
     /// Whether the list of a node has a page in this block.
     fn stands_in(&self, n: usize, block: Option<usize>) -> bool {
-        self.list(n as u32).iter().any(|&place| Some(place as usize / PAGES) == block)
+        self.list(n as u32).iter().any(|&place| Some(self.geometry.block_of(place as usize)) == block)
     }
 
     /// A snapshot: every node anew. A node that was read already is not read again.
@@ -165,7 +164,7 @@ impl State {
                 plan.keep(n, &self.view_sorted(image, sorted, n));
             }
             plan.anew[n] = true;
-            plan.pack(n, plan.whole[n]);
+            plan.pack(n, plan.whole[n], self.geometry.units);
         }
     }
 
@@ -191,12 +190,12 @@ impl State {
         self.measure(image, sorted, ground, plan);
         for n in nodes() {
             if plan.anew[n] {
-                plan.pack(n, plan.whole[n]);
+                plan.pack(n, plan.whole[n], self.geometry.units);
             }
         }
         for n in nodes() {
             if !plan.anew[n] {
-                plan.pack(n, sorted.own(n).len() as u8);
+                plan.pack(n, sorted.own(n).len() as u8, self.geometry.units);
             }
         }
         self.widen(sorted, plan, 3);
@@ -217,7 +216,7 @@ impl State {
     }
 
     /// The units of a page's nodes in the order of their numbers, written behind its header. Returns how many there are.
-    pub fn gather(&self, sorted: &Sorted, plan: &Plan, index: usize, data: &mut [u8; DATA]) -> usize {
+    pub fn gather(&self, sorted: &Sorted, plan: &Plan, index: usize, data: &mut [u8]) -> usize {
         let (out, _) = data[8..].as_chunks_mut::<UNIT>();
         let buffered = self.buffered();
         let mut k = 0;

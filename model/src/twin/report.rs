@@ -1,9 +1,9 @@
 //! Block report: how many pages of a block are free, the first free one, and the block's erases on record.
 
-use super::chip::{free_set, BLOCK};
+use super::chip::free_set;
 use super::state::State;
 
-/// What a report tells: the free pages, the first free one, 32 if none, and the erases since the last finished mount or format.
+/// What a report tells: the free pages, the first free one, the pages of a block if none, and the erases since the last finished mount or format.
 #[derive(Clone, Copy, PartialEq, Eq, Debug)]
 pub struct Report {
     pub free: u32,
@@ -19,7 +19,8 @@ impl State {
         if b >= self.blocks {
             return Err(4);
         }
-        let free = free_set(&image[b * BLOCK..][..BLOCK]);
-        Ok(Report { free: free.count_ones(), first: free.trailing_zeros(), erases: self.erases[b] })
+        let free = free_set(self.geometry, self.geometry.block_at(image, b));
+        let first = free.trailing_zeros().min(self.geometry.pages as u32);
+        Ok(Report { free: free.count_ones(), first, erases: self.erases[b] })
     }
 }

@@ -1,17 +1,18 @@
 //! The state of the store, and a node's view read through it.
 
-use super::chip::{blocks_of, PAGE};
+use super::geometry::{Geometry, SMALL};
 use super::unit::{encode, is_unit, node_of, units_of, Update, UNIT};
 use super::view::{key_of, value_of, View};
 
 /// Units that the reservation buffer holds at most, 60 for each of 16 pending updates.
 pub const BUFFER: usize = 960;
 
-/// On or off, B, G, the pending updates, the next node number, the reservation buffer with its count of units, the node table: for each
+/// On or off, the geometry, B, G, the pending updates, the next node number, the reservation buffer with its count of units, the node table: for each
 /// node the length of its list and its pages; and for each block the erases done since the last finished mount or format.
 #[derive(Clone, PartialEq, Eq)]
 pub struct State {
     pub on: bool,
+    pub geometry: Geometry,
     pub blocks: usize,
     pub commit: u32,
     pub pending: u32,
@@ -35,6 +36,7 @@ impl State {
     pub const fn new() -> State {
         State {
             on: false,
+            geometry: SMALL,
             blocks: 0,
             commit: 0,
             pending: 0,
@@ -57,8 +59,7 @@ impl State {
         if !self.on {
             return Err(2);
         }
-        let blocks = blocks_of(image.len());
-        if blocks == 0 || blocks != self.blocks {
+        if !self.geometry.is_chip(self.blocks, image.len()) {
             return Err(1);
         }
         Ok(())
@@ -79,12 +80,14 @@ impl State {
     }
 
     /// A node's view from the pages of its list, the oldest first. A page that is not on the chip adds nothing.
+    #[inline(always)]
     pub fn stored(&self, image: &[u8], number: u32, limit: u32) -> View {
+        let size = self.geometry.page();
         let mut view = View::UNTOUCHED;
         for &place in self.list(number) {
-            let at = place as usize * PAGE;
-            if let Some(page) = image.get(at..at + PAGE) {
-                match units_of(page) {
+            let at = place as usize * size;
+            if let Some(page) = image.get(at..at + size) {
+                match units_of(self.geometry, page) {
                     Some(units) => view.fold(units, number, limit),
                     None => view.spoil(),
                 }

@@ -1,9 +1,13 @@
 //! Units: the records of 12 bytes that a page holds, and the header in front of them.
 
-use super::chip::{is_blank, DATA, UNITS};
+use super::chip::is_blank;
+use super::geometry::Geometry;
 
 /// Bytes of a unit.
 pub const UNIT: usize = 12;
+
+/// Bytes of a page's header.
+pub const HEADER: usize = 8;
 
 /// What a unit does to its node.
 #[derive(Clone, Copy, PartialEq, Eq, Debug)]
@@ -71,10 +75,11 @@ pub fn encode(node: u32, update: Update) -> [u8; UNIT] {
     unit
 }
 
-/// The units of a page's data; none where it claims more than it holds.
-pub fn units_of(data: &[u8]) -> Option<&[[u8; UNIT]]> {
-    let count = half(data, 6) as usize;
-    (count <= UNITS).then(|| &data[8..DATA].as_chunks::<UNIT>().0[..count])
+/// The units of a page; none where it claims more than it holds.
+#[inline]
+pub fn units_of(geometry: Geometry, page: &[u8]) -> Option<&[[u8; UNIT]]> {
+    let count = half(&page[..HEADER], 6) as usize;
+    (count <= geometry.units).then(|| page[HEADER..HEADER + UNIT * count].as_chunks::<UNIT>().0)
 }
 
 /// A page's header: commit number, page index, page count of that commit.
@@ -85,12 +90,13 @@ pub struct Header {
     pub count: u8,
 }
 
-/// The header of a page's data, where the data obeys the page's own rules of step 2.
-pub fn header_of(data: &[u8]) -> Option<Header> {
-    let header = Header { commit: word(data, 0), index: data[4], count: data[5] };
-    let units = half(data, 6) as usize;
-    let fits = header.commit >= 1 && header.index < header.count && (1..=UNITS).contains(&units);
-    (fits && is_blank(&data[8 + UNIT * units..DATA])).then_some(header)
+/// The header of a page, where its data obeys the page's own rules of step 2.
+pub fn header_of(geometry: Geometry, page: &[u8]) -> Option<Header> {
+    let (head, data) = page[..geometry.area].split_at(HEADER);
+    let header = Header { commit: word(head, 0), index: head[4], count: head[5] };
+    let units = half(head, 6) as usize;
+    let fits = header.commit >= 1 && header.index < header.count && (1..=geometry.units).contains(&units);
+    (fits && is_blank(&data[UNIT * units..])).then_some(header)
 }
 
 /// The 8 bytes of a header written in front of a page's data.

@@ -1,13 +1,13 @@
 //! The erases that the block report shows, worked by hand.
-use super::{before_split, first_page, formatted, insert, split_operations, split_pages, units, ENOUGH, NONE};
+use super::{before_split, first_page, formatted, insert, split_operations, split_pages, units, BLOCK, ENOUGH, NONE, PAGE, SMALL, TORN};
 use crate::hand::{data, obsolete, reply, write, Hand};
-use model::model::chip::{self, Operation, BLOCK, PAGE, TORN};
+use model::model::chip::{self, Operation};
 use model::model::frame::Frame;
 use model::model::unit::Deed;
 
 /// The report of a block with the image's free pages and a figure.
 fn report(hand: &Hand, block: u32, figure: u64) -> String {
-    let (free, first) = chip::free_pages(&hand.image, block as usize);
+    let (free, first) = chip::free_pages(SMALL, &hand.image, block as usize);
     format!("00{free:02X}{first:02X}{figure:016X}")
 }
 

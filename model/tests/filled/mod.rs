@@ -1,15 +1,15 @@
 //! Stores of the twin for tests: formatted ones, and random updates.
 use model::random::Random;
-use model::twin::chip::{BLOCK, PAGE};
+use model::twin::geometry::SMALL;
 use model::twin::state::State;
 
 /// The torn bytes.
-pub const TORN: [u8; PAGE] = [0x5A; PAGE];
+pub const TORN: [u8; SMALL.page()] = [0x5A; SMALL.page()];
 
 /// A store formatted on a chip of this many blocks.
 pub fn formatted(blocks: usize) -> (State, Vec<u8>) {
-    let (mut state, mut image) = (State::new(), vec![255; blocks * BLOCK]);
-    state.format(&mut image, &TORN, u32::MAX);
+    let (mut state, mut image) = (State::new(), vec![255; blocks * SMALL.block()]);
+    state.format(SMALL, &mut image, &TORN, u32::MAX);
     (state, image)
 }
 

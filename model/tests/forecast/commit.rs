@@ -1,8 +1,8 @@
 //! A commit does what was foretold of it, as long as state and image are the same.
 use super::{answers, forecast};
 use crate::hand::{obsolete, reply, Hand};
-use crate::{before_split, insert, split_operations, split_pages, ENOUGH, NONE};
-use model::model::chip::{Operation, BLOCK, TORN};
+use crate::{before_split, insert, split_operations, split_pages, BLOCK, ENOUGH, NONE, TORN};
+use model::model::chip::Operation;
 use model::model::frame::Frame;
 
 /// The three counts of the commit that splits node 0: two pages and an erase.

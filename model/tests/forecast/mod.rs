@@ -2,9 +2,9 @@
 mod commit;
 mod open;
 
-use super::{before_split, commit_page, first_page, formatted, insert, units, ENOUGH, NONE};
+use super::{before_split, commit_page, first_page, formatted, insert, units, BLOCK, ENOUGH, NONE, PAGE, TORN};
 use crate::hand::{data, reply, write, Hand};
-use model::model::chip::{Operation, BLOCK, PAGE, TORN};
+use model::model::chip::Operation;
 use model::model::frame::Frame;
 use model::model::unit::Deed;
 

@@ -1,5 +1,6 @@
 //! Scripts made by hand for tests of the judge: lines, replies, and images from lists of flash operations.
-use model::model::chip::{self, Operation, BLOCK, OBSOLETE, TORN, USED, VALID};
+use crate::{BLOCK, SMALL, TORN};
+use model::model::chip::{self, Operation, OBSOLETE, USED, VALID};
 use model::model::frame::{line, Frame};
 use model::model::judge::Judge;
 use model::model::unit::{encode, page_data, Deed, Unit, UNIT};
@@ -17,7 +18,7 @@ pub fn counts_of(sum: u32) -> Vec<[u32; 3]> {
 /// The data of a page of a commit, given by number, index, count and the units as node and deed.
 pub fn data(commit: u32, index: u8, count: u8, units: &[(u16, Deed)]) -> Vec<u8> {
     let units: Vec<[u8; UNIT]> = units.iter().map(|(node, deed)| encode(&Unit { node: *node, deed: *deed })).collect();
-    page_data(commit, index, count, &units).to_vec()
+    page_data(SMALL, commit, index, count, &units)
 }
 
 /// The operations that write a page.
@@ -84,10 +85,10 @@ impl Hand {
     pub fn after(&self, operations: &[Operation], allowance: usize) -> Vec<u8> {
         let mut image = self.image.clone();
         for operation in operations.iter().take(allowance) {
-            chip::done(&mut image, operation);
+            chip::done(SMALL, &mut image, operation);
         }
         if let Some(operation) = operations.get(allowance) {
-            chip::torn(&mut image, operation, &self.torn);
+            chip::torn(SMALL, &mut image, operation, &self.torn);
         }
         image
     }

@@ -1,7 +1,7 @@
 //! Lists of calls in which the blocks are reported after each call that writes: the figures are the erases since the start.
-use super::{call, outside, refused_commit, set_torn, Run};
+use super::{call, outside, refused_commit, set_torn, Run, BLOCK, DATA, PAGE, PAGES, SMALL};
 use crate::tiny::Bug;
-use model::model::chip::{self, BLOCK, DATA, PAGE, PAGES};
+use model::model::chip;
 use model::model::erases;
 use model::model::frame::{hexadecimal, Frame};
 use model::random::Random;
@@ -15,7 +15,7 @@ struct Tally {
 /// Whether a block shows an erase: a page that was not free has other data, or another spare byte that is not a mark set.
 fn erased(before: &[u8], after: &[u8], block: usize) -> bool {
     (block * PAGES..(block + 1) * PAGES).any(|place| {
-        let (from, to) = (chip::page(before, place), chip::page(after, place));
+        let (from, to) = (chip::page(SMALL, before, place), chip::page(SMALL, after, place));
         let unset = (DATA..PAGE).any(|at| from[at] != to[at] && to[at] != 0);
         !chip::free(from) && (from[..DATA] != to[..DATA] || unset)
     })

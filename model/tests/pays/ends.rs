@@ -1,8 +1,8 @@
 //! Where the lists of note 8 go on and where they end.
 use super::{erased, List, AGAIN};
 use crate::hand::{data, obsolete, reply, write};
-use crate::{ENOUGH, NONE};
-use model::model::chip::{Operation, PAGES};
+use crate::{ENOUGH, NONE, PAGES};
+use model::model::chip::Operation;
 use model::model::frame::Frame;
 use model::model::unit::Deed;
 

@@ -1,8 +1,8 @@
 //! A commit that reclaims leaves a page free.
 use super::List;
 use crate::hand::{data, reply, write, Hand};
-use crate::{first_page, ENOUGH};
-use model::model::chip::{self, Operation, BLOCK, PAGES};
+use crate::{first_page, BLOCK, ENOUGH, PAGES, SMALL};
+use model::model::chip::{self, Operation};
 use model::model::frame::Frame;
 use model::model::tree::{Node, Tree};
 use model::model::unit::Deed;
@@ -67,7 +67,7 @@ impl Snapshots {
     /// The reply to a commit of these pages, and the image that it leaves.
     fn commit(&self, pages: &[Vec<u8>]) -> (String, Vec<u8>) {
         let block = self.number as usize % BLOCKS;
-        let used = chip::free_pages(&self.hand.image, block).0 < PAGES;
+        let used = chip::free_pages(SMALL, &self.hand.image, block).0 < PAGES;
         let mut operations: Vec<Operation> = used.then_some(Operation::Erase(block)).into_iter().collect();
         for (index, page) in pages.iter().enumerate() {
             operations.extend(write(block * PAGES + index, page));
@@ -87,7 +87,7 @@ impl Snapshots {
 
 /// Free pages of an image.
 fn free(image: &[u8]) -> usize {
-    (0..image.len() / BLOCK).map(|block| chip::free_pages(image, block).0).sum()
+    (0..image.len() / BLOCK).map(|block| chip::free_pages(SMALL, image, block).0).sum()
 }
 
 /// A commit of 32 pages that fills the block it erased, and with it the chip; one page less passes.

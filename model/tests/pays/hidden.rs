@@ -1,6 +1,6 @@
 //! Erases of free blocks, which no image shows: the counts told and the figures of the reports hold them to note 8.
 use super::{erased, List};
-use model::model::chip::PAGES;
+use crate::PAGES;
 
 /// A list on a chip of some blocks whose commits all write into block 0; each tells so many erases, of the other blocks.
 fn hidden(blocks: usize, erases: &[usize]) -> List {

@@ -3,9 +3,9 @@ mod ends;
 mod free;
 mod hidden;
 
-use super::{first_page, ENOUGH, NONE};
+use super::{first_page, BLOCK, ENOUGH, NONE, PAGES, SMALL, TORN};
 use crate::hand::{data, reply, write, Hand};
-use model::model::chip::{self, Operation, BLOCK, PAGES, TORN};
+use model::model::chip::{self, Operation};
 use model::model::frame::Frame;
 use model::model::unit::Deed;
 
@@ -84,7 +84,7 @@ impl List {
 
     /// The report of a block with a figure.
     fn report(&self, block: usize, figure: u64) -> String {
-        let (free, first) = chip::free_pages(&self.hand.image, block);
+        let (free, first) = chip::free_pages(SMALL, &self.hand.image, block);
         format!("00{free:02X}{first:02X}{figure:016X}")
     }
 

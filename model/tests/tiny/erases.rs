@@ -19,7 +19,7 @@ impl Tiny {
 
     /// Counts what a commit did whole; all its erases are of one block.
     pub(super) fn count(&mut self, block: usize, done: Counts) {
-        let blocks = self.lent / super::BLOCK;
+        let blocks = self.lent / self.geometry.block();
         let (at, more) = match self.bug {
             Bug::EraseNotCounted => (block, 0),
             Bug::EraseCountedTwice => (block, 2 * done.erases),

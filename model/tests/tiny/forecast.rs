@@ -1,6 +1,6 @@
 //! The tiny store's forecast, a commit of a copy, and the faults of forecasts and of commits that do otherwise.
 use super::{reply, Bug, Tiny};
-use model::model::chip::{self, Power, BLOCK, PAGES, TORN};
+use model::model::chip::{self, Power};
 use model::model::counts::Counts;
 use model::model::frame::hexadecimal;
 
@@ -22,7 +22,7 @@ impl Tiny {
         let mut copy = self.clone();
         copy.forecasts = 0;
         if !self.is(Bug::ForecastTornSize) {
-            copy.torn_lent = TORN;
+            copy.torn_lent = self.geometry.torn;
         }
         let reply = copy.commit(u32::MAX);
         (hexadecimal(&reply.as_bytes()[..2]).unwrap(), Counts::read(&reply.as_bytes()[2..]).unwrap())
@@ -30,15 +30,15 @@ impl Tiny {
 
     /// The blocks lent that are free.
     fn free_blocks(&self) -> u32 {
-        let free = |block: &usize| chip::free_pages(self.image(), *block).0 == PAGES;
-        (0..self.lent / BLOCK).filter(free).count() as u32
+        let free = |block: &usize| chip::free_pages(self.geometry, self.image(), *block).0 == self.geometry.pages;
+        (0..self.lent / self.geometry.block()).filter(free).count() as u32
     }
 
     /// The answer that a faulty forecast gives in place of the right one.
     fn faulty(&self, (refusal, counts): (u32, Counts)) -> (u32, Counts) {
         let (programs, marks) = (counts.programs, counts.marks);
         let works = refusal == 0 && counts != Counts::NONE;
-        let wrong_size = chip::blocks_of(self.lent).is_none();
+        let wrong_size = self.geometry.blocks_of(self.lent).is_none();
         match self.bug {
             Bug::ForecastPageShort if programs > 1 => (0, Counts { programs: programs - 1, marks: marks - 2, ..counts }),
             Bug::ForecastForgetsErases => (refusal, Counts { erases: 0, ..counts }),

@@ -2,13 +2,14 @@
 mod erases;
 mod forecast;
 
-use model::model::chip::{self, Operation, Power, BLOCK, OBSOLETE, PAGES, TORN, VALID};
+use model::model::chip::{self, Operation, Power, OBSOLETE, VALID};
 use model::model::counts::Counts;
 use model::model::crc::crc32;
 use model::model::frame::{parse, Frame};
+use model::model::geometry::Geometry;
 use model::model::image::{self, meaning, Meaning};
 use model::model::tree::Tree;
-use model::model::unit::{encode, page_data, Deed, Unit, HEAD, ROOM, UNIT};
+use model::model::unit::{encode, page_data, Deed, Unit, HEAD, UNIT};
 
 /// A fault of the store that the judge has to see.
 #[derive(Clone, Copy, Debug, PartialEq, Eq)]
@@ -191,6 +192,7 @@ fn all_erases(counts: Counts) -> Counts {
 /// The tiny probe.
 #[derive(Clone)]
 pub struct Tiny {
+    geometry: Geometry,
     buffer: Vec<u8>,
     lent: usize,
     torn: Vec<u8>,
@@ -207,14 +209,15 @@ pub struct Tiny {
 }
 
 impl Tiny {
-    /// The probe's start, with a fault.
-    pub fn new(bug: Bug) -> Tiny {
-        let (buffer, torn) = (vec![255; 40 * BLOCK], vec![0x5A; 600]);
+    /// The start of a probe whose frames name a geometry, with a fault.
+    pub fn new(geometry: Geometry, bug: Bug) -> Tiny {
+        let (buffer, torn) = (vec![255; 40 * geometry.block()], vec![0x5A; geometry.torn + 72]);
         Tiny {
+            geometry,
             buffer,
-            lent: 3 * BLOCK,
+            lent: 3 * geometry.block(),
             torn,
-            torn_lent: TORN,
+            torn_lent: geometry.torn,
             state: None,
             erases: [0; 32],
             forecasts: 0,
@@ -255,11 +258,11 @@ impl Tiny {
     fn format(&mut self, allowance: u32) -> String {
         let Some(blocks) = self.whole() else { return reply(1, Counts::NONE) };
         let torn = self.torn.clone();
-        let mut power = Power::new(allowance, &torn);
+        let mut power = Power::new(self.geometry, allowance, &torn);
         let image = &mut self.buffer[..self.lent];
         let erased = (0..blocks).all(|block| power.run(image, &Operation::Erase(block)));
         let reset = encode(&Unit { node: 0, deed: Deed::Reset(0) });
-        let finished = erased && chip::write_page(image, &mut power, 0, &page_data(1, 0, 1, &[reset]));
+        let finished = erased && chip::write_page(image, &mut power, 0, &page_data(self.geometry, 1, 0, 1, &[reset]));
         self.state = finished.then(|| State { tree: Tree::leaf(blocks), pending: 0, number: 1, blocks });
         let mut told = power.told();
         self.formatted();
@@ -275,12 +278,12 @@ impl Tiny {
 
     /// The blocks of a right image and torn length.
     fn whole(&self) -> Option<usize> {
-        chip::blocks_of(self.lent).filter(|_| self.torn_lent == TORN)
+        self.geometry.blocks_of(self.lent).filter(|_| self.torn_lent == self.geometry.torn)
     }
 
     /// Refusals 2 and 1.
     fn refused(&self, torn: bool) -> Option<u32> {
-        let blocks = chip::blocks_of(self.lent).filter(|_| !torn || self.torn_lent == TORN);
+        let blocks = self.geometry.blocks_of(self.lent).filter(|_| !torn || self.torn_lent == self.geometry.torn);
         match &self.state {
             None if self.is(Bug::SizeBeforeOff) && blocks.is_none() => Some(1),
             None => Some(2),
@@ -340,7 +343,7 @@ impl Tiny {
         }
         let state = self.state.as_ref().unwrap();
         let path = state.tree.path(key);
-        let lists = meaning(self.image(), state.blocks).map(|means| means.lists).unwrap_or(vec![vec![]; 256]);
+        let lists = meaning(self.geometry, self.image(), state.blocks).map(|means| means.lists).unwrap_or(vec![vec![]; 256]);
         let pages: usize = path.iter().map(|number| lists[*number as usize].len()).sum();
         let pages = pages + self.is(Bug::WrongPagesRead) as usize;
         match state.tree.find(key) {
@@ -357,7 +360,7 @@ impl Tiny {
         if block as usize >= self.state.as_ref().unwrap().blocks {
             return "04".to_string();
         }
-        let (count, first) = chip::free_pages(self.image(), block as usize);
+        let (count, first) = chip::free_pages(self.geometry, self.image(), block as usize);
         if self.is(Bug::WritesOnReport) {
             self.buffer[3000] ^= 4;
         }
@@ -367,12 +370,12 @@ impl Tiny {
 
     /// Show.
     fn show(&mut self, page: u32) -> String {
-        let Some(blocks) = chip::blocks_of(self.lent) else { return "01".to_string() };
-        if page as usize >= blocks * PAGES {
+        let Some(blocks) = self.geometry.blocks_of(self.lent) else { return "01".to_string() };
+        if page as usize >= blocks * self.geometry.pages {
             return "04".to_string();
         }
-        let page = chip::page(self.image(), page as usize);
-        let head = image::own_rules(page, 0).filter(|_| image::live(page));
+        let page = chip::page(self.geometry, self.image(), page as usize);
+        let head = image::own_rules(self.geometry, page, 0).filter(|_| image::live(self.geometry, page));
         let length = head.map_or(0, |head| head.units * UNIT) + (self.is(Bug::ShowTooLong) && head.is_some()) as usize;
         let digits: String = page[HEAD..HEAD + length].iter().map(|byte| format!("{byte:02X}")).collect();
         format!("00{digits}")
@@ -385,7 +388,7 @@ impl Tiny {
             return reply(7, Counts::NONE);
         }
         self.state = None;
-        let mut means = match meaning(self.image(), blocks) {
+        let mut means = match meaning(self.geometry, self.image(), blocks) {
             Ok(means) => means,
             Err(refusal) => return reply(refusal, Counts::NONE),
         };
@@ -393,7 +396,7 @@ impl Tiny {
             means.void.reverse();
         }
         let torn = self.torn.clone();
-        let mut power = Power::new(allowance, &torn);
+        let mut power = Power::new(self.geometry, allowance, &torn);
         let image = &mut self.buffer[..self.lent];
         let finished = means.void.iter().all(|place| power.run(image, &Operation::Mark(*place, OBSOLETE)));
         let mut told = power.told();
@@ -424,15 +427,15 @@ impl Tiny {
         }
         let last = if self.is(Bug::LastNumber) { 7 } else { u32::MAX };
         let pages = self.pages();
-        let block = meaning(self.image(), state.blocks).ok().and_then(|means| self.spent_block(&means));
-        let (Some(block), true, true) = (block, state.number < last, pages.len() <= PAGES) else {
+        let block = meaning(self.geometry, self.image(), state.blocks).ok().and_then(|means| self.spent_block(&means));
+        let (Some(block), true, true) = (block, state.number < last, pages.len() <= self.geometry.pages) else {
             return reply(6, Counts::NONE);
         };
         let number = state.number + 1 - self.is(Bug::SameNumber) as u32;
         self.allowance = allowance;
         let torn = self.torn.clone();
         let allowed = if self.is(Bug::TenAt2000) { allowance.min(3) } else { allowance };
-        let mut power = Power::new(allowed, &torn);
+        let mut power = Power::new(self.geometry, allowed, &torn);
         self.write(&mut power, block, number, &pages);
         self.stray(&power, block);
         self.count(block, power.told());
@@ -442,18 +445,20 @@ impl Tiny {
 
     /// What a faulty commit writes besides its operations.
     fn stray(&mut self, power: &Power, block: usize) {
-        let last = (block * PAGES + PAGES - 1) * 528;
+        let (page, data) = (self.geometry.page(), self.geometry.data);
+        let last = (block + 1) * self.geometry.block() - page;
         if self.is(Bug::ContinuesAfterCut) && power.gone() {
-            self.buffer[last + 512] = 0;
+            self.buffer[last + data] = 0;
         }
-        let dead = (0..self.lent / 528).find(|place| self.buffer[place * 528] != 255 && self.buffer[place * 528 + 513] == 255);
-        if let (Bug::OldPageValid, Some(place)) = (self.bug, dead) {
-            self.buffer[place * 528 + 513..place * 528 + 515].fill(0);
+        let mut starts = (0..self.lent).step_by(page);
+        let dead = starts.find(|start| self.buffer[*start] != 255 && self.buffer[start + data + VALID] == 255);
+        if let (Bug::OldPageValid, Some(start)) = (self.bug, dead) {
+            self.buffer[start + data + VALID..=start + data + OBSOLETE].fill(0);
         }
         if self.is(Bug::PageOfOtherCommit) && !power.gone() {
             let reset = encode(&Unit { node: 0, deed: Deed::Reset(0) });
-            self.buffer[last..last + 512].copy_from_slice(&page_data(1, 7, 8, &[reset]));
-            self.buffer[last + 512..last + 514].fill(0);
+            self.buffer[last..last + data].copy_from_slice(&page_data(self.geometry, 1, 7, 8, &[reset]));
+            self.buffer[last + data..=last + data + VALID].fill(0);
         }
     }
 
@@ -501,7 +506,7 @@ impl Tiny {
             let unit = |deed| encode(&Unit { node: number as u16, deed });
             let mut units = vec![unit(Deed::Reset(node.level))];
             units.extend(node.entries.iter().map(|entry| unit(Deed::Insert(entry.0, entry.1))));
-            if pages.last().unwrap().len() + units.len() > ROOM {
+            if pages.last().unwrap().len() + units.len() > self.geometry.room {
                 pages.push(Vec::new());
             }
             if self.is(Bug::NodeInTwoPages) && number == 0 && units.len() > 1 {
@@ -518,10 +523,10 @@ impl Tiny {
         let state = self.state.as_ref().unwrap();
         let early = self.is(Bug::EraseBeforeCopy);
         (0..state.blocks).rev().find(|block| {
-            let mut places = block * PAGES..(block + 1) * PAGES;
+            let mut places = block * self.geometry.pages..(block + 1) * self.geometry.pages;
             let needed = |place: usize| {
-                let page = chip::page(self.image(), place);
-                let greatest = image::live(page) && page[0..4] == means.greatest.to_le_bytes();
+                let page = chip::page(self.geometry, self.image(), place);
+                let greatest = image::live(self.geometry, page) && page[0..4] == means.greatest.to_le_bytes();
                 greatest || means.lists.iter().any(|list| list.contains(&place))
             };
             early ^ !places.any(needed)
@@ -534,30 +539,31 @@ impl Tiny {
         let in_place = self.is(Bug::ProgramInPlace);
         let spare_byte = self.is(Bug::SpareByteOnCommit);
         let times = 1 + (self.is(Bug::EraseTwice) || self.is(Bug::HiddenEraseNotCounted)) as u32;
-        let erases_free = self.is(Bug::CutWithSum) && self.allowance < 2000;
+        let erases_free = self.is(Bug::CutWithSum) && self.allowance < self.geometry.never_cut;
+        let geometry = self.geometry;
         let image = &mut self.buffer[..self.lent];
-        let blank = !erases_free && (0..PAGES).all(|at| chip::free(chip::page(image, block * PAGES + at)));
-        let torn_mark = in_place || (torn_page && image[block * BLOCK] == 255);
+        let blank = !erases_free && chip::free_pages(geometry, image, block).0 == geometry.pages;
+        let torn_mark = in_place || (torn_page && image[block * geometry.block()] == 255);
         if !blank && !torn_mark && !(0..times).all(|_| power.run(image, &Operation::Erase(block))) {
             return;
         }
         for (index, units) in pages.iter().enumerate() {
-            let data = page_data(number, index as u8, pages.len() as u8, units);
-            if !chip::write_page(image, power, block * PAGES + index, &data) {
+            let data = page_data(geometry, number, index as u8, pages.len() as u8, units);
+            if !chip::write_page(image, power, block * geometry.pages + index, &data) {
                 return;
             }
         }
         if spare_byte {
-            image[block * BLOCK + 512 + 9] = 3;
+            image[block * geometry.block() + geometry.data + 9] = 3;
         }
         self.spend(power, block);
     }
 
     /// Sets the obsolete mark of each live page of the other blocks.
     fn spend(&mut self, power: &mut Power, block: usize) {
-        for place in (0..self.lent / 528).filter(|place| place / PAGES != block) {
-            let page = chip::page(self.image(), place);
-            if chip::mark(page, VALID) != 0 || !image::live(page) {
+        for place in (0..self.lent / self.geometry.page()).filter(|place| place / self.geometry.pages != block) {
+            let page = chip::page(self.geometry, self.image(), place);
+            if chip::mark(self.geometry, page, VALID) != 0 || !image::live(self.geometry, page) {
                 continue;
             }
             if self.leaves_mark(power) || !power.run(&mut self.buffer[..self.lent], &Operation::Mark(place, OBSOLETE)) {
@@ -571,10 +577,10 @@ impl Tiny {
         let bug = self.bug;
         let fits = match frame {
             Frame::Blocks(blocks) => blocks <= 40,
-            Frame::Length(length) => length as usize <= 40 * BLOCK,
+            Frame::Length(length) => length as usize <= self.buffer.len(),
             Frame::SetImage(at, _) => (at as usize) < self.lent,
             Frame::SetTorn(at, _) => (at as usize) < self.torn_lent,
-            Frame::TornLength(length) => length <= 600,
+            Frame::TornLength(length) => length as usize <= self.torn.len(),
             _ => true,
         };
         if !fits {
@@ -583,7 +589,7 @@ impl Tiny {
         match frame {
             Frame::Blocks(blocks) => {
                 self.buffer.fill(255);
-                self.lent = blocks as usize * BLOCK;
+                self.lent = blocks as usize * self.geometry.block();
             }
             Frame::Length(length) => self.lent = length as usize,
             Frame::SetImage(at, byte) => self.buffer[at as usize] = byte,

@@ -1,7 +1,7 @@
 //! Faults of whole pages: steps 1, 2 and 3 of document 01.
 use super::draft::{Draft, Page};
-use crate::model::chip::{DATA, OBSOLETE, PAGE, VALID};
-use crate::model::unit::{HEAD, ROOM, UNIT};
+use crate::model::chip::{OBSOLETE, VALID};
+use crate::model::unit::{HEAD, UNIT};
 use crate::random::Random;
 
 /// A maker of a fault in a draft's pages.
@@ -17,14 +17,14 @@ pub const FAULTS: &[(&str, u32, Maker)] = &[
     ("2: index equal to count", 8, index_is_count),
     ("2: index above count", 8, index_above),
     ("2: unit count 0", 8, no_units),
-    ("2: 43 units", 8, too_many),
+    ("2: a unit more than the room", 8, too_many),
     ("2: unit count of 256 or more", 8, far_too_many),
     ("2: unit count one low", 8, one_low),
     ("2: byte after the units", 8, byte_after),
     ("2: last data byte", 8, last_byte),
     ("2: equal index twice", 8, twice),
     ("2: unequal counts", 8, unequal_counts),
-    ("2: void page of 43 units", 8, void_too_many),
+    ("2: void page, a unit more than the room", 8, void_too_many),
     ("2: void page, byte after the units", 8, void_byte_after),
     ("2: void pages, equal index twice", 8, void_twice),
     ("2: void pages, unequal counts", 8, void_unequal),
@@ -34,7 +34,7 @@ pub const FAULTS: &[(&str, u32, Maker)] = &[
 ];
 
 /// A live page drawn from those that pass a test.
-fn drawn<'a>(draft: &'a mut Draft, random: &mut Random, test: fn(&Page) -> bool) -> Option<&'a mut Page> {
+fn drawn<'a>(draft: &'a mut Draft, random: &mut Random, test: impl Fn(&Page) -> bool) -> Option<&'a mut Page> {
     let fitting: Vec<usize> = (0..draft.pages.len()).filter(|at| test(&draft.pages[*at])).collect();
     if fitting.is_empty() {
         return None;
@@ -44,7 +44,7 @@ fn drawn<'a>(draft: &'a mut Draft, random: &mut Random, test: fn(&Page) -> bool)
 }
 
 /// A change of one page that passes a test.
-fn change(draft: &mut Draft, random: &mut Random, test: fn(&Page) -> bool, change: fn(&mut Page)) -> bool {
+fn change(draft: &mut Draft, random: &mut Random, test: impl Fn(&Page) -> bool, change: impl FnOnce(&mut Page)) -> bool {
     drawn(draft, random, test).map(change).is_some()
 }
 
@@ -97,9 +97,15 @@ fn no_units(draft: &mut Draft, random: &mut Random) -> bool {
     change(draft, random, |page| !page.void, clear)
 }
 
-/// Fault of step 2: 43 units.
+/// A unit count one above the room of a page.
+fn above_room(draft: &Draft) -> u16 {
+    draft.geometry.room as u16 + 1
+}
+
+/// Fault of step 2: a unit more than the room.
 fn too_many(draft: &mut Draft, random: &mut Random) -> bool {
-    change(draft, random, |_| true, |page| page.told = 43)
+    let told = above_room(draft);
+    change(draft, random, |_| true, |page| page.told = told)
 }
 
 /// Fault of step 2: unit count of 256 or more.
@@ -112,11 +118,12 @@ fn one_low(draft: &mut Draft, random: &mut Random) -> bool {
     change(draft, random, |page| page.units.len() > 1, |page| page.told -= 1)
 }
 
-/// Sets a byte after the units of a page that passes a test.
+/// Sets a byte after the units of a page that passes a test and has room for more.
 fn set_after(draft: &mut Draft, random: &mut Random, test: fn(&Page) -> bool) -> bool {
-    let Some(page) = drawn(draft, random, test) else { return false };
-    let from = HEAD + page.units.len() * UNIT;
-    let at = page.place * PAGE + from + random.index(DATA - from);
+    let geometry = draft.geometry;
+    let Some(page) = drawn(draft, random, |page| test(page) && page.has_room(geometry)) else { return false };
+    let (place, from) = (page.place, HEAD + page.units.len() * UNIT);
+    let at = draft.offset(place) + from + random.index(geometry.data - from);
     let byte = [0, 254, 1][random.index(3)];
     draft.patches.push((at, byte));
     true
@@ -124,14 +131,15 @@ fn set_after(draft: &mut Draft, random: &mut Random, test: fn(&Page) -> bool) ->
 
 /// Fault of step 2: byte after the units.
 fn byte_after(draft: &mut Draft, random: &mut Random) -> bool {
-    set_after(draft, random, |page| page.units.len() < ROOM)
+    set_after(draft, random, |_| true)
 }
 
 /// Fault of step 2: last data byte.
 fn last_byte(draft: &mut Draft, random: &mut Random) -> bool {
-    let Some(page) = drawn(draft, random, |page| page.units.len() < ROOM) else { return false };
-    let at = page.place * PAGE + DATA - 1;
-    draft.patches.push((at, 254));
+    let geometry = draft.geometry;
+    let Some(page) = drawn(draft, random, |page| page.has_room(geometry)) else { return false };
+    let place = page.place;
+    draft.patches.push((draft.offset(place) + geometry.data - 1, 254));
     true
 }
 
@@ -167,14 +175,15 @@ fn unequal_counts(draft: &mut Draft, random: &mut Random) -> bool {
     other_count(draft, random, false)
 }
 
-/// Fault of step 2: void page of 43 units.
+/// Fault of step 2: void page, a unit more than the room.
 fn void_too_many(draft: &mut Draft, random: &mut Random) -> bool {
-    change(draft, random, |page| page.void, |page| page.told = 43)
+    let told = above_room(draft);
+    change(draft, random, |page| page.void, |page| page.told = told)
 }
 
 /// Fault of step 2: void page, byte after the units.
 fn void_byte_after(draft: &mut Draft, random: &mut Random) -> bool {
-    set_after(draft, random, |page| page.void && page.units.len() < ROOM)
+    set_after(draft, random, |page| page.void)
 }
 
 /// Fault of step 2: void pages, equal index twice.

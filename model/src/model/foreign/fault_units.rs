@@ -3,7 +3,7 @@ use super::draft::Draft;
 use super::fault_pages::Maker;
 use crate::model::image::{self, Meaning};
 use crate::model::tree::FULL;
-use crate::model::unit::{self, Deed, Unit, ROOM, UNIT};
+use crate::model::unit::{self, Deed, Unit, UNIT};
 use crate::random::Random;
 
 /// Faults of steps 4 and 5: name, refusal, maker.
@@ -31,12 +31,17 @@ pub const FAULTS: &[(&str, u32, Maker)] = &[
 
 /// The meaning of a draft that is not damaged yet.
 fn meaning(draft: &Draft) -> Option<Meaning> {
-    image::meaning(&draft.render(), draft.blocks).ok()
+    image::meaning(draft.geometry, &draft.render(), draft.blocks).ok()
+}
+
+/// Positions of the standing pages with room for a further unit.
+fn with_room(draft: &Draft) -> Vec<usize> {
+    draft.standing().into_iter().filter(|at| draft.pages[*at].has_room(draft.geometry)).collect()
 }
 
 /// Adds a delete of an absent key after a unit of the same node in the same page: page position and unit position.
 fn harmless(draft: &mut Draft, random: &mut Random) -> Option<(usize, usize)> {
-    let fitting: Vec<usize> = draft.standing().into_iter().filter(|at| draft.pages[*at].has_room()).collect();
+    let fitting = with_room(draft);
     if fitting.is_empty() {
         return None;
     }
@@ -148,7 +153,7 @@ fn node_high(draft: &mut Draft, random: &mut Random) -> bool {
 
 /// Fault of step 4: unit count one high.
 fn one_high(draft: &mut Draft, random: &mut Random) -> bool {
-    let fitting: Vec<usize> = draft.standing().into_iter().filter(|at| draft.pages[*at].units.len() < ROOM).collect();
+    let fitting = with_room(draft);
     if fitting.is_empty() {
         return false;
     }

@@ -1,25 +1,26 @@
 //! Writes a tree over several commits: units that later resets override, replaced keys, deletes of absent keys,
 //! nodes spread over up to 4 pages, pages at random places among rubbish.
 use super::draft::{self, Draft, Page};
-use crate::model::chip::{DATA, OBSOLETE, PAGE, PAGES, VALID};
+use crate::model::chip::{OBSOLETE, USED, VALID};
+use crate::model::geometry::Geometry;
 use crate::model::tree::{Node, Tree, FULL};
-use crate::model::unit::{self, Deed, Unit, ROOM, UNIT};
+use crate::model::unit::{self, Deed, Unit, UNIT};
 use crate::random::Random;
 use std::collections::BTreeMap;
 
 /// A draft whose meaning is a given tree, if the tree obeys step 6.
-pub fn draft(random: &mut Random, blocks: usize, tree: &Tree) -> Draft {
+pub fn draft(random: &mut Random, geometry: Geometry, blocks: usize, tree: &Tree) -> Draft {
     loop {
-        if let Some(slots) = slots(random, blocks, tree) {
-            let mut pages = commits(random, slots);
-            pages.extend(void_commit(random, &pages, blocks));
-            let mut places: Vec<usize> = (0..blocks * PAGES).collect();
+        if let Some(slots) = slots(random, geometry, blocks, tree) {
+            let mut pages = commits(random, geometry, slots);
+            pages.extend(void_commit(random, geometry, &pages, blocks));
+            let mut places: Vec<usize> = (0..blocks * geometry.pages).collect();
             random.shuffle(&mut places);
             for (page, place) in pages.iter_mut().zip(&places) {
                 page.place = *place;
             }
-            let others = rubbish(random, &places[pages.len()..], blocks);
-            return Draft { blocks, pages, others, patches: Vec::new() };
+            let others = rubbish(random, geometry, &places[pages.len()..], blocks);
+            return Draft { geometry, blocks, pages, others, patches: Vec::new() };
         }
     }
 }
@@ -76,9 +77,9 @@ fn spent_units(random: &mut Random, number: u16) -> Vec<Unit> {
 }
 
 /// Pages' worth of units in order that make a tree; none when a node found no room.
-fn slots(random: &mut Random, blocks: usize, tree: &Tree) -> Option<Vec<Vec<Unit>>> {
+fn slots(random: &mut Random, geometry: Geometry, blocks: usize, tree: &Tree) -> Option<Vec<Vec<Unit>>> {
     let nodes = tree.nodes.iter().flatten().count();
-    let most = blocks * PAGES * 3 / 4;
+    let most = blocks * geometry.pages * 3 / 4;
     let least = nodes + 1;
     let mut slots = vec![Vec::new(); (least + random.index(2 * least)).min(most)];
     let mut order: Vec<usize> = (0..tree.nodes.len()).filter(|number| tree.nodes[*number].is_some()).collect();
@@ -86,10 +87,10 @@ fn slots(random: &mut Random, blocks: usize, tree: &Tree) -> Option<Vec<Vec<Unit
     for number in order {
         let node = tree.nodes[number].as_ref()?;
         let units = view_units(random, number as u16, node);
-        let first = spread(random, &mut slots, &units)?;
+        let first = spread(random, geometry, &mut slots, &units)?;
         let spent = spent_units(random, number as u16);
         let early = random.index(first + 1);
-        if slots[early].len() + spent.len() <= ROOM {
+        if slots[early].len() + spent.len() <= geometry.room {
             slots[early].splice(0..0, spent);
         }
     }
@@ -98,7 +99,7 @@ fn slots(random: &mut Random, blocks: usize, tree: &Tree) -> Option<Vec<Vec<Unit
 }
 
 /// Spreads a node's view over 1 to 4 slots in order; answers the first of them, none when there is no room.
-fn spread(random: &mut Random, slots: &mut [Vec<Unit>], units: &[Unit]) -> Option<usize> {
+fn spread(random: &mut Random, geometry: Geometry, slots: &mut [Vec<Unit>], units: &[Unit]) -> Option<usize> {
     for attempt in 0..60 {
         let parts = if attempt < 40 { 1 + random.index(4.min(units.len())) } else { 1 };
         let mut chosen: Vec<usize> = (0..parts).map(|_| random.index(slots.len())).collect();
@@ -111,7 +112,7 @@ fn spread(random: &mut Random, slots: &mut [Vec<Unit>], units: &[Unit]) -> Optio
         for (at, slot) in chosen.iter().enumerate() {
             lengths[*slot] += cuts[at + 1] - cuts[at];
         }
-        if chosen.iter().any(|slot| lengths[*slot] > ROOM) {
+        if chosen.iter().any(|slot| lengths[*slot] > geometry.room) {
             continue;
         }
         for (at, slot) in chosen.iter().enumerate() {
@@ -124,7 +125,7 @@ fn spread(random: &mut Random, slots: &mut [Vec<Unit>], units: &[Unit]) -> Optio
 }
 
 /// Divides slots into commits of one or more pages. Older commits may lack pages, the last is whole.
-fn commits(random: &mut Random, slots: Vec<Vec<Unit>>) -> Vec<Page> {
+fn commits(random: &mut Random, geometry: Geometry, slots: Vec<Vec<Unit>>) -> Vec<Page> {
     let mut pages = Vec::new();
     let total = slots.len();
     let mut number = match random.below(4) {
@@ -142,7 +143,7 @@ fn commits(random: &mut Random, slots: Vec<Vec<Unit>>) -> Vec<Page> {
         }
         let (indexes, count) = indexes(random, run.len(), last);
         for (units, index) in run.into_iter().zip(indexes) {
-            pages.push(Page::new(random, number, index, count, units.iter().map(unit::encode).collect()));
+            pages.push(Page::new(random, geometry, number, index, count, units.iter().map(unit::encode).collect()));
         }
     }
     pages
@@ -163,11 +164,11 @@ fn indexes(random: &mut Random, pages: usize, whole: bool) -> (Vec<u8>, u8) {
 }
 
 /// Pages of a commit above all others that lacks an index; their units may be anything.
-fn void_commit(random: &mut Random, pages: &[Page], blocks: usize) -> Vec<Page> {
+fn void_commit(random: &mut Random, geometry: Geometry, pages: &[Page], blocks: usize) -> Vec<Page> {
     let greatest = pages.last().map_or(0, |page| page.commit);
     let number = greatest.checked_add(1 + random.below(3) as u32);
     let (Some(number), true) = (number, random.once_in(2)) else { return Vec::new() };
-    let room = blocks * PAGES - pages.len();
+    let room = blocks * geometry.pages - pages.len();
     let most = if random.once_in(8) { room.min(254) } else { room.min(4) };
     let held = 1 + random.index(most);
     let count = (held + 1 + random.index(3)).min(255);
@@ -175,12 +176,17 @@ fn void_commit(random: &mut Random, pages: &[Page], blocks: usize) -> Vec<Page> 
     random.shuffle(&mut all);
     let mut void = Vec::new();
     for index in &all[..held] {
-        let units = (0..1 + random.index(ROOM)).map(|_| any_unit(random, blocks)).collect();
-        let mut page = Page::new(random, number, *index, count as u8, units);
+        let units = any_units(random, geometry, blocks);
+        let mut page = Page::new(random, geometry, number, *index, count as u8, units);
         page.void = true;
         void.push(page);
     }
     void
+}
+
+/// From one unit to as many as a page has room for, each as it comes.
+fn any_units(random: &mut Random, geometry: Geometry, blocks: usize) -> Vec<[u8; UNIT]> {
+    (0..1 + random.index(geometry.room)).map(|_| any_unit(random, blocks)).collect()
 }
 
 /// Twelve bytes: a unit that obeys the layout, or any bytes.
@@ -197,31 +203,32 @@ fn any_unit(random: &mut Random, blocks: usize) -> [u8; UNIT] {
 }
 
 /// Pages that are not live, at some of the places: rubbish, or the looks of a page of a commit.
-fn rubbish(random: &mut Random, places: &[usize], blocks: usize) -> Vec<(usize, [u8; PAGE])> {
+fn rubbish(random: &mut Random, geometry: Geometry, places: &[usize], blocks: usize) -> Vec<(usize, Vec<u8>)> {
     let mut others = Vec::new();
     let most = 1 + random.below(4);
     for place in places {
         if random.below(5) < most {
-            others.push((*place, dead_page(random, blocks)));
+            others.push((*place, dead_page(random, geometry, blocks)));
         }
     }
     others
 }
 
 /// A page that is not live: its valid mark is not set, or its obsolete mark is.
-fn dead_page(random: &mut Random, blocks: usize) -> [u8; PAGE] {
-    let mut page: [u8; PAGE] = std::array::from_fn(|_| random.byte());
+fn dead_page(random: &mut Random, geometry: Geometry, blocks: usize) -> Vec<u8> {
+    let mut page: Vec<u8> = (0..geometry.page()).map(|_| random.byte()).collect();
+    let (data, spare) = page.split_at_mut(geometry.data);
     if random.once_in(2) {
-        let units: Vec<[u8; UNIT]> = (0..1 + random.index(ROOM)).map(|_| any_unit(random, blocks)).collect();
-        page[..DATA].copy_from_slice(&unit::page_data(random.below(9) as u32 + 1, 0, 1, &units));
-        page[DATA..].fill(255);
-        page[DATA] = 0;
+        let units = any_units(random, geometry, blocks);
+        data.copy_from_slice(&unit::page_data(geometry, random.below(9) as u32 + 1, 0, 1, &units));
+        spare.fill(255);
+        spare[USED] = 0;
     }
     if random.once_in(2) {
-        page[DATA + OBSOLETE] = 0;
-        page[DATA + VALID] = 0;
+        spare[OBSOLETE] = 0;
+        spare[VALID] = 0;
     } else {
-        page[DATA + VALID] = draft::unset(random);
+        spare[VALID] = draft::unset(random);
     }
     page
 }

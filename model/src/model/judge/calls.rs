@@ -1,8 +1,9 @@
 //! Insert, delete, look up, block report and show: calls that write no image byte.
 use super::{expect, two, Judge};
-use crate::model::chip::{self, PAGES};
+use crate::model::chip;
 use crate::model::erases;
 use crate::model::frame;
+use crate::model::geometry::Geometry;
 use crate::model::image;
 use crate::model::plain::{Answer, Call, ABSENT, NO_ROOM, PENDING, SIZE};
 use crate::model::unit::{HEAD, UNIT};
@@ -70,7 +71,7 @@ impl Judge {
         if block as usize >= self.plain.blocks {
             return expect(reply, &two(ABSENT));
         }
-        let (count, first) = chip::free_pages(self.image(), block as usize);
+        let (count, first) = chip::free_pages(self.plain.geometry, self.image(), block as usize);
         let free = format!("00{count:02X}{first:02X}");
         let figure = reply.strip_prefix(&free).and_then(|digits| erases::read(digits.as_bytes()));
         let figure = figure.ok_or_else(|| format!("{free} and 16 digits expected"))?;
@@ -83,23 +84,24 @@ impl Judge {
 
     /// Show: the units of a live page that passes its own rules in step 2, else an empty part.
     pub(super) fn show(&mut self, page: u32, reply: &str) -> Result<(), String> {
-        let Some(blocks) = chip::blocks_of(self.lent) else {
+        let geometry = self.named;
+        let Some(blocks) = geometry.blocks_of(self.lent) else {
             return expect(reply, &two(SIZE));
         };
-        if page as usize >= blocks * PAGES {
+        if page as usize >= blocks * geometry.pages {
             return expect(reply, &two(ABSENT));
         }
-        expect(reply, &format!("00{}", shown(chip::page(self.image(), page as usize))))
+        expect(reply, &format!("00{}", shown(geometry, chip::page(geometry, self.image(), page as usize))))
     }
 }
 
 /// The part of a page that show hands back, in hexadecimal.
-pub fn shown(page: &[u8]) -> String {
+pub fn shown(geometry: Geometry, page: &[u8]) -> String {
     let mut digits = String::new();
-    if !image::live(page) {
+    if !image::live(geometry, page) {
         return digits;
     }
-    let Some(head) = image::own_rules(page, 0) else { return digits };
+    let Some(head) = image::own_rules(geometry, page, 0) else { return digits };
     for byte in &page[HEAD..HEAD + head.units * UNIT] {
         write!(digits, "{byte:02X}").expect("a string takes all digits");
     }

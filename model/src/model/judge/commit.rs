@@ -2,12 +2,12 @@
 use super::calls::refusal_of;
 use super::legal::Change;
 use super::{expect, told, Judge, Shared};
-use crate::model::chip::TORN;
 use crate::model::counts::Counts;
 use crate::model::erases::Erases;
+use crate::model::geometry::Geometry;
 use crate::model::image::{self, Meaning};
 use crate::model::pays;
-use crate::model::plain::{Call, LAST_NUMBER, NEVER_CUT, POWER};
+use crate::model::plain::{Call, LAST_NUMBER, POWER};
 use std::rc::Rc;
 
 /// Digits of the three counts.
@@ -71,13 +71,14 @@ impl Judge {
     /// A commit of a list, with something pending and a number left: finished or cut as document 01 says.
     fn list_commit(&mut self, told: &Told, image: &[u8]) -> Result<(), String> {
         let cut = told.refusal == POWER;
-        held_operations(told)?;
-        let means = image::meaning(image, self.plain.blocks).map_err(|n| format!("after it the image means refusal {n}"))?;
+        held_operations(self.plain.geometry, told)?;
+        let means = self.means(image)?;
         let chosen = self.chosen(&means, cut)?;
         let change = Change {
+            geometry: self.plain.geometry,
             before: self.image(),
             after: image,
-            torn: &self.torn[..TORN],
+            torn: &self.torn[..self.plain.geometry.torn],
             number: self.plain.number + 1,
             blocks: self.plain.blocks,
             cut,
@@ -98,9 +99,14 @@ impl Judge {
             self.erases = self.erases.and(erases);
             return Ok(());
         };
-        pays::leaves_a_page(told.erases, image)?;
+        pays::leaves_a_page(self.plain.geometry, told.erases, image)?;
         self.erases = list.commit(&self.erases, erases)?;
         Ok(())
+    }
+
+    /// What the image after a commit means with the store's geometry.
+    fn means(&self, image: &[u8]) -> Result<Meaning, String> {
+        image::meaning(self.plain.geometry, image, self.plain.blocks).map_err(|n| format!("after it the image means refusal {n}"))
     }
 
     /// Whether the image means P with G + 1; else it means K with G, which only a cut commit may leave.
@@ -130,7 +136,7 @@ impl Judge {
             self.take(image, None, false);
             return Ok(());
         }
-        let means = image::meaning(image, self.plain.blocks).map_err(|n| format!("after it the image means refusal {n}"))?;
+        let means = self.means(image)?;
         if Some(means.greatest) != self.plain.number.checked_add(1) || means.tree != self.plain.present {
             return Err("after it the image does not mean P with G + 1".to_string());
         }
@@ -161,7 +167,7 @@ impl Judge {
         if let (true, Some(meaning)) = (finished, &meaning) {
             self.ground = meaning.clone();
         }
-        self.meaning = meaning;
+        self.meaning = meaning.map(|meaning| (self.plain.geometry, meaning));
     }
 }
 
@@ -176,13 +182,14 @@ pub(super) fn three(reply: &str, refusals: &[u32]) -> Result<(u32, Counts), Stri
     Ok((refusal, counts))
 }
 
-/// The sum of the counts told by a commit of a list: the allowance when cut, never with 2,000 or more; else at most 2,000.
-fn held_operations(told: &Told) -> Result<(), String> {
-    let operations = told.counts.sum();
+/// The sum of the counts told by a commit of a list: the allowance when cut, never with the bound of 2,000 or 4,000; else at most the
+/// bound.
+fn held_operations(geometry: Geometry, told: &Told) -> Result<(), String> {
+    let (operations, bound) = (told.counts.sum(), geometry.never_cut);
     match told.refusal {
-        0 if operations > NEVER_CUT as u64 => Err("a commit of more than 2,000 operations".to_string()),
+        0 if operations > bound as u64 => Err(format!("a commit of more than {bound} operations")),
         0 => Ok(()),
-        POWER if told.allowance >= NEVER_CUT => Err("cut with an allowance of 2,000 or more".to_string()),
+        POWER if told.allowance >= bound => Err(format!("cut with an allowance of {bound} or more")),
         POWER if operations != told.allowance as u64 => Err("cut, but the counts do not add up to the allowance".to_string()),
         POWER => Ok(()),
         _ => Err("a refusal that does not hold".to_string()),

@@ -1,9 +1,9 @@
 //! Forecast, note 10 of document 02: what it answers, and what it foretells of a commit on the same state and image.
 use super::commit::{three, Told};
 use super::{expect, told, Judge};
-use crate::model::chip::{self, PAGES};
+use crate::model::chip;
 use crate::model::counts::Counts;
-use crate::model::plain::{LAST_NUMBER, NEVER_CUT};
+use crate::model::plain::LAST_NUMBER;
 
 /// The most pages of a commit: its page count is a byte.
 const MOST_PAGES: u32 = 255;
@@ -49,7 +49,8 @@ impl Judge {
         self.foretell(refusal, counts)
     }
 
-    /// A forecast of a list, with something pending and a number left: a commit of 1 to 255 pages and at most 2,000 operations.
+    /// A forecast of a list, with something pending and a number left: a commit of 1 to 255 pages and at most the bound
+    /// of operations.
     fn list_forecast(&self, refusal: u32, counts: Counts) -> Result<(), String> {
         if refusal != 0 {
             return Err("a refusal that does not hold".to_string());
@@ -57,11 +58,12 @@ impl Judge {
         if !(1..=MOST_PAGES).contains(&counts.programs) {
             return Err("not 1 to 255 pages".to_string());
         }
-        if counts.sum() > NEVER_CUT as u64 {
-            return Err("a commit of more than 2,000 operations".to_string());
+        let geometry = self.plain.geometry;
+        if counts.sum() > geometry.never_cut as u64 {
+            return Err(format!("a commit of more than {} operations", geometry.never_cut));
         }
-        let free = (0..self.plain.blocks).map(|block| chip::free_pages(self.image(), block).0);
-        let others: Vec<usize> = free.map(|free| PAGES - free).collect();
+        let free = (0..self.plain.blocks).map(|block| chip::free_pages(geometry, self.image(), block).0);
+        let others: Vec<usize> = free.map(|free| geometry.pages - free).collect();
         hold_marks(counts, &others)?;
         self.hold_room(counts, others)
     }
@@ -71,7 +73,7 @@ impl Judge {
     fn hold_room(&self, counts: Counts, mut others: Vec<usize>) -> Result<(), String> {
         others.sort_unstable();
         let kept = others.len().saturating_sub(counts.erases as usize);
-        let room = self.plain.blocks * PAGES - others[..kept].iter().sum::<usize>();
+        let room = self.plain.blocks * self.plain.geometry.pages - others[..kept].iter().sum::<usize>();
         let left = self.pays.is_some() && counts.erases > 0;
         if counts.programs as usize + left as usize > room {
             return Err(format!("there is room for {room} pages"));

@@ -1,6 +1,5 @@
 //! Frames 10 to 16 of the probe: what they lend, set and sum.
-use super::{Judge, BUFFER, TORN_BUFFER};
-use crate::model::chip::BLOCK;
+use super::Judge;
 use crate::model::crc;
 use crate::model::frame::Frame;
 
@@ -19,21 +18,21 @@ impl Judge {
         if done { "00" } else { "FF" }.to_string()
     }
 
-    /// Frame 10: an image of that many blocks, all bytes 255.
+    /// Frame 10: an image of that many blocks of the geometry named, all bytes 255.
     fn lend_blocks(&mut self, blocks: usize) -> bool {
-        if blocks > BUFFER / BLOCK {
+        if blocks > self.buffer.len() / self.named.block() {
             return false;
         }
         self.touch();
         self.pays = None;
         self.buffer.fill(255);
-        self.lent = blocks * BLOCK;
+        self.lent = blocks * self.named.block();
         true
     }
 
     /// Frame 11: that many bytes of the image.
     fn lend_length(&mut self, length: usize) -> bool {
-        if length > BUFFER {
+        if length > self.buffer.len() {
             return false;
         }
         if length != self.lent {
@@ -67,7 +66,7 @@ impl Judge {
 
     /// Frame 14: that many torn bytes.
     fn lend_torn(&mut self, length: usize) -> bool {
-        if length > TORN_BUFFER {
+        if length > self.torn.len() {
             return false;
         }
         self.torn_lent = length;

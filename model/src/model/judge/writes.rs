@@ -1,8 +1,9 @@
 //! Format and mount: predicted whole for every image, finished or cut.
 use super::{told, Judge, Shared};
-use crate::model::chip::{self, Operation, Power, OBSOLETE, TORN};
+use crate::model::chip::{self, Operation, Power, OBSOLETE};
 use crate::model::counts::Counts;
 use crate::model::erases::Erases;
+use crate::model::geometry::Geometry;
 use crate::model::image::Meaning;
 use crate::model::pays::Pays;
 use crate::model::plain::{Call, Plain, POWER};
@@ -10,14 +11,14 @@ use crate::model::unit::{self, Deed, Unit};
 use std::rc::Rc;
 
 /// Format's operations: erases all blocks, lowest first, then writes commit 1 into the first page of block 0.
-pub fn format(image: &mut [u8], blocks: usize, power: &mut Power) {
+pub fn format(geometry: Geometry, image: &mut [u8], blocks: usize, power: &mut Power) {
     for block in 0..blocks {
         if !power.run(image, &Operation::Erase(block)) {
             return;
         }
     }
     let reset = unit::encode(&Unit { node: 0, deed: Deed::Reset(0) });
-    chip::write_page(image, power, 0, &unit::page_data(1, 0, 1, &[reset]));
+    chip::write_page(image, power, 0, &unit::page_data(geometry, 1, 0, 1, &[reset]));
 }
 
 /// Mount's operations: sets the obsolete mark of void pages, lowest place first.
@@ -30,16 +31,17 @@ pub fn spend(image: &mut [u8], void: &[usize], power: &mut Power) {
 }
 
 impl Judge {
-    /// Format: does it on the judge's image and answers the reply.
+    /// Format, which names the geometry: does it on the judge's image and answers the reply.
     pub(super) fn format(&mut self, allowance: u32) -> String {
-        if let Some(refusal) = Plain::size(self.lengths()) {
+        let geometry = self.named;
+        if let Some(refusal) = Plain::size(geometry, self.lengths()) {
             return told(refusal, Counts::NONE);
         }
-        let blocks = chip::blocks_of(self.lent).unwrap_or(0);
-        let mut power = Power::new(allowance, &self.torn[..TORN]);
-        format(&mut self.buffer[..self.lent], blocks, &mut power);
+        let blocks = geometry.blocks_of(self.lent).unwrap_or(0);
+        let mut power = Power::new(geometry, allowance, &self.torn[..geometry.torn]);
+        format(geometry, &mut self.buffer[..self.lent], blocks, &mut power);
         let (cut, counts) = (power.gone(), power.told());
-        self.plain.call(Call::Format(allowance), self.lengths(), cut, false);
+        self.plain.call(Call::Format(geometry, allowance), self.lengths(), cut, false);
         self.changed();
         self.leave();
         self.begun = !cut;
@@ -53,13 +55,14 @@ impl Judge {
         told(0, counts)
     }
 
-    /// Mount: does it on the judge's image and answers the reply.
+    /// Mount, which names the geometry: does it on the judge's image and answers the reply. Where it names another one than the last
+    /// finished format, the chip is as one that no format began.
     pub(super) fn mount(&mut self, allowance: u32) -> Result<String, String> {
-        if let Some(refusal) = Plain::size(self.lengths()) {
+        if let Some(refusal) = Plain::size(self.named, self.lengths()) {
             return Ok(told(refusal, Counts::NONE));
         }
         let meaning = self.read();
-        self.begun &= self.aligned();
+        self.begun &= self.aligned() && self.named == self.plain.geometry;
         self.pays.take_if(|_| !self.begun);
         self.leave();
         match &*meaning {
@@ -77,7 +80,7 @@ impl Judge {
         if self.begun && (self.plain.kept != means.tree || self.plain.number != means.greatest) {
             return Err("the image of a list does not mean K with G".to_string());
         }
-        let mut power = Power::new(allowance, &self.torn[..TORN]);
+        let mut power = Power::new(self.named, allowance, &self.torn[..self.named.torn]);
         spend(&mut self.buffer[..self.lent], &means.void, &mut power);
         let (cut, counts) = (power.gone(), power.told());
         if !means.void.is_empty() {
@@ -94,20 +97,20 @@ impl Judge {
         self.ground = shared.clone();
         if !means.void.is_empty() {
             self.ground = Rc::new(Ok(Meaning { void: Vec::new(), ..means.clone() }));
-            self.meaning = Some(self.ground.clone());
+            self.meaning = Some((self.named, self.ground.clone()));
         }
         Ok(told(0, counts))
     }
 
     /// The plain store after a finished or cut mount.
     fn mounted(&mut self, allowance: u32, means: &Meaning, cut: bool) {
-        let lengths = self.lengths();
+        let (geometry, lengths) = (self.named, self.lengths());
         if self.begun {
-            self.plain.call(Call::Mount(allowance), lengths, cut, false);
+            self.plain.call(Call::Mount(geometry, allowance), lengths, cut, false);
         } else if cut {
             self.plain.on = false;
         } else {
-            self.plain = Plain::mounted(&means.tree, means.greatest, chip::blocks_of(lengths.image).unwrap_or(0));
+            self.plain = Plain::mounted(geometry, &means.tree, means.greatest, geometry.blocks_of(lengths.image).unwrap_or(0));
         }
     }
 }
