@@ -7,6 +7,7 @@ ghost use Rattle.store.specs.Parts.{joined};
 use crate::admit;
 use crate::admit::Admission;
 use crate::answer::Look;
+use crate::scope;
 use crate::state;
 use crate::state::Numbers;
 use crate::state::State;
@@ -29,7 +30,7 @@ pub fn look_up_lent<'a>(
         Admission::Off => Look::Off,
         Admission::Size => Look::Size,
         Admission::Passes => {
-            let scope = state::scope_of(SMALL, numbers);
+            let scope = scope::scope_of(SMALL, numbers);
             let looked = find::find(image, lens, slots, buffer, scope, key);
             let pages = looked.pages;
             let hit = looked.hit;

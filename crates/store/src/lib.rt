@@ -9,6 +9,7 @@ pub mod forecast;
 pub mod format;
 pub mod mount;
 pub mod report;
+mod scope;
 pub mod show;
 pub mod state;
 pub mod step;

@@ -1,12 +1,9 @@
 // The state that each call gets by value and gives back.
 ghost use mathlib.Core.Path.{_≡_};
-ghost use Prim.Native.Nat.{_≤_};
 ghost use Rattle.store.specs.State.{initial};
-ghost use Rattle.store.specs.Parts.{numbersOf, numbersOff, joined, scopeOf, updatedWith, wroteWith};
+ghost use Rattle.store.specs.Parts.{numbersOf, numbersOff, joined, updatedWith, wroteWith};
 use crate::answer::Answer;
-use chip::geometry::Geometry;
 use chip::progress::Counts;
-use views::view::Scope;
 
 // The most units that the buffer holds.
 pub const UNITS: usize = 960;
@@ -101,18 +98,6 @@ pub fn numbers_of(state: State) -> Numbers
         pending: state.pending,
         next: state.next,
         count: state.count,
-    }
-}
-
-// What the nodes of a state with these numbers are read with.
-pub fn scope_of(geometry: Geometry, numbers: Numbers) -> Scope
-    requires { ⌜ numbers .blocks ≤ 32 ⌝ }
-    ensures { λ r. ⌜ r ≡ scopeOf geometry numbers ⌝ }
-{
-    Scope {
-        geometry,
-        count: numbers.count,
-        limit: (8 * numbers.blocks) as u32,
     }
 }
 

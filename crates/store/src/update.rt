@@ -10,6 +10,7 @@ ghost use Rattle.store.specs.UpdateCode.{InsertsIn, DeletesIn};
 use crate::admit;
 use crate::answer;
 use crate::answer::Answer;
+use crate::scope;
 use crate::state;
 use crate::state::Numbers;
 use crate::state::State;
@@ -46,7 +47,7 @@ fn insert_admitted<'a>(
             numbers,
         };
     }
-    let scope = state::scope_of(geometry, numbers);
+    let scope = scope::scope_of(geometry, numbers);
     let next = numbers.next;
     let r = insert::insert(image, lens, slots, buffer, scope, next, key, value);
     if r.refused {
@@ -85,7 +86,7 @@ fn delete_admitted<'a>(
             numbers,
         };
     }
-    let scope = state::scope_of(geometry, numbers);
+    let scope = scope::scope_of(geometry, numbers);
     let looked = find::find(image, lens, slots, buffer, scope, key);
     let hit = looked.hit;
     match hit {
