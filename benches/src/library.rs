@@ -3,11 +3,14 @@
 use model::twin::told::{Counts, Told};
 
 /// The parts of a state: its numbers, the lengths and the pages of the lists, the erases of each block, the reservation buffer.
-type Numbers = [u32; 6];
+type Numbers = [u32; 7];
 type Lens = [u32; 256];
 type Slots = [u32; 1024];
 type Erases = [u64; 32];
 type Buffer = [u8; 11520];
+
+/// The number of the small part, which format and mount take.
+const SMALL: u32 = 0;
 
 /// What a call counts: data programs, marks set, erases.
 type Ops = [u32; 3];
@@ -59,6 +62,7 @@ extern "C" {
         image_len: usize,
         torn: *const u8,
         torn_len: usize,
+        part: u32,
         allowance: u32,
         ops: &mut Ops,
     ) -> u32;
@@ -71,6 +75,7 @@ extern "C" {
         image_len: usize,
         torn: *const u8,
         torn_len: usize,
+        part: u32,
         allowance: u32,
         ops: &mut Ops,
     ) -> u32;
@@ -122,7 +127,7 @@ fn told(refusal: u32, [programs, marks, erases]: Ops) -> Told {
 impl Library {
     /// A state that is off.
     pub fn new() -> Library {
-        Library { numbers: [0; 6], lens: Box::new([0; 256]), slots: Box::new([0; 1024]), erases: [0; 32], buffer: Box::new([0; 11520]) }
+        Library { numbers: [0; 7], lens: Box::new([0; 256]), slots: Box::new([0; 1024]), erases: [0; 32], buffer: Box::new([0; 11520]) }
     }
 
     /// The state made equal to another, in place.
@@ -139,7 +144,7 @@ impl Library {
         let mut ops = [0; 3];
         let (i, t) = (image.as_mut_ptr(), torn.as_ptr());
         let (n, l, s, e) = (&mut self.numbers, &mut self.lens, &mut self.slots, &mut self.erases);
-        let refusal = unsafe { vehinoke_format(n, l, s, e, i, image.len(), t, torn.len(), allowance, &mut ops) };
+        let refusal = unsafe { vehinoke_format(n, l, s, e, i, image.len(), t, torn.len(), SMALL, allowance, &mut ops) };
         told(refusal, ops)
     }
 
@@ -147,7 +152,7 @@ impl Library {
         let mut ops = [0; 3];
         let (i, t) = (image.as_mut_ptr(), torn.as_ptr());
         let (n, l, s, e) = (&mut self.numbers, &mut self.lens, &mut self.slots, &mut self.erases);
-        let refusal = unsafe { vehinoke_mount(n, l, s, e, i, image.len(), t, torn.len(), allowance, &mut ops) };
+        let refusal = unsafe { vehinoke_mount(n, l, s, e, i, image.len(), t, torn.len(), SMALL, allowance, &mut ops) };
         told(refusal, ops)
     }
 

@@ -2,7 +2,9 @@
 
 use crate::model::geometry::Geometry;
 use crate::random::Random;
+use crate::scripts::part;
 use crate::scripts::torn;
+use crate::scripts::wide::Wide;
 use crate::scripts::writer::Writer;
 
 /// One step of a case: an update, or a commit with power enough.
@@ -15,6 +17,7 @@ enum Step {
 
 /// What each replay of a case begins with: a format, rounds of updates and commits, and at the end pending updates.
 pub struct Case {
+    geometry: Geometry,
     blocks: u32,
     steps: Vec<Step>,
     keys: Vec<u32>,
@@ -26,57 +29,94 @@ pub struct Replays {
     pub replays: usize,
 }
 
-/// Which commits a case ends before: any, one that erases a block, or one of so many pages or more.
+/// Which commits a case ends before: any, one that erases a block, one of so many pages or more, one on a store with a list of four pages.
 #[derive(Clone, Copy, PartialEq)]
 enum Aim {
     Any,
     Erase,
     Pages(u32),
+    Four,
 }
 
 /// The aims, each as often as it stands here.
 const AIMS: [Aim; 8] = [Aim::Any, Aim::Any, Aim::Erase, Aim::Erase, Aim::Erase, Aim::Pages(2), Aim::Pages(2), Aim::Pages(3)];
 
+/// The aims on the large part, where hardly a commit has 3 pages, and an erase needs many commits before it.
+const LARGE_AIMS: [Aim; 8] = [Aim::Any, Aim::Any, Aim::Any, Aim::Erase, Aim::Four, Aim::Pages(2), Aim::Pages(2), Aim::Pages(2)];
+
+impl Aim {
+    /// The numbers of blocks of its chips.
+    fn sizes(self, large: bool) -> [u32; 4] {
+        match self {
+            Aim::Erase if large => [3, 3, 3, 3],
+            Aim::Erase => [3, 3, 3, 4],
+            Aim::Pages(_) | Aim::Four if large => [5, 5, 6, 8],
+            _ => [3, 3, 4, 8],
+        }
+    }
+
+    /// Whether the pending commit is one of these.
+    fn is_met(self, writer: &Writer) -> bool {
+        let probe = writer.probe();
+        match self {
+            Aim::Any => true,
+            Aim::Erase => probe.need(4).erases > 0,
+            Aim::Pages(pages) => probe.need(4).programs >= pages,
+            Aim::Four => probe.state().lens.contains(&4),
+        }
+    }
+}
+
 impl Case {
-    /// A case for this seed.
-    pub fn new(random: &mut Random) -> Case {
-        let aim = AIMS[random.index(AIMS.len())];
-        let blocks = if aim == Aim::Erase { [3, 3, 3, 4][random.index(4)] } else { [3, 3, 4, 8][random.index(4)] };
+    /// A case on a chip of a part that it chooses.
+    pub fn fresh(random: &mut Random) -> Case {
+        let geometry = part(random);
+        Case::new(random, geometry)
+    }
+
+    /// A case on a chip of a geometry.
+    pub fn new(random: &mut Random, geometry: Geometry) -> Case {
+        let large = geometry == Geometry::LARGE;
+        let aim = if large { LARGE_AIMS } else { AIMS }[random.index(AIMS.len())];
+        let blocks = aim.sizes(large)[random.index(4)];
+        let mut wide = (large && matches!(aim, Aim::Pages(_) | Aim::Four)).then(Wide::default);
         let range = if matches!(aim, Aim::Pages(_)) { [120, 260][random.index(2)] } else { [30, 60, 120, 260][random.index(4)] };
         let keys: Vec<u32> = (0..range).map(|i| if i == 0 { 0 } else { i * (u32::MAX / (range - 1)) }).collect();
-        let mut case = Case { blocks, steps: Vec::new(), keys };
+        let mut case = Case { geometry, blocks, steps: Vec::new(), keys };
         let mut writer = case.begin();
         let rounds = 3 + random.below(if aim == Aim::Any { 40 } else { 8 });
         for round in 0.. {
-            case.round(random, &mut writer);
-            let need = writer.probe().need(4);
-            let aimed = match aim {
-                Aim::Any => true,
-                Aim::Erase => need.erases > 0,
-                Aim::Pages(pages) => need.programs >= pages,
-            };
-            if round >= rounds && aimed || round > 200 {
+            case.round(random, &mut writer, wide.as_mut());
+            if round >= rounds && aim.is_met(&writer) || round > 200 {
                 break;
             }
             case.take(&mut writer, Step::Commit);
         }
+        case.keys.sort_unstable();
+        case.keys.dedup();
         case
     }
 
-    /// Up to 16 updates, at least one of them accepted.
-    fn round(&mut self, random: &mut Random, writer: &mut Writer) {
-        let updates = [1, 1, 2, 3, 8, 16][random.index(6)];
-        let mut done = 0;
+    /// Up to 16 updates, at least one of them accepted; 16 where they are spread over the leaves, though the one after a refusal is not.
+    fn round(&mut self, random: &mut Random, writer: &mut Writer, mut wide: Option<&mut Wide>) {
+        let updates = if wide.is_some() { 16 } else { [1, 1, 2, 3, 8, 16][random.index(6)] };
+        let (mut done, mut refused) = (0, false);
         while done < updates {
-            let key = self.keys[random.index(self.keys.len())];
+            let key = match &mut wide {
+                Some(wide) if !refused => {
+                    self.keys.push(wide.pick(random, writer));
+                    self.keys[self.keys.len() - 1]
+                }
+                _ => self.keys[random.index(self.keys.len())],
+            };
             let step = match random.below(5) {
                 0 => Step::Delete(key),
                 _ => Step::Insert(key, random.next() as u32),
             };
-            if self.take(writer, step) == 0 {
-                done += 1;
-            } else {
-                self.steps.pop();
+            refused = self.take(writer, step) != 0;
+            match refused {
+                true => drop(self.steps.pop()),
+                false => done += 1,
             }
         }
     }
@@ -89,9 +129,9 @@ impl Case {
 
     /// A script that has formatted a chip of the case's size.
     fn begin(&self) -> Writer {
-        let mut writer = Writer::new(Geometry::SMALL);
+        let mut writer = Writer::new(self.geometry);
         writer.lend(self.blocks);
-        writer.format(2000);
+        writer.format(writer.enough());
         writer
     }
 

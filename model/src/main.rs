@@ -1,6 +1,7 @@
 //! The commands: `run`, `crash`, `script`, `bench`.
 
 use model::crash::Case;
+use model::model::geometry::Geometry;
 use model::random::Random;
 use model::runner;
 use model::scripts::{self, KINDS};
@@ -8,18 +9,20 @@ use std::path::{Path, PathBuf};
 use std::process::ExitCode;
 use std::time::{Duration, Instant, SystemTime, UNIX_EPOCH};
 
-/// How many scripts passed and failed, and how many lines they had.
+/// How many scripts passed and failed, how many of them name the large part first, and how many lines they had.
 #[derive(Default)]
 struct Count {
     passed: usize,
     failed: usize,
+    large: usize,
     lines: usize,
 }
 
 impl Count {
     /// A script's result taken into account; a failure is printed.
-    fn take(&mut self, name: &str, seed: u64, lines: usize, result: Result<(), String>) {
-        self.lines += lines;
+    fn take(&mut self, name: &str, seed: u64, script: &[Vec<u8>], result: Result<(), String>) {
+        self.lines += script.len();
+        self.large += usize::from(script.first().is_some_and(|line| line == b"1701"));
         match result {
             Ok(()) => self.passed += 1,
             Err(why) => {
@@ -29,10 +32,16 @@ impl Count {
         }
     }
 
+    /// The scripts and their lines as a text.
+    fn scripts(&self) -> String {
+        format!("{} scripts, {} of them large, {} lines", self.passed + self.failed, self.large, self.lines)
+    }
+
     /// Another count added.
     fn add(&mut self, other: &Count) {
         self.passed += other.passed;
         self.failed += other.failed;
+        self.large += other.large;
         self.lines += other.lines;
     }
 }
@@ -62,8 +71,7 @@ fn stored_folder() -> PathBuf {
 }
 
 /// A stored script run: the program prints the stored replies, and these pass the twin and the judge.
-fn run_stored(path: &Path, probe: &str, bench: &str) -> Result<usize, String> {
-    let input = std::fs::read(path).map_err(|e| e.to_string())?;
+fn run_stored(path: &Path, input: Vec<u8>, probe: &str, bench: &str) -> Result<(), String> {
     let replies = runner::lines_of(&std::fs::read(path.with_extension("out")).map_err(|e| e.to_string())?);
     let script = runner::lines_of(&input);
     let is_bench = path.file_name().is_some_and(|name| name.to_string_lossy().starts_with("bench"));
@@ -74,9 +82,9 @@ fn run_stored(path: &Path, probe: &str, bench: &str) -> Result<usize, String> {
     }
     if is_bench {
         let same = runner::bench_replies(&script) == replies;
-        return same.then_some(script.len()).ok_or("the twin's replies are not the stored ones".into());
+        return same.then_some(()).ok_or("the twin's replies are not the stored ones".into());
     }
-    runner::judge(&script, &replies).map(|()| script.len())
+    runner::judge(&script, &replies)
 }
 
 /// All stored scripts run.
@@ -86,11 +94,12 @@ fn run_all_stored(probe: &str, bench: &str) -> Count {
     paths.retain(|path| path.extension().is_some_and(|e| e == "in"));
     paths.sort();
     for path in paths {
-        let result = run_stored(&path, probe, bench);
-        let lines = *result.as_ref().unwrap_or(&0);
-        count.take(&path.file_name().unwrap_or_default().to_string_lossy(), 0, lines, result.map(drop));
+        let input = std::fs::read(&path).unwrap_or_default();
+        let script = runner::lines_of(&input);
+        let result = run_stored(&path, input, probe, bench);
+        count.take(&path.file_name().unwrap_or_default().to_string_lossy(), 0, &script, result);
     }
-    println!("stored: {} scripts, {} lines", count.passed + count.failed, count.lines);
+    println!("stored: {}", count.scripts());
     count
 }
 
@@ -99,12 +108,12 @@ fn run_fresh(turn: usize, seed: u64, probe: &str, bench: &str, counts: &mut [Cou
     let mut random = Random::new(seed);
     match KINDS.get(turn) {
         Some(kind) => {
-            let script = (kind.make)(&mut random);
-            counts[turn].take(kind.name, seed, script.len(), runner::run_probe(probe, &script));
+            let script = kind.fresh(&mut random);
+            counts[turn].take(kind.name, seed, &script, runner::run_probe(probe, &script));
         }
         None => {
             let script = scripts::bench::make(&mut random, 3000);
-            counts[turn].take("bench", seed, script.len(), runner::run_bench(bench, &script));
+            counts[turn].take("bench", seed, &script, runner::run_bench(bench, &script));
         }
     }
 }
@@ -124,7 +133,7 @@ fn run(words: &[String]) -> Result<ExitCode, String> {
     }
     let names = KINDS.iter().map(|kind| kind.name).chain(["bench"]);
     for (name, count) in names.zip(&counts) {
-        println!("{name}: {} scripts, {} lines", count.passed + count.failed, count.lines);
+        println!("{name}: {}", count.scripts());
         all.add(count);
     }
     Ok(finish(&all))
@@ -139,11 +148,11 @@ fn crash(words: &[String]) -> Result<ExitCode, String> {
     for n in 0..number(scripts)? {
         let seed = first.wrapping_add(n);
         let mut random = Random::new(seed);
-        let script = Case::new(&mut random).replays(&mut random);
+        let script = Case::fresh(&mut random).replays(&mut random);
         replays += script.replays;
-        count.take("crash", seed, script.lines.len(), runner::run_probe(probe, &script.lines));
+        count.take("crash", seed, &script.lines, runner::run_probe(probe, &script.lines));
     }
-    println!("{} scripts, {replays} replays, {} lines", count.passed + count.failed, count.lines);
+    println!("{}, {replays} replays", count.scripts());
     Ok(finish(&count))
 }
 
@@ -152,10 +161,21 @@ fn output_of(replies: Vec<Vec<u8>>) -> Vec<u8> {
     replies.into_iter().flat_map(|reply| [reply, vec![b'\n']].concat()).collect()
 }
 
-/// `script KIND SEED DIR`: a script of a kind, also `crash` and `bench`, and the twin's replies to it.
+/// The part that a word names; any where there is none.
+fn part_of(word: Option<&String>, random: &mut Random) -> Result<Geometry, String> {
+    match word.map(String::as_str) {
+        None => Ok(scripts::part(random)),
+        Some("small") => Ok(Geometry::SMALL),
+        Some("large") => Ok(Geometry::LARGE),
+        Some(word) => Err(format!("no part: {word}")),
+    }
+}
+
+/// `script KIND SEED DIR [PART]`: a script of a kind, also `crash` and `bench`, and the twin's replies to it.
 fn script(words: &[String]) -> Result<ExitCode, String> {
-    let [name, seed, dir] = words else { return Err("script KIND SEED DIR".into()) };
+    let [name, seed, dir, rest @ ..] = words else { return Err("script KIND SEED DIR [PART]".into()) };
     let mut random = Random::new(number(seed)?);
+    let part = part_of(rest.first(), &mut random)?;
     let (script, replies) = match (name.as_str(), scripts::kind(name)) {
         ("bench", _) => {
             let script = scripts::bench::make(&mut random, 2000);
@@ -164,8 +184,8 @@ fn script(words: &[String]) -> Result<ExitCode, String> {
         }
         (_, kind) => {
             let script = match kind {
-                Some(kind) => (kind.make)(&mut random),
-                None if name == "crash" => Case::new(&mut random).replays(&mut random).lines,
+                Some(kind) => (kind.make)(&mut random, part),
+                None if name == "crash" => Case::new(&mut random, part).replays(&mut random).lines,
                 None => return Err(format!("no kind of script: {name}")),
             };
             let replies = runner::probe_replies(&script);

@@ -1,21 +1,25 @@
-//! The protocol of the program `probe`, executed by the twin on the small part.
+//! The protocol of the program `probe`, executed by the twin.
 
 use crate::crc::crc32;
 use crate::frame::parse;
-use crate::twin::geometry::SMALL;
+use crate::twin::geometry::{Geometry, LARGE, SMALL};
 use crate::twin::report::Report;
 use crate::twin::show::show;
 use crate::twin::state::State;
 use crate::twin::told::{Counts, Told};
 
-/// Blocks of the image buffer.
-const BLOCKS: usize = 40;
+/// Blocks that are lent at most: so many small ones, so many large ones.
+const SMALL_BLOCKS: usize = 40;
+const LARGE_BLOCKS: usize = 33;
+/// Bytes of the image buffer.
+const IMAGE: usize = LARGE_BLOCKS * LARGE.block();
 /// Bytes of the torn buffer.
-const TORN: usize = 600;
+const TORN: usize = 2200;
 
-/// The store's state, the image buffer and the torn bytes, with how much of each is lent.
+/// The store's state, the geometry that format, mount and show name, the image buffer and the torn bytes, with how much of each is lent.
 pub struct Probe {
     state: State,
+    named: Geometry,
     image: Vec<u8>,
     len: usize,
     torn: [u8; TORN],
@@ -46,11 +50,12 @@ fn ranged(good: bool) -> String {
 }
 
 impl Probe {
-    /// The store off, on a chip of 3 blocks of 255 and with torn bytes 5A.
+    /// The store off, on a chip of 3 small blocks of 255 and with torn bytes 5A; the small part is named.
     pub fn new() -> Probe {
         Probe {
             state: State::new(),
-            image: vec![255; BLOCKS * SMALL.block()],
+            named: SMALL,
+            image: vec![255; IMAGE],
             len: 3 * SMALL.block(),
             torn: [0x5A; TORN],
             torn_len: SMALL.page(),
@@ -72,6 +77,20 @@ impl Probe {
         &self.state
     }
 
+    /// Whether the large part is named.
+    pub fn names_large(&self) -> bool {
+        self.named == LARGE
+    }
+
+    /// The most blocks of the geometry named that are lent.
+    pub fn most_blocks(&self) -> usize {
+        if self.names_large() {
+            LARGE_BLOCKS
+        } else {
+            SMALL_BLOCKS
+        }
+    }
+
     /// The reply to a line.
     pub fn line(&mut self, line: &[u8]) -> String {
         match parse(line) {
@@ -83,14 +102,14 @@ impl Probe {
 
     /// The frames 00 to 07 and 09: the calls.
     fn call(&mut self, kind: u32, len: usize, first: u32, second: u32) -> String {
-        let (image, torn) = (&mut self.image[..self.len], &self.torn[..self.torn_len]);
+        let (named, image, torn) = (self.named, &mut self.image[..self.len], &self.torn[..self.torn_len]);
         match (kind, len) {
-            (0, 10) => wrote(self.state.format(SMALL, image, torn, first)),
+            (0, 10) => wrote(self.state.format(named, image, torn, first)),
             (1, 18) => plain(self.state.insert(image, first, second)),
             (2, 10) => plain(self.state.delete(image, first)),
             (3, 10) => self.look_up(first),
             (4, 10) => wrote(self.state.commit(image, torn, first)),
-            (5, 10) => wrote(self.state.mount(SMALL, image, torn, first)),
+            (5, 10) => wrote(self.state.mount(named, image, torn, first)),
             (6, 10) => match self.state.block_report(image, first) {
                 Ok(Report { free, first, erases }) => format!("00{free:02X}{first:02X}{erases:016X}"),
                 Err(refusal) => plain(refusal),
@@ -113,34 +132,45 @@ impl Probe {
 
     /// A show: the part's bytes.
     fn show(&self, page: u32) -> String {
-        match show(SMALL, self.image(), page) {
+        match show(self.named, self.image(), page) {
             Ok((start, len)) => self.image()[start..start + len].iter().fold("00".into(), |text, b| text + &format!("{b:02X}")),
             Err(refusal) => plain(refusal),
         }
     }
 
-    /// The frames 10 to 16: what is lent, and its bytes.
+    /// The frames 10 to 17: what is lent, its bytes, and the geometry named.
     fn set(&mut self, kind: u32, len: usize, first: u32, second: u32) -> String {
         let at = first as usize;
         match (kind, len) {
             (0x10, 10) => ranged(self.lend_blocks(at)),
-            (0x11, 10) => ranged(set_length(&mut self.len, at, BLOCKS * SMALL.block())),
+            (0x11, 10) => ranged(set_length(&mut self.len, at, IMAGE)),
             (0x12, 12) => ranged(set_byte(&mut self.image[..self.len], at, second)),
             (0x13, 12) => ranged(set_byte(&mut self.torn[..self.torn_len], at, second)),
             (0x14, 10) => ranged(set_length(&mut self.torn_len, at, TORN)),
             (0x15, 2) => format!("00{:08X}", crc32(self.image())),
             (0x16, 10) => ranged(self.fill_noise(first)),
+            (0x17, 4) => ranged(self.name(first)),
             _ => "FF".into(),
         }
     }
 
-    /// The whole buffer filled with 255 and its first blocks lent.
+    /// The whole buffer filled with 255 and its first blocks, of the geometry named, lent.
     fn lend_blocks(&mut self, blocks: usize) -> bool {
-        if blocks > BLOCKS {
+        if blocks > self.most_blocks() {
             return false;
         }
         self.image.fill(255);
-        self.len = blocks * SMALL.block();
+        self.len = blocks * self.named.block();
+        true
+    }
+
+    /// The geometry named from now on: 0 is the small part, 1 the large one.
+    fn name(&mut self, part: u32) -> bool {
+        match part {
+            0 => self.named = SMALL,
+            1 => self.named = LARGE,
+            _ => return false,
+        }
         true
     }
 
@@ -158,9 +188,9 @@ impl Probe {
     pub fn need(&self, kind: u32) -> Counts {
         let (mut state, mut image) = (self.state.clone(), self.image().to_vec());
         let told = match kind {
-            0 => state.format(SMALL, &mut image, self.torn(), u32::MAX),
+            0 => state.format(self.named, &mut image, self.torn(), u32::MAX),
             4 => state.commit(&mut image, self.torn(), u32::MAX),
-            _ => state.mount(SMALL, &mut image, self.torn(), u32::MAX),
+            _ => state.mount(self.named, &mut image, self.torn(), u32::MAX),
         };
         told.counts
     }

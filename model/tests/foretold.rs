@@ -39,7 +39,7 @@ fn commit_seen(allowance: u64, sum: u64) -> &'static str {
 
 /// Runs a script of a kind; the judge has to accept it.
 fn run(name: &str, seed: u64, seen: &mut Seen) {
-    let script = (scripts::kind(name).unwrap().make)(&mut Random::new(seed));
+    let script = scripts::kind(name).unwrap().fresh(&mut Random::new(seed));
     let (mut twin, mut judge) = (Forecaster::new(), Judge::new());
     let mut before = None;
     for line in &script {
@@ -73,7 +73,7 @@ fn forecasts() {
 #[test]
 fn other_kinds() {
     let mut seen = Seen::new();
-    for name in ["calls", "sizes", "lines", "last", "noise", "changed", "pending"] {
+    for name in ["calls", "sizes", "lines", "last", "noise", "changed", "pending", "parts"] {
         for seed in 0..6 {
             run(name, seed, &mut seen);
         }

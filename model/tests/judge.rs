@@ -1,5 +1,6 @@
 //! The judge against a tiny store: right answers pass, each fault of the store is seen.
 mod lists;
+#[allow(dead_code)]
 mod tiny;
 
 use model::model::counts::Counts;

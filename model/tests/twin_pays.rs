@@ -8,8 +8,10 @@ use model::probe::Probe;
 use model::random::Random;
 use model::{runner, scripts};
 
-/// The part of these tests.
+/// The small part.
 const SMALL: Geometry = Geometry::SMALL;
+/// The large part.
+const LARGE: Geometry = Geometry::LARGE;
 
 /// Which keys a list uses.
 #[derive(Clone, Copy, Debug)]
@@ -22,8 +24,9 @@ enum Keys {
     Hot,
 }
 
-/// A list under way: the twin, the judge, and for each block the number of the last commit that erased it and its erases in all.
+/// A list under way: the part, the twin, the judge, and for each block the number of the last commit that erased it and its erases in all.
 struct List {
+    part: Geometry,
     twin: Probe,
     judge: Judge,
     blocks: usize,
@@ -35,12 +38,14 @@ struct List {
 }
 
 impl List {
-    /// A finished format of a chip.
-    fn new(blocks: usize) -> List {
+    /// A finished format of a chip of a part.
+    fn new(part: Geometry, blocks: usize) -> List {
         let (twin, judge, none) = (Probe::new(), Judge::new(), vec![0; blocks]);
-        let mut list = List { twin, judge, blocks, commits: 10, last: none.clone(), erases: none.clone(), figures: none, key: 0 };
+        let mut list = List { part, twin, judge, blocks, commits: 10, last: none.clone(), erases: none.clone(), figures: none, key: 0 };
+        list.frame(Frame::Name((part == LARGE) as u8));
+        list.frame(Frame::TornLength(part.torn as u32));
         list.frame(Frame::Blocks(blocks as u32));
-        list.frame(Frame::Format(2000));
+        list.frame(Frame::Format(part.never_cut));
         list
     }
 
@@ -86,8 +91,8 @@ impl List {
             self.update(random, keys);
         }
         self.commits += (self.judge.store().pending > 0) as u64;
-        let reply = self.frame(Frame::Commit(2000));
-        let free = (0..self.blocks * SMALL.pages).any(|place| chip::free(chip::page(SMALL, self.twin.image(), place)));
+        let (part, reply) = (self.part, self.frame(Frame::Commit(self.part.never_cut)));
+        let free = (0..self.blocks * part.pages).any(|place| chip::free(chip::page(part, self.twin.image(), place)));
         assert!(free || hexadecimal(&reply.as_bytes()[18..]) == Some(0));
         self.reports();
         match random.below(12) {
@@ -103,19 +108,19 @@ impl List {
 
     /// Calls that are refused since another length is lent.
     fn refused(&mut self) {
-        self.frame(Frame::Length((self.blocks * SMALL.block()) as u32 - 1));
+        self.frame(Frame::Length((self.blocks * self.part.block()) as u32 - 1));
         for frame in [Frame::Insert(1, 1), Frame::Commit(2000), Frame::Mount(255), Frame::Format(2000)] {
             assert!(self.frame(frame).starts_with("01"));
         }
-        self.frame(Frame::Length((self.blocks * SMALL.block()) as u32));
+        self.frame(Frame::Length((self.blocks * self.part.block()) as u32));
     }
 }
 
-/// Lists on a chip with kinds of keys; in each of them every block is erased so often at least.
-fn lists(seed: u64, blocks: usize, rounds: usize, kinds: &[Keys], least: u64) {
+/// Lists on a chip of a part with kinds of keys; in each of them every block is erased so often at least.
+fn lists(seed: u64, (part, blocks): (Geometry, usize), rounds: usize, kinds: &[Keys], least: u64) {
     let mut random = Random::new(seed);
     for keys in kinds {
-        let mut list = List::new(blocks);
+        let mut list = List::new(part, blocks);
         for _ in 0..rounds {
             list.round(&mut random, *keys);
         }
@@ -127,31 +132,38 @@ fn lists(seed: u64, blocks: usize, rounds: usize, kinds: &[Keys], least: u64) {
 /// Chips of 3 blocks.
 #[test]
 fn three_blocks() {
-    lists(61, 3, 1500, &[Keys::Random(60), Keys::Random(300), Keys::Rising, Keys::Hot], 10);
+    lists(61, (SMALL, 3), 1500, &[Keys::Random(60), Keys::Random(300), Keys::Rising, Keys::Hot], 10);
 }
 
 /// Chips of 8 blocks.
 #[test]
 fn eight_blocks() {
-    lists(62, 8, 1200, &[Keys::Random(60), Keys::Random(800), Keys::Rising, Keys::Hot], 3);
+    lists(62, (SMALL, 8), 1200, &[Keys::Random(60), Keys::Random(800), Keys::Rising, Keys::Hot], 3);
 }
 
 /// Chips of 32 blocks.
 #[test]
 fn thirty_two_blocks() {
-    lists(63, 32, 2200, &[Keys::Random(3200), Keys::Rising], 1);
+    lists(63, (SMALL, 32), 2200, &[Keys::Random(3200), Keys::Rising], 1);
+}
+
+/// Chips of 3 large blocks.
+#[test]
+fn three_large_blocks() {
+    lists(64, (LARGE, 3), 800, &[Keys::Random(60), Keys::Random(300), Keys::Rising, Keys::Hot], 2);
 }
 
 /// Fresh scripts of lists without a cut pass, and their commits erase often.
 #[test]
 fn scripts() {
     for seed in 0..6 {
-        let script = scripts::pays::make(&mut Random::new(seed), SMALL);
+        let (part, least) = [(SMALL, 8), (LARGE, 4)][seed as usize % 2];
+        let script = scripts::pays::make(&mut Random::new(seed), part);
         let replies = runner::probe_replies(&script);
         runner::judge(&script, &replies).unwrap();
         let commits = script.iter().zip(&replies).filter(|(line, _)| line.starts_with(b"04"));
         let erases: u32 = commits.map(|(_, reply)| hexadecimal(&reply[18..]).unwrap()).sum();
         println!("seed {seed}: {} lines, {erases} erases", script.len());
-        assert!(erases > 8 && !replies.iter().any(|reply| reply.starts_with(b"0A")));
+        assert!(erases > least && !replies.iter().any(|reply| reply.starts_with(b"0A")));
     }
 }

@@ -1,6 +1,7 @@
 //! The twin held by the judge in lists of calls in which all blocks are reported after each commit.
 use model::model::erases;
 use model::model::frame::{hexadecimal, line, Frame};
+use model::model::geometry::Geometry;
 use model::model::judge::Judge;
 use model::probe::Probe;
 use model::random::Random;
@@ -13,6 +14,16 @@ struct List {
 }
 
 impl List {
+    /// A chip of so many blocks of a part, formatted.
+    fn new(part: Geometry, blocks: u32) -> List {
+        let mut list = List { twin: Probe::new(), judge: Judge::new(), told: 0 };
+        list.frame(Frame::Name((part == Geometry::LARGE) as u8));
+        list.frame(Frame::TornLength(part.torn as u32));
+        list.frame(Frame::Blocks(blocks));
+        list.frame(Frame::Format(part.never_cut));
+        list
+    }
+
     /// One frame.
     fn frame(&mut self, frame: Frame) -> String {
         let text = line(&frame);
@@ -41,11 +52,11 @@ impl List {
             let key = random.below(40 * blocks as u64) as u32;
             self.frame(if random.once_in(5) { Frame::Delete(key) } else { Frame::Insert(key, random.next() as u32) });
         }
-        self.frame(Frame::Commit(if random.once_in(90) { random.below(9) as u32 } else { 2000 }));
+        self.frame(Frame::Commit(if random.once_in(90) { random.below(9) as u32 } else { 4000 }));
         self.reports(blocks);
         match random.below(200) {
             0 => drop(self.frame(Frame::Mount(random.below(2) as u32))),
-            1 if random.once_in(3) => drop(self.frame(Frame::Format(2000))),
+            1 if random.once_in(3) => drop(self.frame(Frame::Format(4000))),
             _ => {}
         }
         if !self.judge.store().on {
@@ -59,15 +70,15 @@ impl List {
 #[test]
 fn figures_of_the_twin() {
     let mut random = Random::new(41);
-    let mut greatest = 0;
-    for blocks in [3, 4, 8] {
-        let mut list = List { twin: Probe::new(), judge: Judge::new(), told: 0 };
-        list.frame(Frame::Blocks(blocks));
-        list.frame(Frame::Format(2000));
-        for _ in 0..600 {
-            list.round(&mut random, blocks);
-            greatest = greatest.max(list.told);
+    for (part, sizes) in [(Geometry::SMALL, [3, 4, 8]), (Geometry::LARGE, [3, 3, 5])] {
+        let mut greatest = 0;
+        for blocks in sizes {
+            let mut list = List::new(part, blocks);
+            for _ in 0..600 {
+                list.round(&mut random, blocks);
+                greatest = greatest.max(list.told);
+            }
         }
+        assert!(greatest > 3, "{greatest} erases at most");
     }
-    assert!(greatest > 3, "{greatest} erases at most");
 }

@@ -7,7 +7,6 @@ use native.Mathlib.Omega.{arith}
 use lib.ListN.{length, getD, drop}
 use lib.Seq.{drop-length}
 use Rattle.lists.proofs.Flats.{flat-append}
-use Rattle.chip.specs.Geometry.{small}
 use Rattle.chip.specs.Counts.{total}
 use Rattle.store.specs.declared.state.State.{State}
 use Rattle.store.specs.declared.step.Call.{Call}
@@ -50,23 +49,23 @@ module _ (torn : List ℕ) where
   pub ends-none : (l : Line) (f : Frame) (s : State) (i : List ℕ) → Frames l f → not (f .good) ≡ true → EndsLine torn l s i s i
   unfolding EndsLine
   ends-none l f s i h e bs k =
-      subst (λ (cs : List Call). RunsTo small torn cs s i s i)
-      (sym (call-none bs (frame-is l f bs h k ∙ is-none (f .good) (f .call) e))) (runs-none small torn s i)
+      subst (λ (cs : List Call). RunsTo torn cs s i s i)
+      (sym (call-none bs (frame-is l f bs h k ∙ is-none (f .good) (f .call) e))) (runs-none torn s i)
 
   pub ends-one : (l : Line) (f : Frame) (s : State) (i : List ℕ) (r : Stepped) (i' : List ℕ) → Frames l f → not (f .good) ≡ false
-      → StepsBy small (f .call) torn s i r i' → EndsLine torn l s i (r .state) i'
+      → StepsBy (f .call) torn s i r i' → EndsLine torn l s i (r .state) i'
   unfolding EndsLine
   ends-one l f s i r i' h e d bs k =
-      subst (λ (cs : List Call). RunsTo small torn cs s i (r .state) i')
+      subst (λ (cs : List Call). RunsTo torn cs s i (r .state) i')
       (sym (call-one bs (f .call) (frame-is l f bs h k ∙ is-frame (f .good) (f .call) e)))
-      (runs-one small torn (f .call) s i (answerOf (r .answer)) (total (r .ops)) (r .state) i' (step-allowed small (f .call) torn s i r i' d))
+      (runs-one torn (f .call) s i (answerOf (r .answer)) (total (r .ops)) (r .state) i' (step-allowed (f .call) torn s i r i' d))
 
   -- ---- the bytes from index k on: what they do from here is what all bytes do from the start
   pub record Left (bytes begun₀ : List ℕ) (s₀ : State) (i₀ : List ℕ) (k : ℕ) (l : Line) (s : State) (i : List ℕ) : Type 0 where
     pub begun : List ℕ
     pub holds : LineHolds l begun
     pub line : lineAfter begun (drop k bytes) ≡ lineAfter begun₀ bytes
-    pub calls : (s' : State) (i' : List ℕ) → RunsTo small torn (callsIn (linesIn begun (drop k bytes))) s i s' i' → RunsTo small torn (callsIn (linesIn begun₀ bytes)) s₀ i₀ s' i'
+    pub calls : (s' : State) (i' : List ℕ) → RunsTo torn (callsIn (linesIn begun (drop k bytes))) s i s' i' → RunsTo torn (callsIn (linesIn begun₀ bytes)) s₀ i₀ s' i'
 
   unfoldable pub LeftIn : (bytes : List ℕ) (l₀ : Line) (s₀ : State) (i₀ : List ℕ) (k : ℕ) (l : Line) (s : State) (i : List ℕ) → Type 0
   LeftIn bytes l₀ s₀ i₀ k l s i = (begun₀ : List ℕ) → LineHolds l₀ begun₀ → Left bytes begun₀ s₀ i₀ k l s i
@@ -83,7 +82,7 @@ module _ (torn : List ℕ) where
         let z : drop k bytes ≡ [] = ap (λ (n : ℕ). drop n bytes) e ∙ drop-length bytes in
         record {
           line = subst (LineHolds l) (sym (ap (lineAfter (w .begun)) z) ∙ w .line) (w .holds);
-          calls = w .calls s i (subst (λ (bs : List ℕ). RunsTo small torn (callsIn (linesIn (w .begun) bs)) s i s i) (sym z) (runs-none small torn s i));
+          calls = w .calls s i (subst (λ (bs : List ℕ). RunsTo torn (callsIn (linesIn (w .begun) bs)) s i s i) (sym z) (runs-none torn s i));
         }
 
     module _ (b : ℕ) (e : b ≡ getD bytes k 0) (m : k < length bytes) where
@@ -99,9 +98,9 @@ module _ (torn : List ℕ) where
             line = sym (after-feed bytes k b e m (w .begun) q) ∙ w .line;
             calls = λ s' i' r.
                 w .calls s' i'
-                (subst (λ (ls : List (List ℕ)). RunsTo small torn (callsIn ls) s i s' i')
+                (subst (λ (ls : List (List ℕ)). RunsTo torn (callsIn ls) s i s' i')
                 (sym (lines-feed bytes k b e m (w .begun) q))
-                (runs-then small torn (callIn (w .begun)) (callsIn (linesIn [] (drop (k + 1) bytes))) s i t j s' i' (a (w .begun) (w .holds)) r));
+                (runs-then torn (callIn (w .begun)) (callsIn (linesIn [] (drop (k + 1) bytes))) s i t j s' i' (a (w .begun) (w .holds)) r));
           }
 
       -- another byte
@@ -115,14 +114,14 @@ module _ (torn : List ℕ) where
             line = sym (after-byte bytes k b e m (w .begun) q) ∙ w .line;
             calls = λ s' i' r.
                 w .calls s' i'
-                (subst (λ (ls : List (List ℕ)). RunsTo small torn (callsIn ls) s i s' i')
+                (subst (λ (ls : List (List ℕ)). RunsTo torn (callsIn ls) s i s' i')
                 (sym (lines-byte bytes k b e m (w .begun) q)) r);
           }
 
   -- ---- bytes behind bytes
   takes-none : (l : Line) (s : State) (i : List ℕ) → TakesIn torn [] l s i l s i
   unfolding TakesIn
-  takes-none l s i begun h = record { line = h; calls = runs-none small torn s i }
+  takes-none l s i begun h = record { line = h; calls = runs-none torn s i }
 
   takes-then : (bs cs : List ℕ) (l : Line) (s : State) (i : List ℕ) (k : Line) (t : State) (j : List ℕ) (l' : Line) (s' : State) (i' : List ℕ)
       → TakesIn torn bs l s i k t j → TakesIn torn cs k t j l' s' i' → TakesIn torn (bs ++ cs) l s i l' s' i'
@@ -133,9 +132,9 @@ module _ (torn : List ℕ) where
       record {
         line = subst (LineHolds l') (sym (after-append bs cs begun)) (w .line);
         calls =
-            subst (λ (ds : List Call). RunsTo small torn ds s i s' i')
+            subst (λ (ds : List Call). RunsTo torn ds s i s' i')
             (sym (ap callsIn (lines-append bs cs begun) ∙ flat-append callIn (linesIn begun bs) (linesIn (lineAfter begun bs) cs)))
-            (runs-then small torn (callsIn (linesIn begun bs)) (callsIn (linesIn (lineAfter begun bs) cs)) s i t j s' i' (v .calls) (w .calls));
+            (runs-then torn (callsIn (linesIn begun bs)) (callsIn (linesIn (lineAfter begun bs) cs)) s i t j s' i' (v .calls) (w .calls));
       }
 
   pub some-none : (l : Line) (s : State) (i : List ℕ) → TakesSome torn l s i l s i

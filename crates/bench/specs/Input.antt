@@ -2,7 +2,6 @@
 use mathlib.Core.List.{List, [], _∷_}
 use Prim.Native.Nat.{ℕ}
 use Rattle.lists.specs.Lists.{flat}
-use Rattle.chip.specs.Geometry.{small}
 use Rattle.store.specs.declared.state.State.{State}
 use Rattle.store.specs.declared.step.Call.{Call}
 use Rattle.store.specs.RunsTo.{RunsTo}
@@ -24,12 +23,12 @@ callsIn ls = flat callIn ls
 
 -- a line that ends, whatever it holds: its call is made
 unfoldable pub EndsLine : (torn : List ℕ) (l : Line) (s : State) (i : List ℕ) (s' : State) (i' : List ℕ) → Type 0
-EndsLine torn l s i s' i' = (bs : List ℕ) → LineHolds l bs → RunsTo small torn (callIn bs) s i s' i'
+EndsLine torn l s i s' i' = (bs : List ℕ) → LineHolds l bs → RunsTo torn (callIn bs) s i s' i'
 
 -- bytes read, whatever the line begun holds: the calls of the lines that end in them are made
 pub record TakesBytes (torn bytes begun : List ℕ) (s : State) (i : List ℕ) (l' : Line) (s' : State) (i' : List ℕ) : Type 0 where
   pub line : LineHolds l' (lineAfter begun bytes)
-  pub calls : RunsTo small torn (callsIn (linesIn begun bytes)) s i s' i'
+  pub calls : RunsTo torn (callsIn (linesIn begun bytes)) s i s' i'
 
 unfoldable pub TakesIn : (torn bytes : List ℕ) (l : Line) (s : State) (i : List ℕ) (l' : Line) (s' : State) (i' : List ℕ) → Type 0
 TakesIn torn bytes l s i l' s' i' = (begun : List ℕ) → LineHolds l begun → TakesBytes torn bytes begun s i l' s' i'

@@ -1,4 +1,4 @@
-// The bench program: a store that starts off, on a chip of 3 blocks, each byte 255, with torn bytes of 90. It reads frames of hexadecimal
+// The bench program: a store that starts off, on a chip of 3 blocks of the small part, each byte 255, with torn bytes of 90. It reads frames of hexadecimal
 // from standard input, one a line, and answers each by a line.
 ghost use Rattle.bench.specs.Input.{EndsLine, TakesIn, TakesSome};
 use frames::frame;

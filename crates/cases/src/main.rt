@@ -1,4 +1,5 @@
-// The cases of the first demand, each as a call: a line for each with the refusal in two digits, and behind it what the call tells.
+// The cases of the first demand and of the large part, each as a call: a line for each with the refusal in two digits, and behind it what the call tells.
+use chip::geometry::Nand;
 use chip::progress::Counts;
 use store::answer;
 use store::answer::Look;
@@ -93,8 +94,8 @@ fn delete(state: State, image: &[u8], key: u32) -> State {
 }
 
 // A format, with the operations that it tells.
-fn format_chip(state: State, image: &mut [u8], torn: &[u8], allowance: u32) -> State {
-    let r = format::format(state, image, torn, allowance);
+fn format_chip(state: State, nand: Nand, image: &mut [u8], torn: &[u8], allowance: u32) -> State {
+    let r = format::format(state, nand, image, torn, allowance);
     let answer = r.answer;
     let ops = r.ops;
     tell_counts(answer::number(answer), ops);
@@ -102,8 +103,8 @@ fn format_chip(state: State, image: &mut [u8], torn: &[u8], allowance: u32) -> S
 }
 
 // A mount, with the operations that it tells.
-fn mount_chip(state: State, image: &mut [u8], torn: &[u8], allowance: u32) -> State {
-    let r = mount::mount(state, image, torn, allowance);
+fn mount_chip(state: State, nand: Nand, image: &mut [u8], torn: &[u8], allowance: u32) -> State {
+    let r = mount::mount(state, nand, image, torn, allowance);
     let answer = r.answer;
     let ops = r.ops;
     tell_counts(answer::number(answer), ops);
@@ -139,8 +140,8 @@ fn off(image: &[u8]) {
 // A format and a mount where the image or the torn slice has a wrong size.
 fn size(image: &mut [u8], torn: &[u8]) {
     let s = state::initial();
-    let a = format_chip(s, image, torn, 2000);
-    mount_chip(a, image, torn, 255);
+    let a = format_chip(s, Nand::Small, image, torn, 2000);
+    mount_chip(a, Nand::Small, image, torn, 255);
 }
 
 // Images of 33 blocks, of 2 blocks and of a byte too few, and a torn slice of a byte too few.
@@ -170,21 +171,21 @@ fn noises(image: &mut [u8], torn: &[u8]) {
     say(b"noise");
     let s = state::initial();
     noise(image);
-    let a = mount_chip(s, image, torn, 255);
+    let a = mount_chip(s, Nand::Small, image, torn, 255);
     put(image, 513, 0);
     put(image, 514, 255);
-    mount_chip(a, image, torn, 255);
+    mount_chip(a, Nand::Small, image, torn, 255);
 }
 
 // Power for no operation, and for one too few; then the format whole.
 fn powers(image: &mut [u8], torn: &[u8]) -> State {
     say(b"power");
     let s = state::initial();
-    let a = format_chip(s, image, torn, 0);
+    let a = format_chip(s, Nand::Small, image, torn, 0);
     look(a, image, 7);
-    let b = format_chip(a, image, torn, 5);
-    let c = format_chip(b, image, torn, 6);
-    mount_chip(c, image, torn, 0)
+    let b = format_chip(a, Nand::Small, image, torn, 5);
+    let c = format_chip(b, Nand::Small, image, torn, 6);
+    mount_chip(c, Nand::Small, image, torn, 0)
 }
 
 // An absent key, and a key that is there.
@@ -212,6 +213,17 @@ fn full(state: State, image: &[u8]) -> State {
     delete(t, image, 1)
 }
 
+// A chip of 3 large blocks: a format that names the other part, one that names its own, and what it leaves in block 0.
+fn larges() {
+    say(b"large");
+    let mut image = [255u8; 405504];
+    let torn = [90u8; 2112];
+    let s = state::initial();
+    let a = format_chip(s, Nand::Small, &mut image, &torn, 4000);
+    let b = format_chip(a, Nand::Large, &mut image, &torn, 4000);
+    free(b, &image, 0);
+}
+
 fn main() {
     let mut image = [255u8; 50688];
     let torn = [90u8; 528];
@@ -222,6 +234,7 @@ fn main() {
     let b = keys(a, &image);
     let c = full(b, &image);
     say(b"mount");
-    let d = mount_chip(c, &mut image, &torn, 255);
+    let d = mount_chip(c, Nand::Small, &mut image, &torn, 255);
     look(d, &image, 1);
+    larges();
 }

@@ -7,7 +7,8 @@ use native.Mathlib.Omega.{arith}
 use lib.Dec.{leb, eqb}
 use borrow.Author.Tests.{leb-true, eqb-true}
 use Rattle.lists.proofs.Tests.{cases, and-left, and-right}
-use Rattle.chip.specs.Geometry.{Geometry, Fits, small, large, mostPages, pageSize, blockSize, isChip, blocksOf}
+use Rattle.chip.specs.declared.geometry.Nand.the-variants.{Small, Large}
+use Rattle.chip.specs.Geometry.{Geometry, Nand, Fits, small, large, geometryOf, mostPages, pageSize, blockSize, isChip, blocksOf}
 
 -- an image that has blocks has 3 to 32 of them, and nothing else
 pub record Size (g : Geometry) (len b : ℕ) : Type 0 where
@@ -35,6 +36,10 @@ small-fits = omega arith
 
 pub large-fits : Fits large
 large-fits = omega arith
+
+pub nand-fits : (n : Nand) → Fits (geometryOf n)
+nand-fits Small = small-fits
+nand-fits Large = large-fits
 
 -- ---- pages and blocks in an image
 module _ (g : Geometry) where

@@ -3,6 +3,8 @@ use mathlib.Core.Bool.{Bool, cond, _&&_}
 use Prim.Native.Nat.{ℕ, _+_, _*_, _/_, _≤_}
 use lib.Dec.{leb, eqb}
 use Rattle.chip.specs.declared.geometry.Geometry as G
+use Rattle.chip.specs.declared.geometry.Nand as N
+use Rattle.chip.specs.declared.geometry.Nand.the-variants.{Small, Large}
 
 -- bytes of a page's data area and of its spare area, pages of a block, units that a page holds at most
 abbrev pub Geometry : Type 0
@@ -15,6 +17,14 @@ small = record { area = 512; spare = 16; pages = 32; units = 42 }
 -- the large part: pages of 2,048 and 64 bytes, 64 pages a block, 170 units a page
 abbrev pub large : Geometry
 large = record { area = 2048; spare = 64; pages = 64; units = 170 }
+
+-- the NAND of a chip, the small part or the large part, and the geometry of each
+abbrev pub Nand : Type 0
+Nand = N.Nand
+
+abbrev pub geometryOf : Nand → Geometry
+geometryOf Small = small
+geometryOf Large = large
 
 -- the pages of a chip of 32 blocks of the large part: no chip has more
 abbrev pub mostPages : ℕ

@@ -2,8 +2,8 @@
 -- exactly as the numbers of that result (`exact`), on any words and any image.
 use mathlib.Core.Path.{_≡_}
 use mathlib.Core.List.{List, [], _∷_}
-use Prim.Native.Nat.{ℕ}
-use Rattle.chip.specs.Geometry.{small}
+use Prim.Native.Nat.{ℕ, _<_}
+use Rattle.chip.specs.Geometry.{Nand}
 use Rattle.store.specs.Answers.{refusalNumber}
 use Rattle.store.specs.Contracts.{Formats, Mounts, Looks, Inserts, Deletes, Commits, Forecasts, Reports}
 use Rattle.store.specs.Parts.{joined, updatedWith, wroteWith}
@@ -13,33 +13,33 @@ use Rattle.store.specs.declared.answer.Report.{Report}
 use Rattle.store.specs.declared.state.UpdatedParts.{UpdatedParts}
 use Rattle.store.specs.declared.state.WroteParts.{WroteParts}
 use Rattle.exports.specs.Told.{lookTold, reportTold}
-use Rattle.exports.specs.Words.{numbersIn, wordsOf}
+use Rattle.exports.specs.Words.{numbersIn, wordsOf, partWord}
 
 -- look up: the refusal r, and the value and the pages read in `told`
 pub record LooksTold (key : ℕ) (words buffer lens slots image : List ℕ) (r : ℕ) (told : List ℕ) : Type 0 where
   pub look : Look
-  pub says : (erases : List ℕ) → Looks small key (joined (numbersIn words) buffer lens slots erases) image look
+  pub says : (erases : List ℕ) → Looks key (joined (numbersIn words) buffer lens slots erases) image look
   pub refusal : r ≡ lookTold look .refusal
   pub tells : told ≡ lookTold look .first ∷ lookTold look .second ∷ []
 
 -- forecast: the refusal r, and in `ops` the operations by kind that a commit made now would tell
 pub record ForecastsTold (words buffer lens slots image : List ℕ) (r : ℕ) (ops : List ℕ) : Type 0 where
   pub result : Forecast
-  pub says : (erases : List ℕ) → Forecasts small (joined (numbersIn words) buffer lens slots erases) image result
+  pub says : (erases : List ℕ) → Forecasts (joined (numbersIn words) buffer lens slots erases) image result
   pub refusal : r ≡ refusalNumber (result .answer)
   pub done : ops ≡ result .ops .programs ∷ result .ops .marks ∷ result .ops .erases ∷ []
 
 -- block report, whatever the buffer and the node table: the refusal r, and the free pages, the first of them and the erases in `told`
 pub record ReportsTold (block : ℕ) (words erases image : List ℕ) (r : ℕ) (told : List ℕ) : Type 0 where
   pub report : Report
-  pub says : (buffer lens slots : List ℕ) → Reports small block (joined (numbersIn words) buffer lens slots erases) image report
+  pub says : (buffer lens slots : List ℕ) → Reports block (joined (numbersIn words) buffer lens slots erases) image report
   pub refusal : r ≡ reportTold report .refusal
   pub tells : told ≡ reportTold report .free ∷ reportTold report .first ∷ reportTold report .erases ∷ []
 
 -- insert: the refusal r, and the words and the buffer that it leaves
 pub record InsertsTold (key value : ℕ) (words buffer lens slots image : List ℕ) (r : ℕ) (words' buffer' : List ℕ) : Type 0 where
   pub result : UpdatedParts
-  pub says : (erases : List ℕ) → Inserts small key value (joined (numbersIn words) buffer lens slots erases) image (updatedWith result buffer' lens slots erases)
+  pub says : (erases : List ℕ) → Inserts key value (joined (numbersIn words) buffer lens slots erases) image (updatedWith result buffer' lens slots erases)
   pub refusal : r ≡ refusalNumber (result .answer)
   pub saved : words' ≡ wordsOf (result .numbers)
   pub exact : numbersIn words' ≡ result .numbers
@@ -47,7 +47,7 @@ pub record InsertsTold (key value : ℕ) (words buffer lens slots image : List �
 -- delete: the same
 pub record DeletesTold (key : ℕ) (words buffer lens slots image : List ℕ) (r : ℕ) (words' buffer' : List ℕ) : Type 0 where
   pub result : UpdatedParts
-  pub says : (erases : List ℕ) → Deletes small key (joined (numbersIn words) buffer lens slots erases) image (updatedWith result buffer' lens slots erases)
+  pub says : (erases : List ℕ) → Deletes key (joined (numbersIn words) buffer lens slots erases) image (updatedWith result buffer' lens slots erases)
   pub refusal : r ≡ refusalNumber (result .answer)
   pub saved : words' ≡ wordsOf (result .numbers)
   pub exact : numbersIn words' ≡ result .numbers
@@ -58,23 +58,43 @@ pub record Tells (result : WroteParts) (r : ℕ) (ops words' : List ℕ) : Type 
   pub saved : words' ≡ wordsOf (result .numbers)
   pub done : ops ≡ result .ops .programs ∷ result .ops .marks ∷ result .ops .erases ∷ []
 
--- format, whatever the buffer: the node table, the erases and the image that it leaves
-pub record FormatsTold (allowance : ℕ) (torn words lens slots erases image : List ℕ) (r : ℕ) (ops words' lens' slots' erases' image' : List ℕ) : Type 0 where
+-- format as this part, whatever the buffer: the node table, the erases and the image that it leaves
+pub record FormatsAs (nand : Nand) (allowance : ℕ) (torn words lens slots erases image : List ℕ) (r : ℕ) (ops words' lens' slots' erases' image' : List ℕ) : Type 0 where
   pub result : WroteParts
-  pub says : (buffer : List ℕ) → Formats small allowance torn (joined (numbersIn words) buffer lens slots erases) image (wroteWith result buffer lens' slots' erases') image'
+  pub says : (buffer : List ℕ) → Formats nand allowance torn (joined (numbersIn words) buffer lens slots erases) image (wroteWith result buffer lens' slots' erases') image'
   pub tells : Tells result r ops words'
   pub exact : numbersIn words' ≡ result .numbers
 
--- mount, whatever the buffer: the same
-pub record MountsTold (allowance : ℕ) (torn words lens slots erases image : List ℕ) (r : ℕ) (ops words' lens' slots' erases' image' : List ℕ) : Type 0 where
+-- mount as this part, whatever the buffer: the same
+pub record MountsAs (nand : Nand) (allowance : ℕ) (torn words lens slots erases image : List ℕ) (r : ℕ) (ops words' lens' slots' erases' image' : List ℕ) : Type 0 where
   pub result : WroteParts
-  pub says : (buffer : List ℕ) → Mounts small allowance torn (joined (numbersIn words) buffer lens slots erases) image (wroteWith result buffer lens' slots' erases') image'
+  pub says : (buffer : List ℕ) → Mounts nand allowance torn (joined (numbersIn words) buffer lens slots erases) image (wroteWith result buffer lens' slots' erases') image'
   pub tells : Tells result r ops words'
   pub exact : numbersIn words' ≡ result .numbers
 
--- commit: the same with the buffer
+-- refused with 1 and no operation told, and all that is lent stays as it was
+pub record Untouched (words lens slots erases image : List ℕ) (r : ℕ) (ops words' lens' slots' erases' image' : List ℕ) : Type 0 where
+  pub refusal : r ≡ 1
+  pub done : ops ≡ 0 ∷ 0 ∷ 0 ∷ []
+  pub sameWords : words' ≡ words
+  pub sameLens : lens' ≡ lens
+  pub sameSlots : slots' ≡ slots
+  pub sameErases : erases' ≡ erases
+  pub sameImage : image' ≡ image
+
+-- format with a number for the part: one that names a part, or one that names none
+pub record FormatsTold (part allowance : ℕ) (torn words lens slots erases image : List ℕ) (r : ℕ) (ops words' lens' slots' erases' image' : List ℕ) : Type 0 where
+  pub named : (nand : Nand) → part ≡ partWord nand → FormatsAs nand allowance torn words lens slots erases image r ops words' lens' slots' erases' image'
+  pub unnamed : 1 < part → Untouched words lens slots erases image r ops words' lens' slots' erases' image'
+
+-- mount: the same
+pub record MountsTold (part allowance : ℕ) (torn words lens slots erases image : List ℕ) (r : ℕ) (ops words' lens' slots' erases' image' : List ℕ) : Type 0 where
+  pub named : (nand : Nand) → part ≡ partWord nand → MountsAs nand allowance torn words lens slots erases image r ops words' lens' slots' erases' image'
+  pub unnamed : 1 < part → Untouched words lens slots erases image r ops words' lens' slots' erases' image'
+
+-- commit, with the buffer: as format and mount
 pub record CommitsTold (allowance : ℕ) (torn words buffer lens slots erases image : List ℕ) (r : ℕ) (ops words' lens' slots' erases' image' : List ℕ) : Type 0 where
   pub result : WroteParts
-  pub says : Commits small allowance torn (joined (numbersIn words) buffer lens slots erases) image (wroteWith result buffer lens' slots' erases') image'
+  pub says : Commits allowance torn (joined (numbersIn words) buffer lens slots erases) image (wroteWith result buffer lens' slots' erases') image'
   pub tells : Tells result r ops words'
   pub exact : numbersIn words' ≡ result .numbers

@@ -5,7 +5,7 @@ use mathlib.Core.List.{List, [], _∷_}
 use Prim.Native.Nat.{ℕ, _+_, _<_, _≤_}
 use lib.ListN.{getD}
 use Rattle.chip.specs.declared.progress.Counts.{Counts}
-use Rattle.chip.specs.Geometry.{small}
+use Rattle.chip.specs.Geometry.{geometryOf}
 use Rattle.chip.specs.Counts.{nothing}
 use Rattle.promise.specs.Plain as P
 use Rattle.promise.specs.Plain.{Plain}
@@ -20,11 +20,11 @@ use Rattle.store.specs.Answers.{refusalIn}
 use Rattle.store.specs.Contracts.{index}
 use Rattle.store.specs.Lent.{Parts, stateFrom, LentStep, lentStep}
 use Rattle.store.specs.Step.{actOf, answerIn}
-use Rattle.exports.specs.Calls.{LooksTold, ForecastsTold, InsertsTold, DeletesTold, FormatsTold, MountsTold, CommitsTold}
+use Rattle.exports.specs.Calls.{LooksTold, ForecastsTold, InsertsTold, DeletesTold, FormatsAs, MountsAs, CommitsTold}
 use Rattle.exports.specs.Told.{valueIn}
 use Rattle.exports.specs.Words.{numbersIn}
 
--- what a caller keeps of a state: six words, and the arrays
+-- what a caller keeps of a state: seven words, and the arrays
 pub record Memory : Type 0 where
   pub words : List ℕ
   pub buffer : List ℕ
@@ -38,10 +38,11 @@ partsIn m = record { numbers = numbersIn (m .words); buffer = m .buffer; lens = 
 
 -- from the memory m and the image i to the refusal r, the numbers told, the memory m' and the image i'
 module _ (torn : List ℕ) (m : Memory) (i : List ℕ) (r : ℕ) (told : List ℕ) (m' : Memory) (i' : List ℕ) where
-  -- what a call ensures: its contract; and what is lent to it for reading only, or not at all, stays
+  -- what a call ensures: its contract; and what is lent to it for reading only, or not at all, stays. A format or a mount names a part here:
+  -- one with a number that names no part changes nothing, and stands in no list
   abbrev pub Ensures : Call → Type 0
-  Ensures (Format n) = FormatsTold n torn (m .words) (m .lens) (m .slots) (m .erases) i r told (m' .words) (m' .lens) (m' .slots) (m' .erases) i' × (m' .buffer ≡ m .buffer)
-  Ensures (Mount n) = MountsTold n torn (m .words) (m .lens) (m .slots) (m .erases) i r told (m' .words) (m' .lens) (m' .slots) (m' .erases) i' × (m' .buffer ≡ m .buffer)
+  Ensures (Format p n) = FormatsAs p n torn (m .words) (m .lens) (m .slots) (m .erases) i r told (m' .words) (m' .lens) (m' .slots) (m' .erases) i' × (m' .buffer ≡ m .buffer)
+  Ensures (Mount p n) = MountsAs p n torn (m .words) (m .lens) (m .slots) (m .erases) i r told (m' .words) (m' .lens) (m' .slots) (m' .erases) i' × (m' .buffer ≡ m .buffer)
   Ensures (Commit n) = CommitsTold n torn (m .words) (m .buffer) (m .lens) (m .slots) (m .erases) i r told (m' .words) (m' .lens) (m' .slots) (m' .erases) i' × (m' .buffer ≡ m .buffer)
   Ensures (Insert k v) =
       InsertsTold k v (m .words) (m .buffer) (m .lens) (m .slots) i r (m' .words) (m' .buffer) × (m' .lens ≡ m .lens) × (m' .slots ≡ m .slots) × (m' .erases ≡ m .erases) × (i' ≡ i)
@@ -52,8 +53,8 @@ module _ (torn : List ℕ) (m : Memory) (i : List ℕ) (r : ℕ) (told : List �
 
   -- the answer and the operations of the result that it tells
   abbrev pub answerBy : (c : Call) → Ensures c → Answer
-  answerBy (Format n) h = h .0 .result .answer
-  answerBy (Mount n) h = h .0 .result .answer
+  answerBy (Format p n) h = h .0 .result .answer
+  answerBy (Mount p n) h = h .0 .result .answer
   answerBy (Commit n) h = h .0 .result .answer
   answerBy (Insert k v) h = h .0 .result .answer
   answerBy (Delete k) h = h .0 .result .answer
@@ -61,8 +62,8 @@ module _ (torn : List ℕ) (m : Memory) (i : List ℕ) (r : ℕ) (told : List �
   answerBy Forecast h = h .0 .result .answer
 
   abbrev pub opsBy : (c : Call) → Ensures c → Counts
-  opsBy (Format n) h = h .0 .result .ops
-  opsBy (Mount n) h = h .0 .result .ops
+  opsBy (Format p n) h = h .0 .result .ops
+  opsBy (Mount p n) h = h .0 .result .ops
   opsBy (Commit n) h = h .0 .result .ops
   opsBy (Insert k v) h = nothing
   opsBy (Delete k) h = nothing
@@ -99,31 +100,32 @@ exportedStep x =
     }
 
 -- and as a step of the promise
-abbrev pub promiseStep : Exported → Step (index small)
-promiseStep x = lentStep small (exportedStep x)
+abbrev pub promiseStep : Exported → Step index
+promiseStep x = lentStep (exportedStep x)
 
 -- a call from the one image i, where H are the states at hand
 pub record TakesExported (H : State → Type 0) (i : List ℕ) (x : Exported) : Type 0 where
-  pub lends : Lends (index small) i (promiseStep x)
+  pub lends : Lends index i (promiseStep x)
   pub handed : boots (actOf (x .call) (x .torn)) ≡ false → H (stateFrom (partsIn (x .given)))
 
 -- each call gets the memory that the last one left, a mount or a format any memory, and nothing else writes memory or image in between
 abbrev pub RunsExported : (State → Type 0) → List ℕ → List Exported → Type 0
 RunsExported H i [] = Unit {0}
-RunsExported H i (x ∷ xs) = TakesExported H i x × RunsExported (Hands (index small) H (promiseStep x)) (x .image) xs
+RunsExported H i (x ∷ xs) = TakesExported H i x × RunsExported (Hands index H (promiseStep x)) (x .image) xs
 
 -- a call tells this answer: the refusal; a look up also the value
 pub record TellsAnswer (x : Exported) (a : P.Answer) : Type 0 where
   pub refusal : x .refusal ≡ refusalIn a
   pub value : (k : ℕ) → x .call ≡ LookUp k → getD (x .told) 0 0 ≡ valueIn a
 
--- compared at each place with the plain store: what the call tells; and, after the call, K and G with what the image means
+-- compared at each place with the plain store: what the call tells; and, after the call, K and G with what the image means, read as
+-- the part of the plain store
 abbrev pub AgreesTold : Plain → List ℕ → List Exported → Type 0
 AgreesTold p i [] = Unit {0}
 AgreesTold p i (x ∷ xs) =
-    TellsAnswer x (answerTo small (index small) p (promiseStep x))
-    × (imageMeaning small (x .image) ≡ means (next small (index small) p i (promiseStep x) .kept) (next small (index small) p i (promiseStep x) .number))
-    × AgreesTold (next small (index small) p i (promiseStep x)) (x .image) xs
+    TellsAnswer x (answerTo index p (promiseStep x))
+    × (imageMeaning (geometryOf (next index p i (promiseStep x) .nand)) (x .image) ≡ means (next index p i (promiseStep x) .kept) (next index p i (promiseStep x) .number))
+    × AgreesTold (next index p i (promiseStep x)) (x .image) xs
 
 -- the sum of the three numbers told
 abbrev pub sumTold : List ℕ → ℕ

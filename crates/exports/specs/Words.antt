@@ -1,10 +1,12 @@
--- The numbers of a state in a caller's six words: on, blocks, commit, pending, next, count.
+-- The numbers of a state in a caller's seven words: on, blocks, commit, pending, next, count, part.
 use mathlib.Core.Path.{_≡_}
-use mathlib.Core.Bool.{Bool, true, false}
+use mathlib.Core.Bool.{Bool, true, false, cond}
 use mathlib.Core.List.{List, [], _∷_}
 use Prim.Native.Nat.{ℕ, _%_, _<_}
 use lib.Dec.{eqb}
 use lib.ListN.{getD}
+use Rattle.chip.specs.declared.geometry.Nand.the-variants.{Small, Large}
+use Rattle.chip.specs.Geometry.{Nand}
 use Rattle.store.specs.declared.state.Numbers.{Numbers}
 
 -- a bool as a word
@@ -12,11 +14,20 @@ abbrev pub bit : Bool → ℕ
 bit true = 1
 bit false = 0
 
+-- a part as a word, and the part of a word: 1 is the large part, any other number the small part
+abbrev pub partWord : Nand → ℕ
+partWord Small = 0
+partWord Large = 1
+
+abbrev pub partIn : ℕ → Nand
+partIn w = cond (eqb w 1) Large Small
+
 -- the numbers that the words hold
 abbrev pub numbersIn : List ℕ → Numbers
 numbersIn words =
     record {
       on = eqb (getD words 0 0) 1;
+      nand = partIn (getD words 6 0);
       blocks = getD words 1 0;
       commit = getD words 2 0;
       pending = getD words 3 0;
@@ -33,4 +44,4 @@ pub record Loads (words : List ℕ) (n : Numbers) : Type 0 where
 -- the words of these numbers, blocks and count modulo 2 to the power 32
 abbrev pub wordsOf : Numbers → List ℕ
 wordsOf n =
-    bit (n .on) ∷ n .blocks % 4294967296 ∷ n .commit ∷ n .pending ∷ n .next ∷ n .count % 4294967296 ∷ []
+    bit (n .on) ∷ n .blocks % 4294967296 ∷ n .commit ∷ n .pending ∷ n .next ∷ n .count % 4294967296 ∷ partWord (n .nand) ∷ []

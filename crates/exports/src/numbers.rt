@@ -1,7 +1,9 @@
-// The numbers of a state as the caller keeps them, in six words: on (1, else off), blocks, commit, pending, next, count.
+// The numbers of a state as the caller keeps them, in seven words: on (1, else off), blocks, commit, pending, next, count, part (1 large, else
+// small).
 ghost use mathlib.Core.Path.{_≡_};
 ghost use Prim.Native.Nat.{_%_, _<_};
-ghost use Rattle.exports.specs.Words.{Loads, wordsOf, bit};
+ghost use Rattle.exports.specs.Words.{Loads, wordsOf, bit, partIn, partWord};
+use chip::geometry::Nand;
 use store::state::Numbers;
 
 // A word at the width of an index.
@@ -25,12 +27,31 @@ pub fn word(on: bool) -> u32
     if on { 1 } else { 0 }
 }
 
+// The part of a word: 1 is the large part, any other number the small part.
+pub fn part_in(word: u32) -> Nand
+    ensures { λ r. ⌜ r ≡ partIn word ⌝ }
+{
+    if word == 1 { Nand::Large } else { Nand::Small }
+}
+
+// A part as a word.
+fn part_word(nand: Nand) -> u32
+    ensures { λ r. ⌜ r ≡ partWord nand ⌝ }
+{
+    match nand {
+        Nand::Small => 0,
+        Nand::Large => 1,
+    }
+}
+
 // The numbers that the words hold.
-pub fn load(words: &[u32; 6]) -> Numbers
+pub fn load(words: &[u32; 7]) -> Numbers
     ensures { λ r. ⌜ Loads (now (words .entry)) r ⌝ }
 {
+    let nand = part_in(words[6]);
     Numbers {
         on: words[0] == 1,
+        nand,
         blocks: wide(words[1]),
         commit: words[2],
         pending: words[3],
@@ -40,12 +61,14 @@ pub fn load(words: &[u32; 6]) -> Numbers
 }
 
 // The numbers written to the words; one above 32 bits, which no call gives, is taken modulo 2 to the power 32.
-pub fn save(numbers: Numbers, words: &mut [u32; 6])
+pub fn save(numbers: Numbers, words: &mut [u32; 7])
     ensures { λ _. ⌜ now (words .exit) ≡ wordsOf numbers ⌝ }
 {
     let on = word(numbers.on);
     let blocks = narrow(numbers.blocks);
     let count = narrow(numbers.count);
+    let nand = numbers.nand;
+    let part = part_word(nand);
     *words = [
         on,
         blocks,
@@ -53,5 +76,6 @@ pub fn save(numbers: Numbers, words: &mut [u32; 6])
         numbers.pending,
         numbers.next,
         count,
+        part,
     ];
 }

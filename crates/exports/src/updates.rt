@@ -7,7 +7,7 @@ use store::update;
 // Insert: the refusal; accepted, the numbers and the buffer have the update.
 #[no_mangle]
 pub extern "C" fn vehinoke_insert<'a>(
-    numbers: &mut [u32; 6],
+    numbers: &mut [u32; 7],
     lens: &'a [u32; 256],
     slots: &'a [u32; 1024],
     buffer: &mut [u8; 11520],
@@ -29,7 +29,7 @@ pub extern "C" fn vehinoke_insert<'a>(
 // Delete: the refusal; accepted, the numbers and the buffer have the update.
 #[no_mangle]
 pub extern "C" fn vehinoke_delete<'a>(
-    numbers: &mut [u32; 6],
+    numbers: &mut [u32; 7],
     lens: &'a [u32; 256],
     slots: &'a [u32; 1024],
     buffer: &mut [u8; 11520],

@@ -1,4 +1,6 @@
 // Format, mount and commit.
+ghost use mathlib.Core.Path.{_≡_};
+ghost use mathlib.Core.List.{[], _∷_};
 ghost use Rattle.exports.specs.Calls.{Tells, FormatsTold, MountsTold, CommitsTold};
 use crate::numbers;
 use store::answer;
@@ -8,7 +10,7 @@ use store::mount;
 use store::state::WroteParts;
 
 // What a call gave back: its numbers and its counts of operations written to the caller's words, and its refusal, 0 for none.
-fn give(wrote: WroteParts, numbers: &mut [u32; 6], ops: &mut [u32; 3]) -> u32
+fn give(wrote: WroteParts, numbers: &mut [u32; 7], ops: &mut [u32; 3]) -> u32
     ensures { λ r. ⌜ Tells wrote r (now (ops .exit)) (now (numbers .exit)) ⌝ }
 {
     let a = wrote.answer;
@@ -19,50 +21,69 @@ fn give(wrote: WroteParts, numbers: &mut [u32; 6], ops: &mut [u32; 3]) -> u32
     answer::number(a)
 }
 
-// Format: the refusal, and in `ops` the operations done: data programs, marks set, erases.
+// The refusal of a number that names no part, with no operation told.
+fn no_part(ops: &mut [u32; 3]) -> u32
+    ensures { λ r. ⌜ (r ≡ 1) × (now (ops .exit) ≡ 0 ∷ 0 ∷ 0 ∷ []) ⌝ }
+{
+    *ops = [0, 0, 0];
+    1
+}
+
+// Format as the part named, 0 small and 1 large; with any other number it is refused with 1 and changes nothing. The refusal, and in `ops` the
+// operations done: data programs, marks set, erases.
 #[no_mangle]
 pub extern "C" fn vehinoke_format(
-    numbers: &mut [u32; 6],
+    numbers: &mut [u32; 7],
     lens: &mut [u32; 256],
     slots: &mut [u32; 1024],
     erases: &mut [u64; 32],
     image: &mut [u8],
     torn: &[u8],
+    part: u32,
     allowance: u32,
     ops: &mut [u32; 3],
 ) -> u32
-    ensures { λ r. ⌜ FormatsTold allowance (now (torn .entry)) (now (numbers .entry)) (now (lens .entry)) (now (slots .entry)) (now (erases .entry)) (now (image .entry))
+    ensures { λ r. ⌜ FormatsTold part allowance (now (torn .entry)) (now (numbers .entry)) (now (lens .entry)) (now (slots .entry)) (now (erases .entry)) (now (image .entry))
         r (now (ops .exit)) (now (numbers .exit)) (now (lens .exit)) (now (slots .exit)) (now (erases .exit)) (now (image .exit)) ⌝ }
 {
+    if 1 < part {
+        return no_part(ops);
+    }
+    let nand = numbers::part_in(part);
     let n = numbers::load(numbers);
-    let w = format::format_lent(n, lens, slots, erases, image, torn, allowance);
+    let w = format::format_lent(n, nand, lens, slots, erases, image, torn, allowance);
     give(w, numbers, ops)
 }
 
-// Mount: the refusal, and in `ops` the operations done: data programs, marks set, erases.
+// Mount as the part named, by the same numbers: the refusal, and in `ops` the operations done: data programs, marks set, erases.
 #[no_mangle]
 pub extern "C" fn vehinoke_mount(
-    numbers: &mut [u32; 6],
+    numbers: &mut [u32; 7],
     lens: &mut [u32; 256],
     slots: &mut [u32; 1024],
     erases: &mut [u64; 32],
     image: &mut [u8],
     torn: &[u8],
+    part: u32,
     allowance: u32,
     ops: &mut [u32; 3],
 ) -> u32
-    ensures { λ r. ⌜ MountsTold allowance (now (torn .entry)) (now (numbers .entry)) (now (lens .entry)) (now (slots .entry)) (now (erases .entry)) (now (image .entry))
+    ensures { λ r. ⌜ MountsTold part allowance (now (torn .entry)) (now (numbers .entry)) (now (lens .entry)) (now (slots .entry)) (now (erases .entry)) (now (image .entry))
         r (now (ops .exit)) (now (numbers .exit)) (now (lens .exit)) (now (slots .exit)) (now (erases .exit)) (now (image .exit)) ⌝ }
 {
+    if 1 < part {
+        return no_part(ops);
+    }
+    let nand = numbers::part_in(part);
     let n = numbers::load(numbers);
-    let w = mount::mount_lent(n, lens, slots, erases, image, torn, allowance);
+    let w = mount::mount_lent(n, nand, lens, slots, erases, image, torn, allowance);
     give(w, numbers, ops)
 }
 
 // Commit: the refusal, and in `ops` the operations done: data programs, marks set, erases.
 #[no_mangle]
 pub extern "C" fn vehinoke_commit(
-    numbers: &mut [u32; 6],
+    numbers: &mut [u32; 7],
     lens: &mut [u32; 256],
     slots: &mut [u32; 1024],
     erases: &mut [u64; 32],

@@ -3,6 +3,7 @@ use mathlib.Core.Path.{_≡_, refl}
 use mathlib.Core.List.{List, [], _∷_, _++_}
 use Prim.Native.Nat.{ℕ}
 use lib.ListN.{replicate}
+use Rattle.chip.specs.declared.geometry.Nand.the-variants.{Small}
 use Rattle.store.specs.declared.step.Call.the-variants.{Format, Insert, Delete, LookUp, Commit, Mount}
 use Rattle.store.specs.declared.answer.Answer.the-variants.{Accepted, Found, Off, Cut}
 use Rattle.frames.specs.Frames.{none, frame, frameOf, answerText, badText}
@@ -13,12 +14,12 @@ zeros n = replicate n 48
 
 -- 00, 010000000700000063, 0200000007, 0300000007, 0400000000, 05000000FF
 frames :
-    (frameOf (48 ∷ 48 ∷ []) ≡ frame (Format 4294967295))
+    (frameOf (48 ∷ 48 ∷ []) ≡ frame (Format Small 4294967295))
     × (frameOf (48 ∷ 49 ∷ zeros 7 ++ (55 ∷ zeros 6 ++ (54 ∷ 51 ∷ []))) ≡ frame (Insert 7 99))
     × (frameOf (48 ∷ 50 ∷ zeros 7 ++ (55 ∷ [])) ≡ frame (Delete 7))
     × (frameOf (48 ∷ 51 ∷ zeros 7 ++ (55 ∷ [])) ≡ frame (LookUp 7))
     × (frameOf (48 ∷ 52 ∷ zeros 8) ≡ frame (Commit 0))
-    × (frameOf (48 ∷ 53 ∷ zeros 6 ++ (70 ∷ 70 ∷ [])) ≡ frame (Mount 255))
+    × (frameOf (48 ∷ 53 ∷ zeros 6 ++ (70 ∷ 70 ∷ [])) ≡ frame (Mount Small 255))
 unfolding frameOf
 frames = (refl, refl, refl, refl, refl, refl)
 

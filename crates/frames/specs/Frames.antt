@@ -5,6 +5,7 @@ use Prim.Native.Nat.{ℕ, zero, suc, _+_, _*_, _-_, _/_, _%_, _^_}
 use lib.Dec.{ltb, eqb}
 use lib.ListN.{length, take, drop}
 use Rattle.lists.specs.Lists.{all}
+use Rattle.chip.specs.declared.geometry.Nand.the-variants.{Small}
 use Rattle.store.specs.declared.step.Call.{Call}
 use Rattle.store.specs.declared.step.Call.the-variants.{Format, Insert, Delete, LookUp, Commit, Mount}
 use Rattle.store.specs.declared.answer.Answer.{Answer}
@@ -36,17 +37,17 @@ pub data Framed : Type 0 where
   none : Framed
   frame : Call → Framed
 
--- 00 format, with power enough
+-- 00 format of the small part, with power enough
 abbrev pub bare : ℕ → Framed
-bare kind = cond (eqb kind 0) (frame (Format 4294967295)) none
+bare kind = cond (eqb kind 0) (frame (Format Small 4294967295)) none
 
--- 02 delete key; 03 look up key; 04 commit allowance; 05 mount allowance
+-- 02 delete key; 03 look up key; 04 commit allowance; 05 mount of the small part with an allowance
 abbrev pub single : ℕ → ℕ → Framed
 single kind n =
     cond (eqb kind 2) (frame (Delete n))
     (cond (eqb kind 3) (frame (LookUp n))
     (cond (eqb kind 4) (frame (Commit n))
-    (cond (eqb kind 5) (frame (Mount n)) none)))
+    (cond (eqb kind 5) (frame (Mount Small n)) none)))
 
 -- 01 insert key value
 abbrev pub double : ℕ → ℕ → ℕ → Framed

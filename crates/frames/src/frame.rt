@@ -6,6 +6,7 @@ ghost use lib.ListN.{length};
 ghost use Rattle.frames.specs.Frames.{digitOf, allDigits, value, none, bare, single, double, frameOf};
 ghost use Rattle.frames.specs.LineCode.{framed, Frames};
 use crate::line::Line;
+use chip::geometry::Nand;
 use store::step::Call;
 
 // Whether a line is a frame, and its call.
@@ -67,7 +68,7 @@ fn no_frame() -> Frame
 {
     Frame {
         good: false,
-        call: Call::Format(0),
+        call: Call::Format(Nand::Small, 0),
     }
 }
 
@@ -78,7 +79,7 @@ fn bare_frame(kind: u32) -> Frame
     if kind == 0 {
         return Frame {
             good: true,
-            call: Call::Format(4294967295),
+            call: Call::Format(Nand::Small, 4294967295),
         };
     }
     no_frame()
@@ -109,7 +110,7 @@ fn single_frame(kind: u32, n: u32) -> Frame
     if kind == 5 {
         return Frame {
             good: true,
-            call: Call::Mount(n),
+            call: Call::Mount(Nand::Small, n),
         };
     }
     no_frame()

@@ -3,11 +3,12 @@ use mathlib.Core.Path.{_≡_, refl, sym, ap, _∙_}
 use mathlib.Core.Bool.{true}
 use mathlib.Core.List.{List}
 use Prim.Native.Nat.{ℕ, suc, _+_, _*_, _/_, _^_, _≤_, _<_}
-use native.Mathlib.Nat.{div-mul-le-self, mul-le-mul-left}
+use native.Mathlib.Nat.{div-mul-le-self, le-div-iff-mul-le, mul-le-mul-left}
 use native.Mathlib.Omega.{arith}
 use lib.ListN.{length}
 use Rattle.lists.specs.Lists.{All}
-use Rattle.chip.specs.Geometry.{Geometry, Fits, pageSize}
+use Rattle.chip.specs.Geometry.{Geometry, Fits, small, large, pageSize}
+use Rattle.chip.proofs.Sizes.{pages-pos}
 use Rattle.chip.specs.Page.{Page}
 use Rattle.chip.proofs.Runs.{Sized}
 use Rattle.pages.specs.declared.unit.Unit as U
@@ -15,7 +16,7 @@ use Rattle.pages.specs.Units.{Valid}
 use Rattle.views.specs.Table.{fresh, Node, isWhole}
 use Rattle.views.specs.Groups.{present}
 use Rattle.views.proofs.Meanings.{Kept, nodeIn, kept-node}
-use Rattle.log.specs.Plan.{spareBlocks, nodeAt}
+use Rattle.log.specs.Plan.{mostOps, spareBlocks, nodeAt}
 use Rattle.log.proofs.AssignedChoice.{Chip, Committable}
 use Rattle.log.proofs.PlanFair.{Bytes, fair-kept}
 use Rattle.log.proofs.PlanNodes.{fair-present}
@@ -57,6 +58,14 @@ module _ (g : Geometry) (f : Fits g) where
   pub wide : (B : ℕ) → 3 ≤ B → 2 * spareBlocks g B + 1 ≤ B
   wide B h = omega (arith, spare-few B)
 
-  -- fewer operations than 2,000, or 4,000: 389 at most
-  pub few-ops : (B n : ℕ) → B ≤ 32 → n ≤ 12 * B + spareBlocks g B → n ≤ 389
-  few-ops B n h k = omega (arith, spare-few B)
+  -- no more operations than on the most blocks
+  pub few-ops : (B n : ℕ) → B ≤ 32 → n ≤ 12 * B + spareBlocks g B → n ≤ mostOps g
+  few-ops B n h k =
+      let m : ℕ = 4 * B / g .pages in
+      let l : m * g .pages ≤ 4 * 32 = omega (arith, div-mul-le-self (4 * B) (g .pages)) in
+      let d : m ≤ 4 * 32 / g .pages = le-div-iff-mul-le (pages-pos g f) .1 l in
+      omega (arith, d)
+
+-- these are 389 on the small part and 387 on the large one
+most-examples : (mostOps small ≡ 389) × (mostOps large ≡ 387)
+most-examples = (refl, refl)

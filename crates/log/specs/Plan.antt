@@ -95,6 +95,10 @@ headBlock g ps = lastPlace (ordered (liveFrom g 0 ps)) / g .pages
 abbrev pub spareBlocks : Geometry → ℕ → ℕ
 spareBlocks g B = 4 * B / g .pages + 1
 
+-- the most operations that a commit has on a chip of the most blocks, 32: three for a page, 4 pages for a block, and the erases of as many blocks
+abbrev pub mostOps : Geometry → ℕ
+mostOps g = 12 * 32 + spareBlocks g 32
+
 -- ---- the plan: the blocks to erase, the pages to write
 pub record Plan : Type 0 where
   pub erased : List ℕ

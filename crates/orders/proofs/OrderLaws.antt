@@ -14,7 +14,7 @@ use Rattle.frames.proofs.FrameLaws.{digits}
 use Rattle.frames.proofs.LineLaws.{min-back}
 use Rattle.orders.specs.declared.order.Order.{Order}
 use Rattle.orders.specs.declared.order.Order.the-variants.{NoFrame}
-use Rattle.orders.specs.Orders.{bare, single, marked, double, byteAt, orderOf}
+use Rattle.orders.specs.Orders.{bare, named, single, marked, double, byteAt, orderOf}
 use Rattle.orders.specs.OrderCode.{Orders}
 
 -- ---- the order o of the bytes s, where g says whether they are all digits
@@ -31,18 +31,24 @@ module _ (s : List ℕ) (g : Bool) (same : g ≡ allDigits s) where
       let w : kindOf s ≡ k = ap value (take-all 2 s (omega arith)) ∙ sym q in
       simp (d, eq-eqb (length s) 2 h, w) e
 
+  pub of-four : (o : Order) (k b : ℕ) → not g ≡ false → length s ≡ 4 → k ≡ kindOf s → b ≡ byteAt 2 s → o ≡ named k b → o ≡ orderOf s
+  unfolding orderOf
+  of-four o k b n h q r e =
+      let d = digits s g same n in
+      simp (d, ne-eqb (length s) 2 (λ z. omega arith), eq-eqb (length s) 4 h, ← q, ← r) e
+
   pub of-ten : (o : Order) (k m : ℕ) → not g ≡ false → length s ≡ 10 → k ≡ kindOf s → m ≡ numberAt 2 s → o ≡ single k m → o ≡ orderOf s
   unfolding orderOf
   of-ten o k m n h q r e =
       let d = digits s g same n in
-      simp (d, ne-eqb (length s) 2 (λ z. omega arith), eq-eqb (length s) 10 h, ← q, ← r) e
+      simp (d, ne-eqb (length s) 2 (λ z. omega arith), ne-eqb (length s) 4 (λ z. omega arith), eq-eqb (length s) 10 h, ← q, ← r) e
 
   pub of-twelve : (o : Order) (k m b : ℕ) → not g ≡ false → length s ≡ 12 → k ≡ kindOf s → m ≡ numberAt 2 s → b ≡ byteAt 10 s
       → o ≡ marked k m b → o ≡ orderOf s
   unfolding orderOf
   of-twelve o k m b n h q r t e =
       let d = digits s g same n in
-      simp (d, ne-eqb (length s) 2 (λ z. omega arith), ne-eqb (length s) 10 (λ z. omega arith), eq-eqb (length s) 12 h, ← q, ← r, ← t) e
+      simp (d, ne-eqb (length s) 2 (λ z. omega arith), ne-eqb (length s) 4 (λ z. omega arith), ne-eqb (length s) 10 (λ z. omega arith), eq-eqb (length s) 12 h, ← q, ← r, ← t) e
 
   pub of-eighteen : (o : Order) (k m v : ℕ) → not g ≡ false → length s ≡ 18 → k ≡ kindOf s → m ≡ numberAt 2 s → v ≡ numberAt 10 s
       → o ≡ double k m v → o ≡ orderOf s
@@ -50,14 +56,14 @@ module _ (s : List ℕ) (g : Bool) (same : g ≡ allDigits s) where
   of-eighteen o k m v n h q r t e =
       let d = digits s g same n in
       simp
-      (d, ne-eqb (length s) 2 (λ z. omega arith), ne-eqb (length s) 10 (λ z. omega arith), ne-eqb (length s) 12 (λ z. omega arith), eq-eqb (length s) 18 h, ← q, ← r, ← t)
+      (d, ne-eqb (length s) 2 (λ z. omega arith), ne-eqb (length s) 4 (λ z. omega arith), ne-eqb (length s) 10 (λ z. omega arith), ne-eqb (length s) 12 (λ z. omega arith), eq-eqb (length s) 18 h, ← q, ← r, ← t)
       e
 
-  pub of-other : not g ≡ false → (length s ≡ 2 → ⊥) → (length s ≡ 10 → ⊥) → (length s ≡ 12 → ⊥) → (length s ≡ 18 → ⊥) → NoFrame ≡ orderOf s
+  pub of-other : not g ≡ false → (length s ≡ 2 → ⊥) → (length s ≡ 4 → ⊥) → (length s ≡ 10 → ⊥) → (length s ≡ 12 → ⊥) → (length s ≡ 18 → ⊥) → NoFrame ≡ orderOf s
   unfolding orderOf
-  of-other n h i j k =
+  of-other n h f i j k =
       let d = digits s g same n in
-      simp (d, ne-eqb (length s) 2 h, ne-eqb (length s) 10 i, ne-eqb (length s) 12 j, ne-eqb (length s) 18 k)
+      simp (d, ne-eqb (length s) 2 h, ne-eqb (length s) 4 f, ne-eqb (length s) 10 i, ne-eqb (length s) 12 j, ne-eqb (length s) 18 k)
 
 -- ---- the order of a line that is too long, and of one that is not
 long : (bs : List ℕ) → 18 < length bs → orderOf bs ≡ NoFrame
@@ -68,6 +74,7 @@ long bs h =
     simp (
       e,
       ne-eqb (length bs) 2 (λ z. omega arith),
+      ne-eqb (length bs) 4 (λ z. omega arith),
       ne-eqb (length bs) 10 (λ z. omega arith),
       ne-eqb (length bs) 12 (λ z. omega arith),
       ne-eqb (length bs) 18 (λ z. omega arith),

@@ -4,15 +4,24 @@ use mathlib.Core.List.{List}
 use Prim.Native.Nat.{ℕ}
 use lib.Dec.{ltb, eqb}
 use lib.ListN.{length, take, drop}
+use Rattle.chip.specs.declared.geometry.Nand.the-variants.{Small, Large}
 use Rattle.frames.specs.Frames.{allDigits, value, kindOf, numberAt}
 use Rattle.orders.specs.declared.order.Call.the-variants.{Format, Insert, Delete, LookUp, Commit, Mount, Report, Show, Forecast}
-use Rattle.orders.specs.declared.order.Setting.the-variants.{Lend, Cut, SetImage, SetTorn, LendTorn, Sum, Noise}
+use Rattle.orders.specs.declared.order.Setting.the-variants.{Lend, Cut, SetImage, SetTorn, LendTorn, Sum, Noise, Name}
 use Rattle.orders.specs.declared.order.Order.{Order}
 use Rattle.orders.specs.declared.order.Order.the-variants.{NoFrame, Calls, Sets}
 
 -- 09 forecast; 15 sum
 abbrev pub bare : ℕ → Order
 bare kind = cond (eqb kind 9) (Calls Forecast) (cond (eqb kind 21) (Sets Sum) NoFrame)
+
+-- 00 the small part, 01 the large part
+abbrev pub partOf : ℕ → Order
+partOf byte = cond (eqb byte 0) (Sets (Name Small)) (cond (eqb byte 1) (Sets (Name Large)) NoFrame)
+
+-- 17 name a part
+abbrev pub named : ℕ → ℕ → Order
+named kind byte = cond (eqb kind 23) (partOf byte) NoFrame
 
 -- 00 format, 04 commit and 05 mount with an allowance; 02 delete and 03 look up a key; 06 report a block; 07 show a page
 abbrev pub callOf : ℕ → ℕ → Order
@@ -54,7 +63,8 @@ unfoldable pub orderOf : List ℕ → Order
 orderOf bs =
     cond (allDigits bs)
     (cond (eqb (length bs) 2) (bare (kindOf bs))
+    (cond (eqb (length bs) 4) (named (kindOf bs) (byteAt 2 bs))
     (cond (eqb (length bs) 10) (single (kindOf bs) (numberAt 2 bs))
     (cond (eqb (length bs) 12) (marked (kindOf bs) (numberAt 2 bs) (byteAt 10 bs))
-    (cond (eqb (length bs) 18) (double (kindOf bs) (numberAt 2 bs) (numberAt 10 bs)) NoFrame))))
+    (cond (eqb (length bs) 18) (double (kindOf bs) (numberAt 2 bs) (numberAt 10 bs)) NoFrame)))))
     NoFrame

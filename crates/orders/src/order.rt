@@ -1,7 +1,8 @@
 // A line taken as a frame of the probe.
 ghost use mathlib.Core.Path.{_≡_};
-ghost use Rattle.orders.specs.Orders.{callOf, settingOf, bare, single, marked, double, orderOf};
+ghost use Rattle.orders.specs.Orders.{callOf, settingOf, partOf, bare, named, single, marked, double, orderOf};
 ghost use Rattle.orders.specs.OrderCode.{Orders};
+use chip::geometry::Nand;
 use frames::frame;
 use frames::line::Line;
 
@@ -19,7 +20,7 @@ pub enum Call {
 }
 
 // What is done to the bytes that the calls are lent: so many blocks lent, so many bytes, a byte of the image or a torn byte set at an
-// offset, so many torn bytes lent, the sum of the image told, noise from a seed.
+// offset, so many torn bytes lent, the sum of the image told, noise from a seed; and the part that format, mount and show name.
 pub enum Setting {
     Lend(u32),
     Cut(u32),
@@ -28,6 +29,7 @@ pub enum Setting {
     LendTorn(u32),
     Sum,
     Noise(u32),
+    Name(Nand),
 }
 
 // What a line orders: a call, or a setting of the bytes lent; nothing, for a line that is no frame.
@@ -46,6 +48,29 @@ fn bare(kind: u32) -> Order
     }
     if kind == 21 {
         return Order::Sets(Setting::Sum);
+    }
+    Order::NoFrame
+}
+
+// The part that a byte names.
+fn part_of(byte: u32) -> Order
+    ensures { λ r. ⌜ r ≡ partOf byte ⌝ }
+{
+    if byte == 0 {
+        return Order::Sets(Setting::Name(Nand::Small));
+    }
+    if byte == 1 {
+        return Order::Sets(Setting::Name(Nand::Large));
+    }
+    Order::NoFrame
+}
+
+// The order of a kind and a byte.
+fn named(kind: u32, byte: u32) -> Order
+    ensures { λ r. ⌜ r ≡ named kind byte ⌝ }
+{
+    if kind == 23 {
+        return part_of(byte);
     }
     Order::NoFrame
 }
@@ -124,6 +149,11 @@ fn order_in(s: &[u8]) -> Order
     if len == 2 {
         let kind = frame::value_of(s);
         return bare(kind);
+    }
+    if len == 4 {
+        let kind = frame::value_of(&s[0..2]);
+        let byte = frame::value_of(&s[2..4]);
+        return named(kind, byte);
     }
     if len == 10 {
         let kind = frame::value_of(&s[0..2]);

@@ -3,7 +3,7 @@ use mathlib.Core.Path.{_≡_}
 use mathlib.Core.List.{List, [], _∷_}
 use Prim.Native.Nat.{ℕ, min}
 use lib.ListN.{length, take, drop}
-use Rattle.chip.specs.Geometry.{small}
+use Rattle.chip.specs.Geometry.{Nand}
 use Rattle.store.specs.declared.state.State.{State}
 use Rattle.store.specs.declared.step.Call as Step
 use Rattle.store.specs.declared.step.Call.the-variants as S
@@ -18,23 +18,23 @@ use Rattle.orders.specs.declared.order.Order.the-variants.{NoFrame, Calls, Sets
 use Rattle.orders.specs.declared.order.Call.the-variants.{Format, Insert, Delete, LookUp, Commit, Mount, Report, Show, Forecast}
 use Rattle.probe.specs.declared.bed.Bed.{Bed}
 
--- the call as one of the store's, none for a block report and for show
-abbrev pub storeCalls : Call → List Step.Call
-storeCalls (Format n) = S.Format n ∷ []
-storeCalls (Insert k v) = S.Insert k v ∷ []
-storeCalls (Delete k) = S.Delete k ∷ []
-storeCalls (LookUp k) = S.LookUp k ∷ []
-storeCalls (Commit n) = S.Commit n ∷ []
-storeCalls (Mount n) = S.Mount n ∷ []
-storeCalls (Report b) = []
-storeCalls (Show p) = []
-storeCalls Forecast = S.Forecast ∷ []
+-- the call as one of the store's, where a format and a mount name the part; none for a block report and for show
+abbrev pub storeCalls : Nand → Call → List Step.Call
+storeCalls nand (Format n) = S.Format nand n ∷ []
+storeCalls nand (Insert k v) = S.Insert k v ∷ []
+storeCalls nand (Delete k) = S.Delete k ∷ []
+storeCalls nand (LookUp k) = S.LookUp k ∷ []
+storeCalls nand (Commit n) = S.Commit n ∷ []
+storeCalls nand (Mount n) = S.Mount nand n ∷ []
+storeCalls nand (Report b) = []
+storeCalls nand (Show p) = []
+storeCalls nand Forecast = S.Forecast ∷ []
 
--- a call on what it is lent
-abbrev pub Makes : Call → (torn : List ℕ) (s : State) (i : List ℕ) (s' : State) (i' : List ℕ) → Type 0
-Makes c torn s i s' i' = RunsTo small torn (storeCalls c) s i s' i'
+-- a call on what it is lent, and with the part that it names
+abbrev pub Makes : Nand → Call → (torn : List ℕ) (s : State) (i : List ℕ) (s' : State) (i' : List ℕ) → Type 0
+Makes nand c torn s i s' i' = RunsTo torn (storeCalls nand c) s i s' i'
 
--- what the probe has between two lines: how much is lent, the torn bytes, the state and the image
+-- what the probe has between two lines: the part named and how much is lent, the torn bytes, the state and the image
 pub record Rig : Type 0 where
   pub bed : Bed
   pub torn : List ℕ
@@ -52,9 +52,9 @@ lentBytes h = min (h .bed .image) (length (h .image))
 abbrev pub lentTorn : Rig → ℕ
 lentTorn h = min (h .bed .torn) (length (h .torn))
 
--- a call on what is lent: the image stays as it was behind that, and so do the torn bytes and how much is lent
+-- a call on what is lent: the image stays as it was behind that, and so do the torn bytes, the part named and how much is lent
 pub record CarriesCall (c : Call) (h k : Rig) : Type 0 where
-  pub makes : Makes c (take (lentTorn h) (h .torn)) (h .state) (take (lentBytes h) (h .image)) (k .state) (take (lentBytes h) (k .image))
+  pub makes : Makes (h .bed .nand) c (take (lentTorn h) (h .torn)) (h .state) (take (lentBytes h) (h .image)) (k .state) (take (lentBytes h) (k .image))
   pub behind : drop (lentBytes h) (k .image) ≡ drop (lentBytes h) (h .image)
   pub torn : k .torn ≡ h .torn
   pub bed : k .bed ≡ h .bed

@@ -1,14 +1,19 @@
-// What the calls are lent: the first bytes of the image buffer, and the first torn bytes.
+// What the calls are lent: the first bytes of the image buffer, and the first torn bytes; and the part that they name.
+ghost use mathlib.Core.Path.{_≡_};
 ghost use Prim.Native.Nat.{_+_, _≤_};
 ghost use lib.ListN.{length};
+ghost use Rattle.chip.specs.Geometry.{large, geometryOf, blockSize};
 use crate::output::within;
+use chip::geometry;
+use chip::geometry::Nand;
 use orders::noise;
 use orders::order::Setting;
 use orders::reply;
 use orders::sum;
 
-// How many bytes are lent of the image buffer, and of the torn bytes.
+// The part that format, mount and show name; how many bytes are lent of the image buffer, and of the torn bytes.
 pub struct Bed {
+    pub nand: Nand,
     pub image: usize,
     pub torn: usize,
 }
@@ -19,15 +24,28 @@ pub struct Made {
     pub at: usize,
 }
 
-// The bytes of a block.
-const BLOCK: usize = 16896;
+// The bytes of a block of the part.
+fn block_size(nand: Nand) -> usize
+    ensures { λ r. ⌜ (r ≡ blockSize (geometryOf nand)) × (r ≤ blockSize large) ⌝ }
+{
+    let g = geometry::geometry_of(nand);
+    g.pages * (g.area + g.spare)
+}
 
-// The most blocks lent.
-const BLOCKS: u32 = 40;
+// The most blocks of the part that are lent.
+fn most_blocks(nand: Nand) -> u32
+    ensures { λ r. ⌜ r ≤ 40 ⌝ }
+{
+    match nand {
+        Nand::Small => 40,
+        Nand::Large => 33,
+    }
+}
 
-// A chip of 3 blocks and the torn bytes of one page.
+// The small part, a chip of 3 blocks of it and the torn bytes of one page.
 pub fn first_bed() -> Bed {
     Bed {
+        nand: Nand::Small,
         image: 50688,
         torn: 528,
     }
@@ -58,16 +76,30 @@ fn clear(image: &mut [u8]) {
     }
 }
 
-// An image of so many blocks lent, each byte 255.
+// The part that is named from now on.
+fn name(bed: Bed, out: &mut [u8], at: usize, nand: Nand) -> Made
+    requires { ⌜ at + 11 ≤ length (now out) ⌝ }
+{
+    let b = Bed {
+        nand,
+        image: bed.image,
+        torn: bed.torn,
+    };
+    accepted(b, out, at)
+}
+
+// An image of so many blocks of the part named lent, each byte 255.
 fn lend(bed: Bed, image: &mut [u8], out: &mut [u8], at: usize, blocks: u32) -> Made
     requires { ⌜ at + 11 ≤ length (now out) ⌝ }
 {
-    if blocks > BLOCKS {
+    let nand = bed.nand;
+    if blocks > most_blocks(nand) {
         return refused(bed, out, at);
     }
     clear(image);
     let b = Bed {
-        image: (blocks as usize) * BLOCK,
+        nand,
+        image: (blocks as usize) * block_size(nand),
         torn: bed.torn,
     };
     accepted(b, out, at)
@@ -81,7 +113,9 @@ fn cut(bed: Bed, image: &[u8], out: &mut [u8], at: usize, size: u32) -> Made
     if n > image.len() {
         return refused(bed, out, at);
     }
+    let nand = bed.nand;
     let b = Bed {
+        nand,
         image: n,
         torn: bed.torn,
     };
@@ -96,7 +130,9 @@ fn lend_torn(bed: Bed, torn: &[u8], out: &mut [u8], at: usize, size: u32) -> Mad
     if n > torn.len() {
         return refused(bed, out, at);
     }
+    let nand = bed.nand;
     let b = Bed {
+        nand,
         image: bed.image,
         torn: n,
     };
@@ -173,5 +209,6 @@ pub fn make(
         Setting::LendTorn(size) => lend_torn(bed, torn, out, at, size),
         Setting::Sum => tell_sum(bed, image, out, at),
         Setting::Noise(seed) => make_noise(bed, image, out, at, seed),
+        Setting::Name(nand) => name(bed, out, at, nand),
     }
 }

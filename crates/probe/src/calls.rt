@@ -3,6 +3,7 @@ ghost use Prim.Native.Nat.{_+_, _≤_};
 ghost use lib.ListN.{length};
 ghost use mathlib.Core.Path.{_≡_};
 ghost use Rattle.probe.specs.Makes.{Makes};
+use chip::geometry::Nand;
 use orders::order::Call;
 use orders::reply;
 use store::answer;
@@ -29,7 +30,7 @@ pub struct Told {
 
 // What format, commit and mount tell.
 fn tell_wrote(w: Wrote, out: &mut [u8], at: usize) -> Told
-    requires { ⌜ at + 1011 ≤ length (now out) ⌝ }
+    requires { ⌜ at + 4083 ≤ length (now out) ⌝ }
     ensures { λ r. ⌜ r .state ≡ w .state ⌝ }
 {
     let given = w.answer;
@@ -42,7 +43,7 @@ fn tell_wrote(w: Wrote, out: &mut [u8], at: usize) -> Told
 
 // What insert and delete tell.
 fn tell_updated(u: Updated, out: &mut [u8], at: usize) -> Told
-    requires { ⌜ at + 1011 ≤ length (now out) ⌝ }
+    requires { ⌜ at + 4083 ≤ length (now out) ⌝ }
     ensures { λ r. ⌜ r .state ≡ u .state ⌝ }
 {
     let given = u.answer;
@@ -54,7 +55,7 @@ fn tell_updated(u: Updated, out: &mut [u8], at: usize) -> Told
 
 // What a look up tells.
 fn tell_look(state: State, look: Look, out: &mut [u8], at: usize) -> Told
-    requires { ⌜ at + 1011 ≤ length (now out) ⌝ }
+    requires { ⌜ at + 4083 ≤ length (now out) ⌝ }
     ensures { λ r. ⌜ r .state ≡ state ⌝ }
 {
     let end = reply::put_look(out, at, look);
@@ -63,7 +64,7 @@ fn tell_look(state: State, look: Look, out: &mut [u8], at: usize) -> Told
 
 // What a block report tells.
 fn tell_report(state: State, told: Report, out: &mut [u8], at: usize) -> Told
-    requires { ⌜ at + 1011 ≤ length (now out) ⌝ }
+    requires { ⌜ at + 4083 ≤ length (now out) ⌝ }
     ensures { λ r. ⌜ r .state ≡ state ⌝ }
 {
     let end = reply::put_report(out, at, told);
@@ -72,7 +73,7 @@ fn tell_report(state: State, told: Report, out: &mut [u8], at: usize) -> Told
 
 // What a forecast tells: the operations foretold, by kind.
 fn tell_forecast(state: State, told: Forecast, out: &mut [u8], at: usize) -> Told
-    requires { ⌜ at + 1011 ≤ length (now out) ⌝ }
+    requires { ⌜ at + 4083 ≤ length (now out) ⌝ }
     ensures { λ r. ⌜ r .state ≡ state ⌝ }
 {
     let given = told.answer;
@@ -82,37 +83,38 @@ fn tell_forecast(state: State, told: Forecast, out: &mut [u8], at: usize) -> Tol
     Told { state, at: end }
 }
 
-// What show tells: the units of a page are at most 504 bytes.
-fn tell_shown(image: &[u8], page: u32, out: &mut [u8], at: usize) -> usize
-    requires { ⌜ at + 1011 ≤ length (now out) ⌝ }
+// What show tells: the units of a page are at most 2,040 bytes.
+fn tell_shown(nand: Nand, image: &[u8], page: u32, out: &mut [u8], at: usize) -> usize
+    requires { ⌜ at + 4083 ≤ length (now out) ⌝ }
 {
     let mut refusal: u32 = 0;
-    let shown = show::show(image, page, &mut refusal);
+    let shown = show::show(nand, image, page, &mut refusal);
     if refusal != 0 {
         return reply::put_short(out, at, refusal);
     }
     reply::put_shown(out, at, shown)
 }
 
-// A call of the store, on the image and the torn bytes lent.
+// A call of the store, on the image and the torn bytes lent, that names the part where it names one.
 pub fn call(
     state: State,
+    nand: Nand,
     image: &mut [u8],
     torn: &[u8],
     out: &mut [u8],
     at: usize,
     call: Call,
 ) -> Told
-    requires { ⌜ at + 1011 ≤ length (now out) ⌝ }
-    ensures { λ r. ⌜ Makes call (now (torn .entry)) state (now (image .entry)) (r .state) (now (image .exit)) ⌝ }
+    requires { ⌜ at + 4083 ≤ length (now out) ⌝ }
+    ensures { λ r. ⌜ Makes nand call (now (torn .entry)) state (now (image .entry)) (r .state) (now (image .exit)) ⌝ }
 {
     match call {
-        Call::Format(n) => tell_wrote(format::format(state, image, torn, n), out, at),
+        Call::Format(n) => tell_wrote(format::format(state, nand, image, torn, n), out, at),
         Call::Insert(key, value) => tell_updated(update::insert(state, image, key, value), out, at),
         Call::Delete(key) => tell_updated(update::delete(state, image, key), out, at),
         Call::LookUp(key) => tell_look(state, find::look_up(state, image, key), out, at),
         Call::Commit(n) => tell_wrote(commit::commit(state, image, torn, n), out, at),
-        Call::Mount(n) => tell_wrote(mount::mount(state, image, torn, n), out, at),
+        Call::Mount(n) => tell_wrote(mount::mount(state, nand, image, torn, n), out, at),
         Call::Report(block) => tell_report(
             state,
             report::block_report(state, image, block),
@@ -120,7 +122,7 @@ pub fn call(
             at,
         ),
         Call::Show(page) => {
-            let end = tell_shown(image, page, out, at);
+            let end = tell_shown(nand, image, page, out, at);
             Told { state, at: end }
         }
         Call::Forecast => tell_forecast(state, forecast::forecast(state, image), out, at),

@@ -1,5 +1,5 @@
-// The probe program, for tests: a store that starts off, on a chip of 3 blocks, each byte 255, with torn bytes of 90. It reads frames of
-// hexadecimal from standard input, one a line, and answers each by a line.
+// The probe program, for tests: a store that starts off, on a chip of 3 blocks of the small part, each byte 255, with torn bytes of 90. It reads
+// frames of hexadecimal from standard input, one a line, and answers each by a line.
 ghost use mathlib.Core.Path.{_≡_};
 ghost use lib.ListN.{length};
 ghost use Rattle.probe.specs.Makes.{rig, CarriesOut, CarriesLine, CarriesIn, CarriesSome};
@@ -40,6 +40,7 @@ fn carry_out(probe: Probe, image: &mut [u8], torn: &mut [u8], out: &mut [u8], gi
 {
     let state = probe.state;
     let lent = probe.bed;
+    let nand = lent.nand;
     let at = output::room(out, probe.at);
     match given {
         Order::NoFrame => {
@@ -53,7 +54,7 @@ fn carry_out(probe: Probe, image: &mut [u8], torn: &mut [u8], out: &mut [u8], gi
         Order::Calls(call) => {
             let n = within(lent.image, image);
             let t = within(lent.torn, torn);
-            let told = calls::call(state, &mut image[..n], &torn[..t], out, at, call);
+            let told = calls::call(state, nand, &mut image[..n], &torn[..t], out, at, call);
             let after = told.state;
             Probe {
                 state: after,
@@ -63,12 +64,9 @@ fn carry_out(probe: Probe, image: &mut [u8], torn: &mut [u8], out: &mut [u8], gi
         }
         Order::Sets(setting) => {
             let made = bed::make(lent, image, torn, out, at, setting);
-            let b = made.bed;
-            Probe {
-                state,
-                bed: b,
-                at: made.at,
-            }
+            let bed = made.bed;
+            let at = made.at;
+            Probe { state, bed, at }
         }
     }
 }
@@ -172,19 +170,34 @@ fn finish(reading: Reading, image: &mut [u8], torn: &mut [u8], out: &mut [u8])
     output::flush(out, after.at);
 }
 
-// All of standard input.
-fn main() {
-    let mut image = [255u8; 675840];
-    let mut torn = [90u8; 600];
-    let mut out = [0u8; 65536];
-    let mut r = begun();
+// Standard input read in turns, to its end.
+fn take_all(reading: Reading, image: &mut [u8], torn: &mut [u8], out: &mut [u8]) -> Reading
+    requires { ⌜ length (now out) ≡ 65536 ⌝ }
+    ensures { λ r. ⌜ CarriesSome (reading .line) (rig (reading .probe .bed) (now (torn .entry)) (reading .probe .state) (now (image .entry)))
+        (r .line) (rig (r .probe .bed) (now (torn .exit)) (r .probe .state) (now (image .exit))) ⌝ }
+{
+    let mut r = reading;
     let mut turns = u64::MAX;
     while turns > 0 {
         turns -= 1;
-        r = turn(r, &mut image, &mut torn, &mut out);
+        r = turn(r, image, torn, out);
         if !r.more {
             turns = 0;
         }
     }
-    finish(r, &mut image, &mut torn, &mut out);
+    r
+}
+
+// All of standard input.
+fn run(image: &mut [u8; 4460544], torn: &mut [u8; 2200], out: &mut [u8; 65536]) {
+    let r = take_all(begun(), image, torn, out);
+    finish(r, image, torn, out);
+}
+
+// The buffers: an image of 33 large blocks, torn bytes of a little more than a large page, and the output.
+fn main() {
+    let mut image = [255u8; 4460544];
+    let mut torn = [90u8; 2200];
+    let mut out = [0u8; 65536];
+    run(&mut image, &mut torn, &mut out);
 }

@@ -1,11 +1,11 @@
--- The plain store computed on short lists, that of the bench program first; and the same list on the small store. Assumes nothing.
+-- The plain store computed on short lists, that of the bench program first; and the same list on the sample store. Assumes nothing.
 use mathlib.Core.Path.{_≡_, refl}
 use mathlib.Core.Bool.{Bool, true, false}
 use mathlib.Core.List.{List, [], _∷_, _++_, map}
 use Prim.Native.Nat.{ℕ, zero, suc}
 use native.Mathlib.Omega.{arith}
 use lib.ListN.{replicate}
-use Rattle.chip.specs.Geometry.{small}
+use Rattle.chip.specs.declared.geometry.Nand.the-variants.{Small}
 use Rattle.views.specs.Nodes.{Entry, entry, untouched, view}
 use Rattle.tree.specs.Tree as T
 use Rattle.promise.specs.Plain.{Call, formats, inserts, deletes, looksUp, commits, mounts, lookingUp, insertion, deletion, Answer, refuses, accepted, finds, lookedUp, Plain, Fed, Compared, plainRun, isChipSize, isTornSize, hasBlocks, verdict, leaf, resting, updated, committed, finished, off, cutOff, acceptedAnswer}
@@ -35,7 +35,7 @@ ten c = record { call = c; ten = true }
 
 -- off, before any format
 abbrev pub before : Plain
-before = record { kept = []; present = []; pending = 0; number = 0; on = false; blocks = 0 }
+before = record { kept = []; present = []; pending = 0; number = 0; on = false; nand = Small; blocks = 0 }
 
 abbrev pub answerOf : Compared → Answer
 answerOf r = r .answer
@@ -44,18 +44,18 @@ abbrev pub numberOf : Compared → ℕ
 numberOf r = r .number
 
 abbrev pub answers : List Bool → List Fed → List Answer
-answers cs fs = map answerOf (plainRun small before cs fs)
+answers cs fs = map answerOf (plainRun before cs fs)
 
 -- format; insert (7, 99); look up; a commit that is cut at once; look up; mount; look up
 abbrev pub bench : List Fed
 bench =
-    call (formats 2000 image page) ∷ call (inserts 7 99 image) ∷ call (looksUp 7 image) ∷ ten (commits 0 image page) ∷ call (looksUp 7 image)
-    ∷ call (mounts 255 image page) ∷ call (looksUp 7 image) ∷ []
+    call (formats Small 2000 image page) ∷ call (inserts 7 99 image) ∷ call (looksUp 7 image) ∷ ten (commits 0 image page) ∷ call (looksUp 7 image)
+    ∷ call (mounts Small 255 image page) ∷ call (looksUp 7 image) ∷ []
 
 -- the same with a commit that has power enough
 abbrev pub whole : List Fed
 whole =
-    call (formats 2000 image page) ∷ call (inserts 7 99 image) ∷ call (commits 2000 image page) ∷ call (mounts 255 image page) ∷ call (looksUp 7 image) ∷ []
+    call (formats Small 2000 image page) ∷ call (inserts 7 99 image) ∷ call (commits 2000 image page) ∷ call (mounts Small 255 image page) ∷ call (looksUp 7 image) ∷ []
 
 -- n inserts, of keys n - 1 down to 0
 abbrev pub insertions : ℕ → List Fed
@@ -71,33 +71,33 @@ entries n (suc c) = entry n n ∷ entries (suc n) c
 abbrev pub late : ℕ → Plain
 late G =
     let t = view 0 (entries 0 16) ∷ replicate 22 untouched ++ (view 0 [] ∷ []) in
-    record { kept = t; present = t; pending = 1; number = G; on = true; blocks = 3 }
+    record { kept = t; present = t; pending = 1; number = G; on = true; nand = Small; blocks = 3 }
 
 abbrev pub lateAnswers : ℕ → List Fed → List Answer
-lateAnswers G fs = map answerOf (plainRun small (late G) [] fs)
+lateAnswers G fs = map answerOf (plainRun (late G) [] fs)
 
 -- the bench program's list, with either choice for its cut commit; the numbers kept; 3 at the 17th update; a mount drops what is pending; 4; 2 before 1;
 -- 1 for 2 blocks, for 33 and for a torn slice of 527 bytes; a commit with nothing pending isn't cut; 6 only with updates pending; 5
 pub examples :
     (answers (false ∷ []) bench ≡ accepted ∷ accepted ∷ finds 99 ∷ refuses 10 ∷ refuses 2 ∷ accepted ∷ refuses 4 ∷ [])
     × (answers (true ∷ []) bench ≡ accepted ∷ accepted ∷ finds 99 ∷ refuses 10 ∷ refuses 2 ∷ accepted ∷ finds 99 ∷ [])
-    × (map numberOf (plainRun small before (false ∷ []) bench) ≡ 1 ∷ 1 ∷ 1 ∷ 1 ∷ 1 ∷ 1 ∷ 1 ∷ [])
-    × (map numberOf (plainRun small before (true ∷ []) bench) ≡ 1 ∷ 1 ∷ 1 ∷ 2 ∷ 2 ∷ 2 ∷ 2 ∷ [])
+    × (map numberOf (plainRun before (false ∷ []) bench) ≡ 1 ∷ 1 ∷ 1 ∷ 1 ∷ 1 ∷ 1 ∷ 1 ∷ [])
+    × (map numberOf (plainRun before (true ∷ []) bench) ≡ 1 ∷ 1 ∷ 1 ∷ 2 ∷ 2 ∷ 2 ∷ 2 ∷ [])
     × (answers [] whole ≡ accepted ∷ accepted ∷ accepted ∷ accepted ∷ finds 99 ∷ [])
-    × (answers [] (call (formats 2000 image page) ∷ insertions 17) ≡ accepted ∷ replicate 16 accepted ++ (refuses 3 ∷ []))
-    × (answers [] (call (formats 2000 image page) ∷ call (inserts 7 99 image) ∷ call (mounts 255 image page) ∷ call (looksUp 7 image) ∷ [])
+    × (answers [] (call (formats Small 2000 image page) ∷ insertions 17) ≡ accepted ∷ replicate 16 accepted ++ (refuses 3 ∷ []))
+    × (answers [] (call (formats Small 2000 image page) ∷ call (inserts 7 99 image) ∷ call (mounts Small 255 image page) ∷ call (looksUp 7 image) ∷ [])
     ≡ accepted ∷ accepted ∷ accepted ∷ refuses 4 ∷ [])
-    × (answers [] (call (formats 2000 image page) ∷ call (deletes 7 image) ∷ call (inserts 7 99 image) ∷ call (deletes 7 image) ∷ call (looksUp 7 image) ∷ [])
+    × (answers [] (call (formats Small 2000 image page) ∷ call (deletes 7 image) ∷ call (inserts 7 99 image) ∷ call (deletes 7 image) ∷ call (looksUp 7 image) ∷ [])
     ≡ accepted ∷ refuses 4 ∷ accepted ∷ accepted ∷ refuses 4 ∷ [])
-    × (answers [] (call (looksUp 7 0) ∷ call (formats 2000 image page) ∷ call (looksUp 7 0) ∷ call (looksUp 7 67584) ∷ []) ≡ refuses 2 ∷ accepted ∷ refuses 1 ∷ refuses 1 ∷ [])
-    × (answers [] (call (formats 2000 33792 page) ∷ call (formats 2000 557568 page) ∷ call (mounts 255 image 527) ∷ []) ≡ refuses 1 ∷ refuses 1 ∷ refuses 1 ∷ [])
-    × (answers [] (call (formats 2000 image page) ∷ call (commits 0 image page) ∷ []) ≡ accepted ∷ accepted ∷ [])
-    × (lateAnswers 4294967295 (call (commits 2000 image page) ∷ call (mounts 255 image page) ∷ call (commits 2000 image page) ∷ []) ≡ refuses 6 ∷ accepted ∷ accepted ∷ [])
+    × (answers [] (call (looksUp 7 0) ∷ call (formats Small 2000 image page) ∷ call (looksUp 7 0) ∷ call (looksUp 7 67584) ∷ []) ≡ refuses 2 ∷ accepted ∷ refuses 1 ∷ refuses 1 ∷ [])
+    × (answers [] (call (formats Small 2000 33792 page) ∷ call (formats Small 2000 557568 page) ∷ call (mounts Small 255 image 527) ∷ []) ≡ refuses 1 ∷ refuses 1 ∷ refuses 1 ∷ [])
+    × (answers [] (call (formats Small 2000 image page) ∷ call (commits 0 image page) ∷ []) ≡ accepted ∷ accepted ∷ [])
+    × (lateAnswers 4294967295 (call (commits 2000 image page) ∷ call (mounts Small 255 image page) ∷ call (commits 2000 image page) ∷ []) ≡ refuses 6 ∷ accepted ∷ accepted ∷ [])
     × (lateAnswers 9 (call (inserts 16 0 image) ∷ call (inserts 15 0 image) ∷ call (looksUp 15 image) ∷ []) ≡ refuses 5 ∷ accepted ∷ finds 0 ∷ [])
 unfolding lookingUp insertion deletion isChipSize isTornSize hasBlocks verdict leaf resting updated committed finished off cutOff acceptedAnswer T.insert T.allowed T.inserted T.insertAt T.gain T.fitOrSplit T.halve T.raise T.find T.delete T.deleteAt
 examples = (refl, refl, refl, refl, refl, refl, refl, refl, refl, refl, refl, refl, refl)
 
--- ---- the small store
+-- ---- the sample store
 abbrev pub torn : ℕ → List ℕ
 torn b = replicate page b
 
@@ -105,35 +105,35 @@ abbrev pub chip : SampleImage
 chip = record { tree = []; number = 0; whole = false; void = false; roomy = false; size = image }
 
 abbrev pub start : SampleState
-start = record { on = false; blocks = 0; number = 0; pending = 0; buffer = []; erases = λ b. 0 }
+start = record { on = false; nand = Small; blocks = 0; number = 0; pending = 0; buffer = []; erases = λ b. 0 }
 
 -- a state that no call gave
 abbrev pub junk : SampleState
-junk = record { on = true; blocks = 3; number = 77; pending = 5; buffer = []; erases = λ b. 9 }
+junk = record { on = true; nand = Small; blocks = 3; number = 77; pending = 5; buffer = []; erases = λ b. 9 }
 
 abbrev pub sampleAnswer : Step sample → Answer
 sampleAnswer x = x .answer
 
 -- a commit that is cut at once
 abbrev pub lost : List Order
-lost = next (insert 7 99) ∷ next (lookUp 7) ∷ next (commit 0 (torn 90)) ∷ next (lookUp 7) ∷ next (mount 255 (torn 90)) ∷ next (lookUp 7) ∷ []
+lost = next (insert 7 99) ∷ next (lookUp 7) ∷ next (commit 0 (torn 90)) ∷ next (lookUp 7) ∷ next (mount Small 255 (torn 90)) ∷ next (lookUp 7) ∷ []
 
 -- a cut commit that counts: its last operation is torn to 0
 abbrev pub found : List Order
-found = next (insert 7 99) ∷ next (commit 2 (torn 0)) ∷ next (mount 255 (torn 90)) ∷ next (lookUp 7) ∷ []
+found = next (insert 7 99) ∷ next (commit 2 (torn 0)) ∷ next (mount Small 255 (torn 90)) ∷ next (lookUp 7) ∷ []
 
 -- the battery is pulled with an update pending, and the mount is given a state that no call gave
 abbrev pub pulled : List Order
-pulled = next (insert 7 99) ∷ next (commit 2000 (torn 90)) ∷ next (insert 8 1) ∷ reboot junk (mount 255 (torn 90)) ∷ next (lookUp 7) ∷ next (lookUp 8) ∷ []
+pulled = next (insert 7 99) ∷ next (commit 2000 (torn 90)) ∷ next (insert 8 1) ∷ reboot junk (mount Small 255 (torn 90)) ∷ next (lookUp 7) ∷ next (lookUp 8) ∷ []
 
 abbrev pub s₀ : SampleState
-s₀ = act (format 2000 (torn 90)) start chip .state
+s₀ = act (format Small 2000 (torn 90)) start chip .state
 
 abbrev pub i₀ : SampleImage
-i₀ = act (format 2000 (torn 90)) start chip .image
+i₀ = act (format Small 2000 (torn 90)) start chip .image
 
 pub sample-examples :
-    (act (format 2000 (torn 90)) start chip .answer ≡ accepted)
+    (act (format Small 2000 (torn 90)) start chip .answer ≡ accepted)
     × (map sampleAnswer (stepsOf lost s₀ i₀) ≡ accepted ∷ finds 99 ∷ refuses 10 ∷ refuses 2 ∷ accepted ∷ refuses 4 ∷ [])
     × (map sampleAnswer (stepsOf found s₀ i₀) ≡ accepted ∷ refuses 10 ∷ accepted ∷ finds 99 ∷ [])
     × (map sampleAnswer (stepsOf pulled s₀ i₀) ≡ accepted ∷ accepted ∷ accepted ∷ accepted ∷ finds 99 ∷ refuses 4 ∷ [])
@@ -141,23 +141,23 @@ unfolding lookingUp insertion isChipSize isTornSize hasBlocks stateOf leaf T.ins
 sample-examples = (refl, refl, refl, refl)
 
 -- and the promise is about these lists
-pub formatted : Formatted small sample s₀ i₀
+pub formatted : Formatted sample Small s₀ i₀
 unfolding isChipSize isTornSize
-formatted = record { allowance = 2000; torn = torn 90; before = start; was = chip; ops = 4; says = allowed (format 2000 (torn 90)) tt start chip }
+formatted = record { allowance = 2000; torn = torn 90; before = start; was = chip; ops = 4; says = allowed (format Small 2000 (torn 90)) tt start chip }
 
 fine : Fine pulled s₀ i₀
 unfolding isChipSize isTornSize hasBlocks stateOf insertion T.insert T.allowed T.inserted T.insertAt leaf T.gain T.fitOrSplit
 fine = (insert-proper 7 99, (tt, (insert-proper 8 1, ((tt, refl, accepted-not 1), (look-up-proper 7, (look-up-proper 8, tt))))))
 
-pub sample-agrees : Agrees small sample (starts small sample (leaf 3) 1 i₀) i₀ (stepsOf pulled s₀ i₀)
-unfolding isChipSize isTornSize
+pub sample-agrees : Agrees sample (starts sample Small (leaf 3) 1 i₀) i₀ (stepsOf pulled s₀ i₀)
+unfolding isChipSize isTornSize hasBlocks stateOf insertion T.insert T.allowed T.inserted T.insertAt leaf T.gain T.fitOrSplit
 sample-agrees =
-    promise small sample (leaf 3) 1 s₀ i₀ (stepsOf pulled s₀ i₀)
-    (record { started = format-starts small sample s₀ i₀ formatted; runs = runs pulled (Only sample s₀) s₀ i₀ refl fine; uncut = (refl, (refl, (refl, (refl, (refl, (refl, tt)))))) })
+    promise sample Small (leaf 3) 1 s₀ i₀ (stepsOf pulled s₀ i₀)
+    (record { started = format-starts sample Small s₀ i₀ formatted; runs = runs pulled (Only sample s₀) s₀ i₀ refl fine; named = (refl, (refl, (refl, (refl, (refl, (refl, tt)))))); uncut = (refl, (refl, (refl, (refl, (refl, (refl, tt)))))) })
 
 -- ---- what a finished commit kept is found after the battery was pulled, whatever was done to the key without a commit
 abbrev pub kept : List Order
-kept = next (insert 7 99) ∷ next (commit 2000 (torn 90)) ∷ next (insert 7 1) ∷ next (delete 9) ∷ reboot junk (mount 255 (torn 90)) ∷ next (lookUp 7) ∷ []
+kept = next (insert 7 99) ∷ next (commit 2000 (torn 90)) ∷ next (insert 7 1) ∷ next (delete 9) ∷ reboot junk (mount Small 255 (torn 90)) ∷ next (lookUp 7) ∷ []
 
 kept-fine : Fine kept s₀ i₀
 unfolding lookingUp insertion deletion isChipSize isTornSize hasBlocks stateOf leaf T.insert T.allowed T.inserted T.insertAt T.gain T.fitOrSplit T.halve T.raise T.find
@@ -177,16 +177,16 @@ abbrev fourth : Step sample
 fourth = stepOf (next (delete 9)) (third .state) (third .image)
 
 abbrev fifth : Step sample
-fifth = stepOf (reboot junk (mount 255 (torn 90))) (fourth .state) (fourth .image)
+fifth = stepOf (reboot junk (mount Small 255 (torn 90))) (fourth .state) (fourth .image)
 
 abbrev sixth : Step sample
 sixth = stepOf (next (lookUp 7)) (fifth .state) (fifth .image)
 
-later : Later small sample (leaf 3) 1 s₀ i₀ (first ∷ []) (third ∷ fourth ∷ fifth ∷ []) [] second sixth 7
+later : Later sample Small (leaf 3) 1 s₀ i₀ (first ∷ []) (third ∷ fourth ∷ fifth ∷ []) [] second sixth 7
 unfolding lookingUp insertion deletion isChipSize isTornSize hasBlocks verdict resting updated committed finished acceptedAnswer stateOf leaf T.insert T.allowed T.inserted T.insertAt T.gain T.fitOrSplit T.halve T.raise T.find
 later =
     record {
-      course = record { started = format-starts small sample s₀ i₀ formatted; runs = runs kept (Only sample s₀) s₀ i₀ refl kept-fine; uncut = (refl, (refl, (refl, (refl, (refl, (refl, tt)))))) };
+      course = record { started = format-starts sample Small s₀ i₀ formatted; runs = runs kept (Only sample s₀) s₀ i₀ refl kept-fine; named = (refl, (refl, (refl, (refl, (refl, (refl, tt)))))); uncut = (refl, (refl, (refl, (refl, (refl, (refl, tt)))))) };
       tree = leaf-tree 3 (omega arith);
       lawful = (insert-lawful 7 99 (omega arith), (tt, (insert-lawful 7 1 (omega arith), (delete-lawful 9 (omega arith), (tt, (tt, tt))))));
       unformatted = (refl, (refl, (refl, tt)));
@@ -201,7 +201,7 @@ finished-answer : second .answer ≡ accepted
 unfolding isChipSize isTornSize hasBlocks stateOf insertion T.insert T.allowed T.inserted T.insertAt leaf T.gain T.fitOrSplit
 finished-answer = refl
 
-pub sample-durable : sixth .answer ≡ lookedUp (T.find 7 (plainAt small sample (leaf 3) 1 i₀ (first ∷ []) .present))
+pub sample-durable : sixth .answer ≡ lookedUp (T.find 7 (plainAt sample Small (leaf 3) 1 i₀ (first ∷ []) .present))
 sample-durable =
-    durable small sample (leaf 3) 1 s₀ i₀ (first ∷ []) (third ∷ fourth ∷ fifth ∷ []) [] second sixth 7 later
+    durable sample Small (leaf 3) 1 s₀ i₀ (first ∷ []) (third ∷ fourth ∷ fifth ∷ []) [] second sixth 7 later
     (record { allowance = 2000; torn = torn 90; act = refl; answer = finished-answer })

@@ -1,9 +1,9 @@
--- The figures of the small store after short lists of calls, computed. Assumes nothing.
+-- The figures of the sample store after short lists of calls, computed. Assumes nothing.
 use mathlib.Core.Path.{_≡_, refl}
 use mathlib.Core.Bool.{false}
 use mathlib.Core.List.{List, [], _∷_, _++_, map}
 use Prim.Native.Nat.{ℕ}
-use Rattle.chip.specs.Geometry.{small}
+use Rattle.chip.specs.declared.geometry.Nand.the-variants.{Small}
 use Rattle.tree.specs.Tree as T
 use Rattle.promise.specs.Plain.{insertion, deletion, refuses, accepted, isChipSize, isTornSize, hasBlocks, leaf}
 use Rattle.promise.specs.Calls.{stateOf}
@@ -24,14 +24,14 @@ abbrev pub figuresOf : List Order → List ℕ
 figuresOf xs = map (leaves xs s₀ i₀ .erases) (0 ∷ 1 ∷ 2 ∷ [])
 
 abbrev pub wholeOf : List Order → List ℕ
-wholeOf xs = map (λ b. wholeErases small sample b (sinceStart sample (stepsOf xs s₀ i₀))) (0 ∷ 1 ∷ 2 ∷ [])
+wholeOf xs = map (λ b. wholeErases sample b (sinceStart sample (stepsOf xs s₀ i₀))) (0 ∷ 1 ∷ 2 ∷ [])
 
 -- two commits and a refused call; then a mount and a commit again
 abbrev pub twice : List Order
 twice = next (insert 7 99) ∷ next (commit 2000 (torn 90)) ∷ next (insert 8 1) ∷ next (commit 2000 (torn 90)) ∷ next (delete 9) ∷ []
 
 abbrev pub again : List Order
-again = twice ++ (next (mount 255 (torn 90)) ∷ next (insert 9 2) ∷ next (commit 2000 (torn 90)) ∷ [])
+again = twice ++ (next (mount Small 255 (torn 90)) ∷ next (insert 9 2) ∷ next (commit 2000 (torn 90)) ∷ [])
 
 -- a commit that is cut after its erase
 abbrev pub short : List Order
@@ -55,8 +55,8 @@ figure-examples = (refl, refl, refl, refl, refl, refl, refl, refl, refl)
 again-fine : Fine again s₀ i₀
 again-fine = (insert-proper 7 99, (tt, (insert-proper 8 1, (tt, (delete-proper 9, (tt, (insert-proper 9 2, (tt, tt))))))))
 
-pub sample-figures : (b : ℕ) → leaves again s₀ i₀ .erases b ≡ wholeErases small sample b (sinceStart sample (stepsOf again s₀ i₀))
+pub sample-figures : (b : ℕ) → leaves again s₀ i₀ .erases b ≡ wholeErases sample b (sinceStart sample (stepsOf again s₀ i₀))
 unfolding insertion deletion isChipSize isTornSize hasBlocks stateOf leaf T.insert T.allowed T.inserted T.insertAt T.gain T.fitOrSplit T.halve T.raise T.find
 sample-figures =
-    figures-any small sample s₀ i₀ (stepsOf again s₀ i₀) (refl, refl) (runs again (Only sample s₀) s₀ i₀ refl again-fine) (λ b. refl) (leaves again s₀ i₀)
+    figures-any sample s₀ i₀ (stepsOf again s₀ i₀) (refl, refl) (runs again (Only sample s₀) s₀ i₀ refl again-fine) (λ b. refl) (leaves again s₀ i₀)
     (record { returned = refl; known = λ e. absurd (accepted-not 1 e) }) refl

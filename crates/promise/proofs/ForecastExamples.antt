@@ -1,15 +1,18 @@
--- Forecasts of the plain store, and of the small store with the commits after them, computed. Assumes nothing.
+-- Forecasts of the plain store, and of the sample store with the commits after them, computed. Assumes nothing.
 use mathlib.Core.Path.{_≡_, refl}
+use mathlib.Core.Bool.{Bool, true}
 use mathlib.Core.List.{List, [], _∷_, _++_, map}
 use Prim.Native.Nat.{ℕ}
-use Rattle.chip.specs.Geometry.{small}
+use native.Mathlib.Omega.{arith}
+use Rattle.chip.specs.Geometry.{Nand}
+use Rattle.chip.specs.declared.geometry.Nand.the-variants.{Small}
 use Rattle.tree.specs.Tree as T
-use Rattle.promise.specs.Plain.{forecasts, formats, inserts, mounts, lookingUp, insertion, deletion, Answer, refuses, accepted, finds, isChipSize, isTornSize, hasBlocks, lastNumber, verdict, leaf, resting, updated, finished, acceptedAnswer}
+use Rattle.promise.specs.Plain.{firstRefusal, commits, forecasts, formats, inserts, mounts, lookingUp, insertion, deletion, Answer, refuses, accepted, finds, isChipSize, isTornSize, hasBlocks, lastNumber, verdict, leaf, resting, updated, finished, acceptedAnswer}
 use Rattle.promise.specs.Calls.{stateOf}
 use Rattle.promise.specs.Steps.{insert, delete, lookUp, forecast, commit, Step, Only}
 use Rattle.promise.specs.Forecasts.{Foresees, AllStill}
 use Rattle.promise.proofs.Promise.{accepted-not}
-use Rattle.promise.proofs.Forecasts.{forecast-holds}
+use Rattle.promise.proofs.Forecasts.{forecast-holds, read-still, refused-still}
 use Rattle.promise.proofs.Proper.{look-up-proper, insert-proper, delete-proper}
 use Rattle.promise.proofs.Sample.{allowed, sample, Order, next, stepOf, stepsOf, Fine, runs}
 use Rattle.promise.proofs.Examples.{image, page, call, answers, lateAnswers, torn, s₀, i₀}
@@ -19,13 +22,13 @@ use Rattle.promise.proofs.WearExamples.{leavesImage}
 -- the plain store: 2 before a format; 1 for an image of no block or of 4; nothing pending and one update pending; 6 only with updates pending
 pub plain-examples :
     (answers []
-    (call (forecasts 0) ∷ call (formats 2000 image page) ∷ call (forecasts 0) ∷ call (forecasts 67584) ∷ call (forecasts image) ∷ call (inserts 7 99 image) ∷ call (forecasts image) ∷ [])
+    (call (forecasts 0) ∷ call (formats Small 2000 image page) ∷ call (forecasts 0) ∷ call (forecasts 67584) ∷ call (forecasts image) ∷ call (inserts 7 99 image) ∷ call (forecasts image) ∷ [])
     ≡ refuses 2 ∷ accepted ∷ refuses 1 ∷ refuses 1 ∷ accepted ∷ accepted ∷ accepted ∷ [])
-    × (lateAnswers lastNumber (call (forecasts image) ∷ call (mounts 255 image page) ∷ call (forecasts image) ∷ []) ≡ refuses 6 ∷ accepted ∷ accepted ∷ [])
+    × (lateAnswers lastNumber (call (forecasts image) ∷ call (mounts Small 255 image page) ∷ call (forecasts image) ∷ []) ≡ refuses 6 ∷ accepted ∷ accepted ∷ [])
 unfolding insertion isChipSize isTornSize hasBlocks verdict leaf resting updated finished acceptedAnswer T.insert T.allowed T.inserted T.insertAt T.gain T.fitOrSplit
 plain-examples = (refl, refl)
 
--- ---- the small store: answer and operations of a step
+-- ---- the sample store: answer and operations of a step
 abbrev pub told : Step sample → Answer × ℕ
 told x = (x .answer, x .ops)
 
@@ -61,11 +64,26 @@ commitStep n = stepOf (next (commit n (torn 90))) (leaves between (forecastStep 
 
 still : AllStill sample steps
 unfolding lookingUp insertion deletion isChipSize isTornSize hasBlocks stateOf leaf T.insert T.allowed T.inserted T.insertAt T.gain T.fitOrSplit T.halve T.raise T.find
-still = (record { booted = refl; state = refl; image = refl }, (record { booted = refl; state = refl; image = refl }, tt))
+still =
+    let look = stepOf (next (lookUp 3)) (forecastStep .state) (forecastStep .image) in
+    let remove = stepOf (next (delete 9)) (look .state) (look .image) in (
+      read-still sample look (allowed (lookUp 3) (look-up-proper 3) (look .given) (look .lent)) refl,
+      (refused-still sample remove 4 (allowed (delete 9) (delete-proper 9) (remove .given) (remove .lent)) refl refl (λ e. omega arith), tt),
+    )
+
+-- the commit passes its first tests, whatever its allowance
+ready : (commitStep 0 .given .nand ≡ Small) × (commitStep 0 .given .on ≡ true) × (commitStep 0 .given .blocks ≡ 3) × (commitStep 0 .lent .size ≡ image)
+unfolding lookingUp insertion deletion isChipSize isTornSize hasBlocks stateOf leaf T.insert T.allowed T.inserted T.insertAt T.gain T.fitOrSplit T.halve T.raise T.find
+ready = (refl, refl, refl, refl)
+
+passes-by : (m : Nand) (on : Bool) (B size n : ℕ) → m ≡ Small → on ≡ true → B ≡ 3 → size ≡ image → firstRefusal m on B (commits n size page) ≡ 0
+unfolding isChipSize isTornSize hasBlocks
+passes-by m on B size n a b c d = rw (a, b, c, d)
 
 pub sample-foresees : (n : ℕ) → Foresees (forecastStep .answer) (forecastStep .ops) n (commitStep n .answer) (commitStep n .ops)
 unfolding lookingUp insertion deletion isChipSize isTornSize hasBlocks stateOf leaf T.insert T.allowed T.inserted T.insertAt T.gain T.fitOrSplit T.halve T.raise T.find
 sample-foresees n =
-    forecast-holds small sample (Only sample s₀) i₀ (stepsOf before s₀ i₀) steps (stepOf (next forecast) (commitStep n .state) (commitStep n .image) ∷ []) forecastStep (commitStep n)
+    forecast-holds sample (Only sample s₀) i₀ (stepsOf before s₀ i₀) steps (stepOf (next forecast) (commitStep n .state) (commitStep n .image) ∷ []) forecastStep (commitStep n)
     (runs (foretold n) (Only sample s₀) s₀ i₀ refl (fine n)) refl still n (torn 90) refl refl (λ e. accepted-not 1 e)
-    (λ e. allowed (commit n (torn 90)) tt (commitStep n .given) (commitStep n .lent) .first .not1 refl e)
+    (λ e. allowed (commit n (torn 90)) tt (commitStep n .given) (commitStep n .lent) .first .not1
+    (passes-by (commitStep n .given .nand) (commitStep n .given .on) (commitStep n .given .blocks) (commitStep n .lent .size) n (ready .0) (ready .1) (ready .2) (ready .3)) e)

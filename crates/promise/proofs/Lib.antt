@@ -13,6 +13,7 @@ pub mod Proper
 pub mod Falls
 pub mod Sample
 pub mod Examples
+pub mod PartExamples
 pub mod FigureExamples
 pub mod WearExamples
 pub mod ForecastExamples

@@ -1,4 +1,4 @@
--- A small store that meets every contract: the image holds a tree, the state the updates that are pending. So the contracts can be met. Assumes nothing.
+-- A sample store that meets every contract: the image holds a tree, the state the updates that are pending. So the contracts can be met. Assumes nothing.
 use mathlib.Core.Path.{_≡_, refl, sym, ap, _∙_, subst}
 use mathlib.Core.Bool.{Bool, true, false, cond, not, _&&_}
 use mathlib.Core.List.{List, [], _∷_}
@@ -10,12 +10,13 @@ use borrow.Author.Tests.{eqb-true, ne-eqb, le-leb, lt-leb, lt-ltb, le-ltb}
 use Rattle.lists.proofs.Filters.{bit-most}
 use Rattle.lists.proofs.Tests.{cases, clash, or-right}
 use Rattle.lists.specs.Lists.{bit}
-use Rattle.chip.specs.Geometry.{small, blocksOf}
+use Rattle.chip.specs.Geometry.{Nand, geometryOf, blocksOf}
+use Rattle.chip.specs.declared.geometry.Nand.the-variants.{Small, Large}
 use Rattle.chip.specs.declared.page.Mark.the-variants.{Valid, Obsolete}
 use Rattle.chip.specs.Chip.{Op, program, mark, erase}
 use Rattle.chip.specs.Erases.{erasesIn}
 use Rattle.tree.specs.Tree.{Table}
-use Rattle.promise.specs.Plain.{Answer, refuses, accepted, tells, Plain, orElse, when, ReadCall, UpdateCall, Call, reads, updates, forecasts, formats, commits, mounts, isChipSize, isTornSize, hasBlocks, firstRefusal, treeRefusal, laterRefusal, noNumberLeft, leaf, resting, fresh, updated, committed}
+use Rattle.promise.specs.Plain.{Answer, refuses, accepted, tells, Plain, orElse, when, ReadCall, UpdateCall, Call, reads, updates, forecasts, formats, commits, mounts, isChipSize, isTornSize, hasBlocks, firstRefusal, treeRefusal, laterRefusal, noNumberLeft, leaf, resting, fresh, updated, committed, enoughWrites}
 use Rattle.promise.specs.Calls.{Meaning, invalid, means, treeIn, Store, isOneOf, tellsOr, acceptsOr, ProperRead, ProperUpdate, stateOf, Same, FirstTests, Reads, Updates, Format, Proceeding, Commit, Forecast, Mount}
 use Rattle.promise.specs.Steps.{Act, read, update, forecast, format, commit, mount, boots, Step, one, Hands, Allowed, Runs}
 use Rattle.promise.proofs.Promise.{apart, accepted-not, when-is}
@@ -24,6 +25,7 @@ use Rattle.promise.proofs.Proper.{apart-from}
 -- the state, with the newest update first and a figure for each block; the image: the tree and number of its last whole commit, whether it has a void page, whether it has room
 pub record SampleState : Type 0 where
   pub on : Bool
+  pub nand : Nand
   pub blocks : ℕ
   pub number : ℕ
   pub pending : ℕ
@@ -73,19 +75,20 @@ sample =
       Image = SampleImage;
       size = λ i. i .size;
       on = λ s. s .on;
+      nand = λ s. s .nand;
       blocks = λ s. s .blocks;
       pending = λ s. s .pending;
       number = λ s. s .number;
       erases = λ s. s .erases;
       present = presentOf;
-      meaning = meaningOf;
-      free = freeOf;
-      mountOps = mountOpsOf;
+      meaning = λ n. meaningOf;
+      free = λ n. freeOf;
+      mountOps = λ n. mountOpsOf;
       commitOps = λ s i. commitOpsOf s;
-      formatOps = λ B. erase 0 ∷ erase 1 ∷ erase 2 ∷ program 0 (7 ∷ []) ∷ [];
-      most = 3;
+      formatOps = λ n B. erase 0 ∷ erase 1 ∷ erase 2 ∷ program 0 (7 ∷ []) ∷ [];
+      most = λ n. 3;
       Good = Tied;
-      Room = λ i. i .roomy ≡ true;
+      Room = λ n i. i .roomy ≡ true;
       able = λ s i. i .roomy;
     }
 
@@ -106,13 +109,13 @@ sieve zero (suc m) s i o = out (refuses (suc m)) 0 s i
 sieve zero zero s i o = o
 
 abbrev pub call : Call → SampleState → SampleImage → Outcome → Outcome
-call c s i o = sieve (firstRefusal small (s .on) (s .blocks) c) (laterRefusal (stateOf sample s i) c) s i o
+call c s i o = sieve (firstRefusal (s .nand) (s .on) (s .blocks) c) (laterRefusal (stateOf sample s i) c) s i o
 
 abbrev pub push : UpdateCall → SampleState → SampleState
-push u s = record { on = s .on; blocks = s .blocks; number = s .number; pending = suc (s .pending); buffer = u ∷ s .buffer; erases = s .erases }
+push u s = record { on = s .on; nand = s .nand; blocks = s .blocks; number = s .number; pending = suc (s .pending); buffer = u ∷ s .buffer; erases = s .erases }
 
 abbrev pub down : SampleState → SampleState
-down s = record { on = false; blocks = s .blocks; number = s .number; pending = s .pending; buffer = s .buffer; erases = s .erases }
+down s = record { on = false; nand = s .nand; blocks = s .blocks; number = s .number; pending = s .pending; buffer = s .buffer; erases = s .erases }
 
 abbrev pub written : SampleState → SampleImage → SampleImage
 written s i = record { tree = presentOf s i; number = suc (s .number); whole = true; void = false; roomy = i .roomy; size = i .size }
@@ -122,7 +125,7 @@ voided b i = record { tree = i .tree; number = i .number; whole = i .whole; void
 
 abbrev pub emptied : SampleState → SampleState
 emptied s =
-    record { on = s .on; blocks = s .blocks; number = suc (s .number); pending = 0; buffer = []; erases = λ b. s .erases b + erasesIn b (commitOpsOf s) }
+    record { on = s .on; nand = s .nand; blocks = s .blocks; number = suc (s .number); pending = 0; buffer = []; erases = λ b. s .erases b + erasesIn b (commitOpsOf s) }
 
 abbrev pub cutImage : ℕ → List ℕ → SampleState → SampleImage → SampleImage
 cutImage n torn s i = cond (eqb (suc n) 3 && eqb (getD torn 0 0) 0) (written s i) (voided true i)
@@ -142,29 +145,29 @@ commitDone n torn s i = planned s i (commitWork n torn s i)
 abbrev pub forecastDone : SampleState → SampleImage → Outcome
 forecastDone s i = planned s i (out accepted (length (commitOpsOf s)) s i)
 
-abbrev pub opened : SampleImage → SampleState
-opened i = record { on = true; blocks = blocksOf small (i .size); number = i .number; pending = 0; buffer = []; erases = λ b. 0 }
+abbrev pub opened : Nand → SampleImage → SampleState
+opened nand i = record { on = true; nand = nand; blocks = blocksOf (geometryOf nand) (i .size); number = i .number; pending = 0; buffer = []; erases = λ b. 0 }
 
-abbrev pub mountDone : ℕ → SampleState → SampleImage → Outcome
-mountDone n s i =
+abbrev pub mountDone : Nand → ℕ → SampleState → SampleImage → Outcome
+mountDone nand n s i =
     cond (i .whole)
-    (cond (leb (length (mountOpsOf i)) n) (out accepted (length (mountOpsOf i)) (opened i) (voided false i)) (out (refuses 10) n (down s) i))
+    (cond (leb (length (mountOpsOf i)) n) (out accepted (length (mountOpsOf i)) (opened nand i) (voided false i)) (out (refuses 10) n (down s) i))
     (out (refuses 7) 0 (down s) i)
 
-abbrev pub formatDone : ℕ → SampleState → SampleImage → Outcome
-formatDone n s i =
+abbrev pub formatDone : Nand → ℕ → SampleState → SampleImage → Outcome
+formatDone nand n s i =
     cond (leb 4 n)
-    (out accepted 4 (record { on = true; blocks = blocksOf small (i .size); number = 1; pending = 0; buffer = []; erases = λ b. 0 })
-    (record { tree = leaf (blocksOf small (i .size)); number = 1; whole = true; void = false; roomy = true; size = i .size }))
+    (out accepted 4 (record { on = true; nand = nand; blocks = blocksOf (geometryOf nand) (i .size); number = 1; pending = 0; buffer = []; erases = λ b. 0 })
+    (record { tree = leaf (blocksOf (geometryOf nand) (i .size)); number = 1; whole = true; void = false; roomy = true; size = i .size }))
     (out (refuses 10) n (down s) (record { tree = []; number = 0; whole = false; void = false; roomy = false; size = i .size }))
 
 abbrev pub act : Act → SampleState → SampleImage → Outcome
 act (read r) s i = call (reads r (i .size)) s i (out (r .answer (stateOf sample s i)) 0 s i)
 act (update u) s i = call (updates u (i .size)) s i (out accepted 0 (push u s) i)
 act forecast s i = call (forecasts (i .size)) s i (forecastDone s i)
-act (format n torn) s i = call (formats n (i .size) (length torn)) s i (formatDone n s i)
+act (format nand n torn) s i = call (formats nand n (i .size) (length torn)) s i (formatDone nand n s i)
 act (commit n torn) s i = call (commits n (i .size) (length torn)) s i (commitDone n torn s i)
-act (mount n torn) s i = call (mounts n (i .size) (length torn)) s i (mountDone n s i)
+act (mount nand n torn) s i = call (mounts nand n (i .size) (length torn)) s i (mountDone nand n s i)
 
 -- ---- a fact of all outcomes of a call
 sieve-case : (P : Outcome → Type 0) (n m : ℕ) (s : SampleState) (i : SampleImage) (o : Outcome)
@@ -185,15 +188,15 @@ later-when n m b h e = let q = when-is (suc n) m b e in (λ z. h .0 (sym q ∙ z
 
 -- what every contract says first
 first-ok : (c : Call) (s : SampleState) (i : SampleImage) (o : Outcome) → ((m : ℕ) → laterRefusal (stateOf sample s i) c ≡ suc m → NotFirst (suc m)) → ((m : ℕ) → o .answer ≡ refuses m → NotFirst m)
-    → o .image .size ≡ i .size → FirstTests small sample c s i (call c s i o .answer) (call c s i o .state) (call c s i o .image)
+    → o .image .size ≡ i .size → FirstTests sample c s i (call c s i o .answer) (call c s i o .state) (call c s i o .image)
 first-ok c s i o l a z =
     record {
       refused = λ n e. rw e (refl, same);
-      not1 = λ t. sieve-case (λ x. x .answer ≡ refuses 1 → ⊥) (firstRefusal small (s .on) (s .blocks) c) (laterRefusal (stateOf sample s i) c) s i o
+      not1 = λ t. sieve-case (λ x. x .answer ≡ refuses 1 → ⊥) (firstRefusal (s .nand) (s .on) (s .blocks) c) (laterRefusal (stateOf sample s i) c) s i o
           (λ k e. absurd (omega arith)) (λ k f e r. l k e .0 (let q : suc k ≡ 1 = cc in q)) (λ f e r. a 1 r .0 refl);
-      not2 = λ t. sieve-case (λ x. x .answer ≡ refuses 2 → ⊥) (firstRefusal small (s .on) (s .blocks) c) (laterRefusal (stateOf sample s i) c) s i o
+      not2 = λ t. sieve-case (λ x. x .answer ≡ refuses 2 → ⊥) (firstRefusal (s .nand) (s .on) (s .blocks) c) (laterRefusal (stateOf sample s i) c) s i o
           (λ k e. absurd (omega arith)) (λ k f e r. l k e .1 (let q : suc k ≡ 2 = cc in q)) (λ f e r. a 2 r .1 refl);
-      sameSize = sieve-case (λ x. x .image .size ≡ i .size) (firstRefusal small (s .on) (s .blocks) c) (laterRefusal (stateOf sample s i) c) s i o
+      sameSize = sieve-case (λ x. x .image .size ≡ i .size) (firstRefusal (s .nand) (s .on) (s .blocks) c) (laterRefusal (stateOf sample s i) c) s i o
           (λ k e. refl) (λ k f e. refl) (λ f e. z);
     }
 
@@ -220,15 +223,15 @@ own-read r w p m e =
     let t : isOneOf m (r .numbers) ≡ true = subst (λ (a : Answer). tellsOr (r .numbers) a ≡ true) e (w .range p) in
     (λ z. apart-from m 1 (r .numbers) t (w .own 1 refl) z, λ z. apart-from m 2 (r .numbers) t (w .own 2 refl) z)
 
-read-ok : (r : ReadCall) → ProperRead r → (s : SampleState) (i : SampleImage) → Reads small sample r s i (act (read r) s i .answer) (act (read r) s i .state) (act (read r) s i .image)
+read-ok : (r : ReadCall) → ProperRead r → (s : SampleState) (i : SampleImage) → Reads sample r s i (act (read r) s i .answer) (act (read r) s i .state) (act (read r) s i .image)
 read-ok r w s i =
     let o = out (r .answer (stateOf sample s i)) 0 s i in
     let c = reads r (i .size) in
-    let f = firstRefusal small (s .on) (s .blocks) c in
+    let f = firstRefusal (s .nand) (s .on) (s .blocks) c in
     record {
       first = first-ok c s i o (λ m e. absurd (omega arith)) (own-read r w (stateOf sample s i)) refl;
       range = sieve-case (λ x. tellsOr (2 ∷ 1 ∷ r .numbers) (x .answer) ≡ true) f 0 s i o
-          (two-one (not (s .on)) (not (isChipSize small (i .size) && hasBlocks small (s .blocks) (i .size))) (r .numbers)) (λ k z e. absurd (omega arith))
+          (two-one (not (s .on)) (not (isChipSize (geometryOf (s .nand)) (i .size) && hasBlocks (geometryOf (s .nand)) (s .blocks) (i .size))) (r .numbers)) (λ k z e. absurd (omega arith))
           (λ z e. tells-more (r .answer (stateOf sample s i)) 2 (1 ∷ r .numbers) (tells-more (r .answer (stateOf sample s i)) 1 (r .numbers) (w .range (stateOf sample s i))));
       same = sieve-case (λ x. Same sample s i (x .state) (x .image)) f 0 s i o (λ k e. same) (λ k z e. same) (λ z e. same);
       done = λ good t. rw t;
@@ -248,12 +251,12 @@ three-later : (u : UpdateCall) → ProperUpdate u → (B : ℕ) (t : Table) (k x
 three-later u w B t k x h e q = let f : u .refusal B t ≡ suc k = (rw (lt-leb 16 x h) at e) in apart-from (suc k) 3 (u .numbers) (w .range B t k f) (w .own 3 refl) q
 
 update-ok : (u : UpdateCall) → ProperUpdate u → (s : SampleState) (i : SampleImage)
-    → Updates small sample u s i (act (update u) s i .answer) (act (update u) s i .state) (act (update u) s i .image)
+    → Updates sample u s i (act (update u) s i .answer) (act (update u) s i .state) (act (update u) s i .image)
 unfolding stateOf updated
 update-ok u w s i =
     let o = out accepted 0 (push u s) i in
     let c = updates u (i .size) in
-    let f = firstRefusal small (s .on) (s .blocks) c in
+    let f = firstRefusal (s .nand) (s .on) (s .blocks) c in
     let b = u .refusal (s .blocks) (presentOf s i) in
     let l = orElse (when 3 (leb 16 (s .pending))) b in
     record {
@@ -262,7 +265,7 @@ update-ok u w s i =
           (λ n q. later-when 2 n (leb 16 (s .pending)) ((λ z. omega arith), (λ z. omega arith)) q) (own-update u w (s .blocks) (presentOf s i)) e)
           (λ m e. absurd (accepted-not m e)) refl;
       range = sieve-case (λ x. acceptsOr (2 ∷ 1 ∷ 3 ∷ u .numbers) (x .answer) ≡ true) f l s i o
-          (two-one (not (s .on)) (not (isChipSize small (i .size) && hasBlocks small (s .blocks) (i .size))) (3 ∷ u .numbers))
+          (two-one (not (s .on)) (not (isChipSize (geometryOf (s .nand)) (i .size) && hasBlocks (geometryOf (s .nand)) (s .blocks) (i .size))) (3 ∷ u .numbers))
           (λ k z e. or-is (when 3 (leb 16 (s .pending))) b k (λ n. isOneOf n (2 ∷ 1 ∷ 3 ∷ u .numbers) ≡ true)
           (λ n q. subst (λ m. isOneOf m (2 ∷ 1 ∷ 3 ∷ u .numbers) ≡ true) (sym (when-is 3 n (leb 16 (s .pending)) q)) refl)
           (λ n q. more (suc n) 2 (1 ∷ 3 ∷ u .numbers) (more (suc n) 1 (3 ∷ u .numbers) (more (suc n) 3 (u .numbers) (w .range (s .blocks) (presentOf s i) n q)))) e)
@@ -317,6 +320,11 @@ cut-means : (b : Bool) (s : SampleState) (i : SampleImage)
 cut-means true s i = refl
 cut-means false s i = refl
 
+-- its operations are few on either part
+few-ops : (nand : Nand) → 4 ≤ enoughWrites nand
+few-ops Small = omega arith
+few-ops Large = omega arith
+
 -- no block is erased twice
 commit-once : (b n : ℕ) (c : Bool) → erasesIn b (cond c (workOf n) []) ≤ 1
 commit-once b n true = let m = bit-most (eqb b (n % 3)) in omega arith
@@ -344,7 +352,7 @@ six-range b ns k e =
     (λ m q. subst (λ y. isOneOf y (2 ∷ 1 ∷ 6 ∷ ns) ≡ true) (sym (when-is 6 m b q)) refl) (λ m q. absurd (omega arith)) e
 
 -- the outcome of a commit or a forecast that has something to do
-planned-is : (c : Call) (s : SampleState) (i : SampleImage) (o : Outcome) → treeRefusal (stateOf sample s i) c ≡ 0 → Proceeding small sample c s
+planned-is : (c : Call) (s : SampleState) (i : SampleImage) (o : Outcome) → treeRefusal (stateOf sample s i) c ≡ 0 → Proceeding sample c s
     → call c s i (planned s i o) ≡ cond (i .roomy) o (out (refuses 6) 0 s i)
 unfolding stateOf
 planned-is c s i o l q =
@@ -358,31 +366,31 @@ three-ops : (s : SampleState) → 0 < s .pending → length (commitOpsOf s) ≡ 
 three-ops s z = rw (lt-ltb 0 (s .pending) z)
 
 -- the outcome of a commit that has something to do, with room; and with an allowance enough
-commit-able : (n : ℕ) (torn : List ℕ) (s : SampleState) (i : SampleImage) → Proceeding small sample (commits n (i .size) (length torn)) s → i .roomy ≡ true
+commit-able : (n : ℕ) (torn : List ℕ) (s : SampleState) (i : SampleImage) → Proceeding sample (commits n (i .size) (length torn)) s → i .roomy ≡ true
     → act (commit n torn) s i ≡ commitWork n torn s i
 commit-able n torn s i q b = planned-is (commits n (i .size) (length torn)) s i (commitWork n torn s i) refl q ∙ rw b
 
-commit-finished : (n : ℕ) (torn : List ℕ) (s : SampleState) (i : SampleImage) → Proceeding small sample (commits n (i .size) (length torn)) s → i .roomy ≡ true → length (commitOpsOf s) ≤ n
+commit-finished : (n : ℕ) (torn : List ℕ) (s : SampleState) (i : SampleImage) → Proceeding sample (commits n (i .size) (length torn)) s → i .roomy ≡ true → length (commitOpsOf s) ≤ n
     → act (commit n torn) s i ≡ out accepted 3 (emptied s) (written s i)
 commit-finished n torn s i q b h =
     let j : 3 ≤ n = (rw (three-ops s (q .pending)) at h) in
     commit-able n torn s i q b ∙ rw (le-leb 3 n j)
 
 commit-ok : (n : ℕ) (torn : List ℕ) (s : SampleState) (i : SampleImage)
-    → Commit small sample n torn s i (act (commit n torn) s i .answer) (act (commit n torn) s i .ops) (act (commit n torn) s i .state) (act (commit n torn) s i .image)
+    → Commit sample n torn s i (act (commit n torn) s i .answer) (act (commit n torn) s i .ops) (act (commit n torn) s i .state) (act (commit n torn) s i .image)
 unfolding stateOf committed
 commit-ok n torn s i =
     let o = commitDone n torn s i in
     let c = commits n (i .size) (length torn) in
     let six = noNumberLeft (s .pending) (s .number) in
-    let f = firstRefusal small (s .on) (s .blocks) c in
+    let f = firstRefusal (s .nand) (s .on) (s .blocks) c in
     let l = orElse (when 6 six) 0 in
     record {
       first = first-ok c s i o (six-later six)
           (commit-cases (λ x. (m : ℕ) → x .answer ≡ refuses m → NotFirst m) n torn s i not-later (λ m. far 10 m (omega arith)) (λ m. far 6 m (omega arith)) not-later)
           (commit-cases (λ x. x .image .size ≡ i .size) n torn s i refl (cut-size (eqb (suc n) 3 && eqb (getD torn 0 0) 0) s i) refl refl);
       range = sieve-case (λ x. acceptsOr (2 ∷ 1 ∷ 6 ∷ 10 ∷ []) (x .answer) ≡ true) f l s i o
-          (two-one (not (s .on)) (not (isChipSize small (i .size) && (isTornSize small (length torn) && hasBlocks small (s .blocks) (i .size)))) (6 ∷ 10 ∷ []))
+          (two-one (not (s .on)) (not (isChipSize (geometryOf (s .nand)) (i .size) && (isTornSize (geometryOf (s .nand)) (length torn) && hasBlocks (geometryOf (s .nand)) (s .blocks) (i .size)))) (6 ∷ 10 ∷ []))
           (λ k z. six-range six (10 ∷ []) k)
           (λ z e. commit-cases (λ x. acceptsOr (2 ∷ 1 ∷ 6 ∷ 10 ∷ []) (x .answer) ≡ true) n torn s i refl refl refl refl);
       quiet = sieve-case (λ x. (k : ℕ) → x .answer ≡ refuses k → (k ≡ 10 → ⊥) → (x .ops ≡ 0) × Same sample s i (x .state) (x .image)) f l s i o
@@ -392,7 +400,7 @@ commit-ok n torn s i =
       last = λ t k e. rw (t, e);
       idle = λ t z. rw (t, le-ltb 0 (s .pending) (omega arith)) (refl, refl, same);
       none = λ z. rw (le-ltb 0 (s .pending) (omega arith));
-      bound = omega arith;
+      bound = let k = few-ops (s .nand) in omega arith;
       stuck = λ q b. ap (λ x. x .answer) (planned-is c s i (commitWork n torn s i) refl q) ∙ rw b;
       able = λ q r. r;
       few = λ q b. let e = three-ops s (q .proceeds .pending) in omega arith;
@@ -405,27 +413,27 @@ commit-ok n torn s i =
       once = λ q b x. commit-once x (s .number) (ltb 0 (s .pending));
       adds = λ q b h x k. rw (commit-finished n torn s i (q .proceeds) b h);
       leavesFree = λ q b h. rw (commit-finished n torn s i (q .proceeds) b h, b) (omega arith);
-      rests = λ q b h x z t good.
+      rests = λ q b h x z t good own.
           commit-rests x (s .number) (t .number) (ltb 0 (s .pending)) (ltb 0 (t .pending)) (good .1 ∙ ap (λ y. y .image .number) (commit-finished n torn s i (q .proceeds) b h)) z;
       cut = λ q b h. let j : n < 3 = (rw (three-ops s (q .proceeds .pending)) at h) in rw (commit-able n torn s i (q .proceeds) b, lt-leb 3 n j);
     }
 
 -- ---- forecast
-forecast-ok : (s : SampleState) (i : SampleImage) → Forecast small sample s i (act forecast s i .answer) (act forecast s i .ops) (act forecast s i .state) (act forecast s i .image)
+forecast-ok : (s : SampleState) (i : SampleImage) → Forecast sample s i (act forecast s i .answer) (act forecast s i .ops) (act forecast s i .state) (act forecast s i .image)
 unfolding stateOf
 forecast-ok s i =
     let w = out accepted (length (commitOpsOf s)) s i in
     let o = forecastDone s i in
     let c = forecasts (i .size) in
     let six = noNumberLeft (s .pending) (s .number) in
-    let f = firstRefusal small (s .on) (s .blocks) c in
+    let f = firstRefusal (s .nand) (s .on) (s .blocks) c in
     let l = orElse (when 6 six) 0 in
     record {
       first = first-ok c s i o (six-later six)
           (planned-cases (λ x. (m : ℕ) → x .answer ≡ refuses m → NotFirst m) s i w not-later (λ m. far 6 m (omega arith)) not-later)
           (planned-cases (λ x. x .image .size ≡ i .size) s i w refl refl refl);
       range = sieve-case (λ x. acceptsOr (2 ∷ 1 ∷ 6 ∷ []) (x .answer) ≡ true) f l s i o
-          (two-one (not (s .on)) (not (isChipSize small (i .size) && hasBlocks small (s .blocks) (i .size))) (6 ∷ [])) (λ k z. six-range six [] k)
+          (two-one (not (s .on)) (not (isChipSize (geometryOf (s .nand)) (i .size) && hasBlocks (geometryOf (s .nand)) (s .blocks) (i .size))) (6 ∷ [])) (λ k z. six-range six [] k)
           (λ z e. planned-cases (λ x. acceptsOr (2 ∷ 1 ∷ 6 ∷ []) (x .answer) ≡ true) s i w refl refl refl);
       same = sieve-case (λ x. Same sample s i (x .state) (x .image)) f l s i o (λ k e. same) (λ k z e. same)
           (λ z e. planned-cases (λ x. Same sample s i (x .state) (x .image)) s i w same same same);
@@ -439,10 +447,10 @@ forecast-ok s i =
     }
 
 -- ---- mount
-mount-cases : (P : Outcome → Type 0) (n : ℕ) (s : SampleState) (i : SampleImage) → P (out accepted (length (mountOpsOf i)) (opened i) (voided false i)) → P (out (refuses 10) n (down s) i)
-    → P (out (refuses 7) 0 (down s) i) → P (mountDone n s i)
-mount-cases P n s i a b c =
-    let x = out accepted (length (mountOpsOf i)) (opened i) (voided false i) in
+mount-cases : (P : Outcome → Type 0) (nand : Nand) (n : ℕ) (s : SampleState) (i : SampleImage) → P (out accepted (length (mountOpsOf i)) (opened nand i) (voided false i)) → P (out (refuses 10) n (down s) i)
+    → P (out (refuses 7) 0 (down s) i) → P (mountDone nand n s i)
+mount-cases P nand n s i a b c =
+    let x = out accepted (length (mountOpsOf i)) (opened nand i) (voided false i) in
     let y = out (refuses 10) n (down s) i in
     cond-case P (i .whole) (cond (leb (length (mountOpsOf i)) n) x y) (out (refuses 7) 0 (down s) i) (cond-case P (leb (length (mountOpsOf i)) n) x y a b) c
 
@@ -455,9 +463,9 @@ holds-by : (b : Bool) (t : Table) (n : ℕ) (K : Table) (G : ℕ) → cond b (me
 holds-by true t n K G e = (refl, cc, cc)
 holds-by false t n K G e = let u : _≡_ {A = ℕ} 0 1 = cc in absurd (omega arith)
 
-mount-whole : (n : ℕ) (s : SampleState) (i : SampleImage) → i .whole ≡ true
-    → mountDone n s i ≡ cond (leb (length (mountOpsOf i)) n) (out accepted (length (mountOpsOf i)) (opened i) (voided false i)) (out (refuses 10) n (down s) i)
-mount-whole n s i e = rw e
+mount-whole : (nand : Nand) (n : ℕ) (s : SampleState) (i : SampleImage) → i .whole ≡ true
+    → mountDone nand n s i ≡ cond (leb (length (mountOpsOf i)) n) (out accepted (length (mountOpsOf i)) (opened nand i) (voided false i)) (out (refuses 10) n (down s) i)
+mount-whole nand n s i e = rw e
 
 invalid-by : (b : Bool) (t : Table) (n m : ℕ) → cond b (means t n) (invalid 7) ≡ invalid m → (b ≡ false) × (7 ≡ m)
 invalid-by true t n m e = let u : _≡_ {A = ℕ} 0 1 = cc in absurd (omega arith)
@@ -473,114 +481,114 @@ ten-loud : (n k : ℕ) → refuses 10 ≡ refuses k → (k ≡ 10 → ⊥) → n
 ten-loud n k e f = let q : _≡_ {A = ℕ} 10 k = cc in absurd (f (sym q))
 
 -- the outcome of a mount that passed its test of size
-mount-is : (n : ℕ) (torn : List ℕ) (s : SampleState) (i : SampleImage) → firstRefusal small (s .on) (s .blocks) (mounts n (i .size) (length torn)) ≡ 0 → act (mount n torn) s i ≡ mountDone n s i
-mount-is n torn s i t = rw t
+mount-is : (nand : Nand) (n : ℕ) (torn : List ℕ) (s : SampleState) (i : SampleImage) → firstRefusal (s .nand) (s .on) (s .blocks) (mounts nand n (i .size) (length torn)) ≡ 0 → act (mount nand n torn) s i ≡ mountDone nand n s i
+mount-is nand n torn s i t = rw t
 
-mount-finished : (n : ℕ) (torn : List ℕ) (s : SampleState) (i : SampleImage) → firstRefusal small (s .on) (s .blocks) (mounts n (i .size) (length torn)) ≡ 0 → i .whole ≡ true
-    → length (mountOpsOf i) ≤ n → act (mount n torn) s i ≡ out accepted (length (mountOpsOf i)) (opened i) (voided false i)
-mount-finished n torn s i t e h = mount-is n torn s i t ∙ mount-whole n s i e ∙ rw (le-leb (length (mountOpsOf i)) n h)
+mount-finished : (nand : Nand) (n : ℕ) (torn : List ℕ) (s : SampleState) (i : SampleImage) → firstRefusal (s .nand) (s .on) (s .blocks) (mounts nand n (i .size) (length torn)) ≡ 0 → i .whole ≡ true
+    → length (mountOpsOf i) ≤ n → act (mount nand n torn) s i ≡ out accepted (length (mountOpsOf i)) (opened nand i) (voided false i)
+mount-finished nand n torn s i t e h = mount-is nand n torn s i t ∙ mount-whole nand n s i e ∙ rw (le-leb (length (mountOpsOf i)) n h)
 
 -- it sets a mark or does nothing
 mount-none : (b : ℕ) (c : Bool) → erasesIn b (cond c (mark 0 Obsolete ∷ []) []) ≡ 0
 mount-none b true = refl
 mount-none b false = refl
 
-mount-ok : (n : ℕ) (torn : List ℕ) (s : SampleState) (i : SampleImage)
-    → Mount small sample n torn s i (act (mount n torn) s i .answer) (act (mount n torn) s i .ops) (act (mount n torn) s i .state) (act (mount n torn) s i .image)
+mount-ok : (nand : Nand) (n : ℕ) (torn : List ℕ) (s : SampleState) (i : SampleImage)
+    → Mount sample nand n torn s i (act (mount nand n torn) s i .answer) (act (mount nand n torn) s i .ops) (act (mount nand n torn) s i .state) (act (mount nand n torn) s i .image)
 unfolding stateOf resting
-mount-ok n torn s i =
-    let o = mountDone n s i in
-    let c = mounts n (i .size) (length torn) in
-    let f = firstRefusal small (s .on) (s .blocks) c in
+mount-ok nand n torn s i =
+    let o = mountDone nand n s i in
+    let c = mounts nand n (i .size) (length torn) in
+    let f = firstRefusal (s .nand) (s .on) (s .blocks) c in
     record {
       first = first-ok c s i o (λ m e. absurd (omega arith))
-          (mount-cases (λ x. (m : ℕ) → x .answer ≡ refuses m → NotFirst m) n s i not-later (λ m. far 10 m (omega arith)) (λ m. far 7 m (omega arith)))
-          (mount-cases (λ x. x .image .size ≡ i .size) n s i refl refl refl);
+          (mount-cases (λ x. (m : ℕ) → x .answer ≡ refuses m → NotFirst m) nand n s i not-later (λ m. far 10 m (omega arith)) (λ m. far 7 m (omega arith)))
+          (mount-cases (λ x. x .image .size ≡ i .size) nand n s i refl refl refl);
       range = sieve-case (λ x. acceptsOr (1 ∷ 7 ∷ 8 ∷ 9 ∷ 10 ∷ []) (x .answer) ≡ true) f 0 s i o
-          (only-one (not (isChipSize small (i .size) && isTornSize small (length torn))) (7 ∷ 8 ∷ 9 ∷ 10 ∷ [])) (λ k z e. absurd (omega arith))
-          (λ z e. mount-cases (λ x. acceptsOr (1 ∷ 7 ∷ 8 ∷ 9 ∷ 10 ∷ []) (x .answer) ≡ true) n s i refl refl refl);
+          (only-one (not (isChipSize (geometryOf nand) (i .size) && isTornSize (geometryOf nand) (length torn))) (7 ∷ 8 ∷ 9 ∷ 10 ∷ [])) (λ k z e. absurd (omega arith))
+          (λ z e. mount-cases (λ x. acceptsOr (1 ∷ 7 ∷ 8 ∷ 9 ∷ 10 ∷ []) (x .answer) ≡ true) nand n s i refl refl refl);
       quiet = sieve-case (λ x. (k : ℕ) → x .answer ≡ refuses k → (k ≡ 10 → ⊥) → x .ops ≡ 0) f 0 s i o (λ k e m q d. refl) (λ k z e m q d. refl)
-          (λ z e. mount-cases (λ x. (k : ℕ) → x .answer ≡ refuses k → (k ≡ 10 → ⊥) → x .ops ≡ 0) n s i (λ k e f. absurd (accepted-not k e)) (ten-loud n) (λ k e f. refl));
+          (λ z e. mount-cases (λ x. (k : ℕ) → x .answer ≡ refuses k → (k ≡ 10 → ⊥) → x .ops ≡ 0) nand n s i (λ k e f. absurd (accepted-not k e)) (ten-loud n) (λ k e f. refl));
       few = λ K G e. void-few (i .void);
       refused = λ t m e.
           let b = invalid-by (i .whole) (i .tree) (i .number) m e in
-          rw (mount-is n torn s i t, b .0) (ap refuses (b .1), refl, refl, refl);
+          rw (mount-is nand n torn s i t, b .0) (ap refuses (b .1), refl, refl, refl);
       power = λ t K G e.
           let b = holds-by (i .whole) (i .tree) (i .number) K G e in
-          rw (mount-is n torn s i t, mount-whole n s i (b .0))
+          rw (mount-is nand n torn s i t, mount-whole nand n s i (b .0))
           (record { enough = λ h. rw (le-leb (length (mountOpsOf i)) n h) (refl, refl); short = λ h. rw (lt-leb (length (mountOpsOf i)) n h) (refl, refl) });
       stays = λ t K G e.
           let b = holds-by (i .whole) (i .tree) (i .number) K G e in
-          let d = mount-is n torn s i t ∙ mount-whole n s i (b .0) in
-          let k = cond-means (leb (length (mountOpsOf i)) n) i n (length (mountOpsOf i)) (opened i) (down s) in
+          let d = mount-is nand n torn s i t ∙ mount-whole nand n s i (b .0) in
+          let k = cond-means (leb (length (mountOpsOf i)) n) i n (length (mountOpsOf i)) (opened nand i) (down s) in
           (ap (λ x. meaningOf (x .image)) d ∙ k .0 ∙ e, λ r. ap (λ x. x .image .roomy) d ∙ k .1 ∙ r);
       done = λ t K G e h.
           let b = holds-by (i .whole) (i .tree) (i .number) K G e in
-          let d = mount-finished n torn s i t (b .0) h in (
+          let d = mount-finished nand n torn s i t (b .0) h in (
             ap (λ x. stateOf sample (x .state) (x .image)) d
-                ∙ ap (λ m. record { kept = treeIn m; present = treeIn m; pending = 0; number = i .number; on = true; blocks = blocksOf small (i .size) }) e
-                ∙ ap (λ m. record { kept = K; present = K; pending = 0; number = m; on = true; blocks = blocksOf small (i .size) }) (b .2),
+                ∙ ap (λ m. record { kept = treeIn m; present = treeIn m; pending = 0; number = i .number; on = true; nand = nand; blocks = blocksOf (geometryOf nand) (i .size) }) e
+                ∙ ap (λ m. record { kept = K; present = K; pending = 0; number = m; on = true; nand = nand; blocks = blocksOf (geometryOf nand) (i .size) }) (b .2),
             subst (λ x. Tied (x .state) (x .image)) (sym d) (refl, refl),
           );
       cut = λ t K G e h.
           let b = holds-by (i .whole) (i .tree) (i .number) K G e in
-          rw (mount-is n torn s i t, mount-whole n s i (b .0), lt-leb (length (mountOpsOf i)) n h);
+          rw (mount-is nand n torn s i t, mount-whole nand n s i (b .0), lt-leb (length (mountOpsOf i)) n h);
       zeros = sieve-case (λ x. x .answer ≡ accepted → (b : ℕ) → x .state .erases b ≡ 0) f 0 s i o (λ k e q. absurd (accepted-not (suc k) (sym q)))
           (λ k z e. absurd (omega arith))
-          (λ z e. mount-cases (λ x. x .answer ≡ accepted → (b : ℕ) → x .state .erases b ≡ 0) n s i (λ q b. refl) (λ q. absurd (accepted-not 10 (sym q))) (λ q. absurd (accepted-not 7 (sym q))));
+          (λ z e. mount-cases (λ x. x .answer ≡ accepted → (b : ℕ) → x .state .erases b ≡ 0) nand n s i (λ q b. refl) (λ q. absurd (accepted-not 10 (sym q))) (λ q. absurd (accepted-not 7 (sym q))));
       noErase = λ b. mount-none b (i .void);
-      still = λ t good. (
+      still = λ t good own. (
         rw (good .0),
-        sieve-case (λ x. x .image ≡ i) f 0 s i o (λ k e. refl) (λ k z e. refl) (λ z e. mount-cases (λ x. x .image ≡ i) n s i (ap (λ b. voided b i) (sym (good .0))) refl refl),
+        sieve-case (λ x. x .image ≡ i) f 0 s i o (λ k e. refl) (λ k z e. refl) (λ z e. mount-cases (λ x. x .image ≡ i) nand n s i (ap (λ b. voided b i) (sym (good .0))) refl refl),
       );
     }
 
 -- ---- format
-format-cases : (P : Outcome → Type 0) (n : ℕ) (s : SampleState) (i : SampleImage)
-    → P (cond true (formatDone 4 s i) (formatDone 4 s i)) → P (out (refuses 10) n (down s) (record { tree = []; number = 0; whole = false; void = false; roomy = false; size = i .size })) → P (formatDone n s i)
-format-cases P n s i a b = cases (leb 4 n) (λ u. rw u a) (λ u. rw u b)
+format-cases : (P : Outcome → Type 0) (nand : Nand) (n : ℕ) (s : SampleState) (i : SampleImage)
+    → P (cond true (formatDone nand 4 s i) (formatDone nand 4 s i)) → P (out (refuses 10) n (down s) (record { tree = []; number = 0; whole = false; void = false; roomy = false; size = i .size })) → P (formatDone nand n s i)
+format-cases P nand n s i a b = cases (leb 4 n) (λ u. rw u a) (λ u. rw u b)
 
-format-ok : (n : ℕ) (torn : List ℕ) (s : SampleState) (i : SampleImage)
-    → Format small sample n torn s i (act (format n torn) s i .answer) (act (format n torn) s i .ops) (act (format n torn) s i .state) (act (format n torn) s i .image)
+format-ok : (nand : Nand) (n : ℕ) (torn : List ℕ) (s : SampleState) (i : SampleImage)
+    → Format sample nand n torn s i (act (format nand n torn) s i .answer) (act (format nand n torn) s i .ops) (act (format nand n torn) s i .state) (act (format nand n torn) s i .image)
 unfolding stateOf resting
-format-ok n torn s i =
-    let o = formatDone n s i in
-    let c = formats n (i .size) (length torn) in
-    let f = firstRefusal small (s .on) (s .blocks) c in
+format-ok nand n torn s i =
+    let o = formatDone nand n s i in
+    let c = formats nand n (i .size) (length torn) in
+    let f = firstRefusal (s .nand) (s .on) (s .blocks) c in
     record {
       first = first-ok c s i o (λ m e. absurd (omega arith))
-          (format-cases (λ x. (m : ℕ) → x .answer ≡ refuses m → NotFirst m) n s i not-later (λ m. far 10 m (omega arith)))
-          (format-cases (λ x. x .image .size ≡ i .size) n s i refl refl);
+          (format-cases (λ x. (m : ℕ) → x .answer ≡ refuses m → NotFirst m) nand n s i not-later (λ m. far 10 m (omega arith)))
+          (format-cases (λ x. x .image .size ≡ i .size) nand n s i refl refl);
       range = sieve-case (λ x. acceptsOr (1 ∷ 10 ∷ []) (x .answer) ≡ true) f 0 s i o
-          (only-one (not (isChipSize small (i .size) && isTornSize small (length torn))) (10 ∷ [])) (λ k z e. absurd (omega arith))
-          (λ z e. format-cases (λ x. acceptsOr (1 ∷ 10 ∷ []) (x .answer) ≡ true) n s i refl refl);
+          (only-one (not (isChipSize (geometryOf nand) (i .size) && isTornSize (geometryOf nand) (length torn))) (10 ∷ [])) (λ k z e. absurd (omega arith))
+          (λ z e. format-cases (λ x. acceptsOr (1 ∷ 10 ∷ []) (x .answer) ≡ true) nand n s i refl refl);
       quiet = sieve-case (λ x. (k : ℕ) → x .answer ≡ refuses k → (k ≡ 10 → ⊥) → x .ops ≡ 0) f 0 s i o (λ k e m q d. refl) (λ k z e m q d. refl)
-          (λ z e. format-cases (λ x. (k : ℕ) → x .answer ≡ refuses k → (k ≡ 10 → ⊥) → x .ops ≡ 0) n s i (λ k e f. absurd (accepted-not k e)) (ten-loud n));
-      few = λ t. omega arith;
+          (λ z e. format-cases (λ x. (k : ℕ) → x .answer ≡ refuses k → (k ≡ 10 → ⊥) → x .ops ≡ 0) nand n s i (λ k e f. absurd (accepted-not k e)) (ten-loud n));
+      few = λ t. let k = few-ops nand in omega arith;
       power = λ t. rw t (record { enough = λ h. rw (le-leb 4 n h) (refl, refl); short = λ h. rw (lt-leb 4 n h) (refl, refl) });
-      done = λ t h. rw (t, le-leb 4 n h) (refl {a = fresh (blocksOf small (i .size))}, refl, (refl, refl), refl);
+      done = λ t h. rw (t, le-leb 4 n h) (refl {a = fresh nand (blocksOf (geometryOf nand) (i .size))}, refl, (refl, refl), refl);
       zeros = sieve-case (λ x. x .answer ≡ accepted → (b : ℕ) → x .state .erases b ≡ 0) f 0 s i o (λ k e q. absurd (accepted-not (suc k) (sym q)))
           (λ k z e. absurd (omega arith))
-          (λ z e. format-cases (λ x. x .answer ≡ accepted → (b : ℕ) → x .state .erases b ≡ 0) n s i (λ q b. refl) (λ q. absurd (accepted-not 10 (sym q))));
+          (λ z e. format-cases (λ x. x .answer ≡ accepted → (b : ℕ) → x .state .erases b ≡ 0) nand n s i (λ q b. refl) (λ q. absurd (accepted-not 10 (sym q))));
       cut = λ t h. rw (t, lt-leb 4 n h);
     }
 
--- ---- any proper call of the small store is allowed by its contract
+-- ---- any proper call of the sample store is allowed by its contract
 abbrev pub Proper : Act → Type 0
 Proper (read r) = ProperRead r
 Proper (update u) = ProperUpdate u
 Proper forecast = Unit {0}
-Proper (format n torn) = Unit {0}
+Proper (format nand n torn) = Unit {0}
 Proper (commit n torn) = Unit {0}
-Proper (mount n torn) = Unit {0}
+Proper (mount nand n torn) = Unit {0}
 
-pub allowed : (x : Act) → Proper x → (s : SampleState) (i : SampleImage) → Allowed small sample x s i (act x s i .answer) (act x s i .ops) (act x s i .state) (act x s i .image)
+pub allowed : (x : Act) → Proper x → (s : SampleState) (i : SampleImage) → Allowed sample x s i (act x s i .answer) (act x s i .ops) (act x s i .state) (act x s i .image)
 allowed (read r) w s i = read-ok r w s i
 allowed (update u) w s i = update-ok u w s i
 allowed forecast w s i = forecast-ok s i
-allowed (format n torn) w s i = format-ok n torn s i
+allowed (format nand n torn) w s i = format-ok nand n torn s i
 allowed (commit n torn) w s i = commit-ok n torn s i
-allowed (mount n torn) w s i = mount-ok n torn s i
+allowed (mount nand n torn) w s i = mount-ok nand n torn s i
 
 -- ---- and so any list of calls on it is one that the promise is about, also where the box was without power before a mount or a format
 pub data Order : Type 0 where
@@ -611,7 +619,7 @@ Fine (next x ∷ xs) s i = Proper x × Fine xs (stepOf (next x) s i .state) (ste
 Fine (reboot t x ∷ xs) s i =
     (Proper x × (boots x ≡ true) × (act x t i .answer ≡ refuses 1 → ⊥)) × Fine xs (stepOf (reboot t x) s i .state) (stepOf (reboot t x) s i .image)
 
-pub runs : (xs : List Order) (H : SampleState → Type 0) (s : SampleState) (i : SampleImage) → H s → Fine xs s i → Runs small sample H i (stepsOf xs s i)
+pub runs : (xs : List Order) (H : SampleState → Type 0) (s : SampleState) (i : SampleImage) → H s → Fine xs s i → Runs sample H i (stepsOf xs s i)
 runs [] H s i h f = tt
 runs (next x ∷ xs) H s i h f = (
   record { allowed = allowed x (f .0) s i; lends = one refl refl; handed = λ b. h },

@@ -8,7 +8,7 @@ use lib.Dec.{ltb}
 use lib.ListN.{length}
 use borrow.Author.Tests.{ltb-true, ltb-false}
 use Rattle.lists.proofs.Tests.{cases, clash}
-use Rattle.chip.specs.Geometry.{Geometry, blocksOf}
+use Rattle.chip.specs.Geometry.{Nand, geometryOf, blocksOf}
 use Rattle.tree.specs.Tree.{Table, find}
 use Rattle.tree.specs.Step6.{top}
 use Rattle.promise.specs.Plain.{Plain, orElse, when, UpdateCall, Call, reads, updates, forecasts, formats, commits, mounts, isChipSize, isTornSize, firstRefusal, numbersRefusal, laterRefusal, refusalOf, mayCut, cut, passed, judge, verdict, leaf, resting, updated, committed, finished, off, cutOff, after, afterBy}
@@ -43,13 +43,13 @@ abbrev LawfulCall : Call → Type 0
 LawfulCall (reads r image) = Unit {0}
 LawfulCall (updates u image) = Lawful u
 LawfulCall (forecasts image) = Unit {0}
-LawfulCall (formats a image torn) = Unit {0}
+LawfulCall (formats nand a image torn) = Unit {0}
 LawfulCall (commits a image torn) = Unit {0}
-LawfulCall (mounts a image torn) = Unit {0}
+LawfulCall (mounts nand a image torn) = Unit {0}
 
-pub tells-resting : (K : Table) (G B : ℕ) → TreeOf B K → Tells (resting K G B) (begun K)
+pub tells-resting : (nand : Nand) (K : Table) (G B : ℕ) → TreeOf B K → Tells (resting nand K G B) (begun K)
 unfolding resting
-tells-resting K G B t =
+tells-resting nand K G B t =
     record { kept = t; present = t; keptValue = λ k b. refl; presentValue = λ o k b. refl; count = λ o. refl; rests = λ o z. refl }
 
 tells-off : (p : Plain) (l : History) → Tells p l → Tells (off p) (dropped l)
@@ -95,73 +95,74 @@ tells-updated u p l w r h =
       rests = λ o z. absurd (omega arith);
     }
 
-tells-mounted : (p : Plain) (l : History) → Tells p l → Tells (resting (p .kept) (p .number) (p .blocks)) (dropped l)
+tells-mounted : (nand : Nand) (p : Plain) (l : History) → Tells p l → Tells (resting nand (p .kept) (p .number) (p .blocks)) (dropped l)
 unfolding resting
-tells-mounted p l h =
+tells-mounted nand p l h =
     record { kept = h .kept; present = h .kept; keptValue = h .keptValue; presentValue = λ o. h .keptValue; count = λ o. refl; rests = λ o z. refl }
 
-tells-finished : (g : Geometry) (w : Bool) (p : Plain) (c : Call) (l : History) → refusalOf g p c ≡ 0 → LawfulCall c → Tells p l → Tells (finished g p c) (historyAfter g passed w c l)
+tells-finished : (w : Bool) (p : Plain) (c : Call) (l : History) → refusalOf p c ≡ 0 → LawfulCall c → Tells p l → Tells (finished p c) (historyAfter passed w c l)
 unfolding finished isChipSize
-tells-finished g w p (reads r image) l e k h = h
-tells-finished g w p (updates u image) l e k h =
-    let b = or-zero (firstRefusal g (p .on) (p .blocks) (updates u image)) (laterRefusal p (updates u image)) e in
+tells-finished w p (reads r image) l e k h = h
+tells-finished w p (updates u image) l e k h =
+    let b = or-zero (firstRefusal (p .nand) (p .on) (p .blocks) (updates u image)) (laterRefusal p (updates u image)) e in
     tells-updated u p l k (or-zero (numbersRefusal (p .pending) (p .number) (updates u image)) (u .refusal (p .blocks) (p .present)) (b .1) .1) h
-tells-finished g w p (forecasts image) l e k h = h
-tells-finished g w p (formats a image torn) l e k h =
-    let b = or-zero (firstRefusal g (p .on) (p .blocks) (formats a image torn)) 0 e in
-    tells-resting (leaf (blocksOf g image)) 1 (blocksOf g image) (leaf-tree (blocksOf g image) (ltb-true 0 (blocksOf g image) (chip-of (ltb 0 (blocksOf g image)) (isTornSize g torn) (b .0))))
-tells-finished g w p (commits a image torn) l e k h =
-    let b = or-zero (firstRefusal g (p .on) (p .blocks) (commits a image torn)) (laterRefusal p (commits a image torn)) e in
+tells-finished w p (forecasts image) l e k h = h
+tells-finished w p (formats nand a image torn) l e k h =
+    let b = or-zero (firstRefusal (p .nand) (p .on) (p .blocks) (formats nand a image torn)) 0 e in
+    let B = blocksOf (geometryOf nand) image in
+    tells-resting nand (leaf B) 1 B (leaf-tree B (ltb-true 0 B (chip-of (ltb 0 B) (isTornSize (geometryOf nand) torn) (b .0))))
+tells-finished w p (commits a image torn) l e k h =
+    let b = or-zero (firstRefusal (p .nand) (p .on) (p .blocks) (commits a image torn)) (laterRefusal p (commits a image torn)) e in
     let o = on-of (p .on) _ (b .0) in
     cases (ltb 0 (p .pending))
     (λ t. rw t (tells-committed p l o h))
     (λ t. let z = ltb-false 0 (p .pending) t in rw t (tells-idle p l o (omega arith) h))
-tells-finished g w p (mounts a image torn) l e k h = tells-mounted p l h
+tells-finished w p (mounts nand a image torn) l e k h = tells-mounted nand p l h
 
-tells-cut : (g : Geometry) (w : Bool) (p : Plain) (c : Call) (l : History) → refusalOf g p c ≡ 0 → Tells p l → Tells (cutOff w p c) (historyAfter g cut w c l)
+tells-cut : (w : Bool) (p : Plain) (c : Call) (l : History) → refusalOf p c ≡ 0 → Tells p l → Tells (cutOff w p c) (historyAfter cut w c l)
 unfolding cutOff
-tells-cut g w p (reads r image) l e h = h
-tells-cut g w p (updates u image) l e h = h
-tells-cut g w p (forecasts image) l e h = h
-tells-cut g w p (formats a image torn) l e h = tells-off p l h
-tells-cut g true p (commits a image torn) l e h =
-    let b = or-zero (firstRefusal g (p .on) (p .blocks) (commits a image torn)) (laterRefusal p (commits a image torn)) e in
+tells-cut w p (reads r image) l e h = h
+tells-cut w p (updates u image) l e h = h
+tells-cut w p (forecasts image) l e h = h
+tells-cut w p (formats nand a image torn) l e h = tells-off p l h
+tells-cut true p (commits a image torn) l e h =
+    let b = or-zero (firstRefusal (p .nand) (p .on) (p .blocks) (commits a image torn)) (laterRefusal p (commits a image torn)) e in
     tells-off (committed p) (flushed l) (tells-committed p l (on-of (p .on) _ (b .0)) h)
-tells-cut g false p (commits a image torn) l e h = tells-off p l h
-tells-cut g w p (mounts a image torn) l e h = tells-off p l h
+tells-cut false p (commits a image torn) l e h = tells-off p l h
+tells-cut w p (mounts nand a image torn) l e h = tells-off p l h
 
-tells-by : (g : Geometry) (w b : Bool) (p : Plain) (c : Call) (l : History) (n : ℕ) → refusalOf g p c ≡ n → LawfulCall c → Tells p l
-    → Tells (afterBy g (judge n b) w p c) (historyAfter g (judge n b) w c l)
-tells-by g w b p c l (suc n) e k h = h
-tells-by g w true p c l zero e k h = tells-cut g w p c l e h
-tells-by g w false p c l zero e k h = tells-finished g w p c l e k h
+tells-by : (w b : Bool) (p : Plain) (c : Call) (l : History) (n : ℕ) → refusalOf p c ≡ n → LawfulCall c → Tells p l
+    → Tells (afterBy (judge n b) w p c) (historyAfter (judge n b) w c l)
+tells-by w b p c l (suc n) e k h = h
+tells-by w true p c l zero e k h = tells-cut w p c l e h
+tells-by w false p c l zero e k h = tells-finished w p c l e k h
 
-tells-after : (g : Geometry) (w : Bool) (p : Plain) (c : Call) (l : History) (ten : Bool) → LawfulCall c → Tells p l
-    → Tells (after g w p c ten) (historyAfter g (verdict g p c ten) w c l)
+tells-after : (w : Bool) (p : Plain) (c : Call) (l : History) (ten : Bool) → LawfulCall c → Tells p l
+    → Tells (after w p c ten) (historyAfter (verdict p c ten) w c l)
 unfolding verdict
-tells-after g w p c l ten k h = tells-by g w (mayCut p c && ten) p c l (refusalOf g p c) refl k h
+tells-after w p c l ten k h = tells-by w (mayCut p c && ten) p c l (refusalOf p c) refl k h
 
 lawful-fed : (x : Act) (image : ℕ) → LawfulAct x → LawfulCall (fed x image)
 lawful-fed (read r) image h = tt
 lawful-fed (update u) image h = h
 lawful-fed forecast image h = tt
-lawful-fed (format n torn) image h = tt
+lawful-fed (format nand n torn) image h = tt
 lawful-fed (commit n torn) image h = tt
-lawful-fed (mount n torn) image h = tt
+lawful-fed (mount nand n torn) image h = tt
 
 -- ---- updates that do not speak of a key leave its value
 pub value-stays : (k : ℕ) (t : Table) (more us : List UpdateCall) → Silent k more → valueOf k t (more ++ us) ≡ valueOf k t us
 value-stays k t [] us h = refl
 value-stays k t (u ∷ more) us h = ap (λ s. afterSaid s (valueOf k t (more ++ us))) (h .0) ∙ value-stays k t more us (h .1)
 
-module _ (g : Geometry) (S : Store) where
-  pub tells-last : (xs : List (Step S)) (p : Plain) (i : S .Image) (l : History) → AllLawful S xs → Tells p l → Tells (lastPlain g S p i xs) (lastHistory g S p i xs l)
+module _ (S : Store) where
+  pub tells-last : (xs : List (Step S)) (p : Plain) (i : S .Image) (l : History) → AllLawful S xs → Tells p l → Tells (lastPlain S p i xs) (lastHistory S p i xs l)
   tells-last [] p i l k h = h
   tells-last (x ∷ xs) p i l k h =
-      tells-last xs (next g S p i x) (x .image) (nextHistory g S p i x l) (k .1)
-      (tells-after g (counts S i (x .image)) p (fed (x .act) (S .size (x .lent))) l (isTen (x .answer)) (lawful-fed (x .act) (S .size (x .lent)) (k .0)) h)
+      tells-last xs (next S p i x) (x .image) (nextHistory S p i x l) (k .1)
+      (tells-after (counts S i x) p (fed (x .act) (S .size (x .lent))) l (isTen (x .answer)) (lawful-fed (x .act) (S .size (x .lent)) (k .0)) h)
 
   -- at each place of a list K and P are trees, and the values are those of the history
-  pub tells-at : (K : Table) (G : ℕ) (i : S .Image) (xs : List (Step S)) → TreeOf (blocksOf g (S .size i)) K → AllLawful S xs
-      → Tells (lastPlain g S (starts g S K G i) i xs) (lastHistory g S (starts g S K G i) i xs (begun K))
-  tells-at K G i xs t k = tells-last xs (starts g S K G i) i (begun K) k (tells-resting K G (blocksOf g (S .size i)) t)
+  pub tells-at : (nand : Nand) (K : Table) (G : ℕ) (i : S .Image) (xs : List (Step S)) → TreeOf (blocksOf (geometryOf nand) (S .size i)) K → AllLawful S xs
+      → Tells (lastPlain S (starts S nand K G i) i xs) (lastHistory S (starts S nand K G i) i xs (begun K))
+  tells-at nand K G i xs t k = tells-last xs (starts S nand K G i) i (begun K) k (tells-resting nand K G (blocksOf (geometryOf nand) (S .size i)) t)

@@ -1,9 +1,9 @@
--- The erases of the small store over a list of calls with none cut, and over one with a cut commit, computed. Assumes nothing.
+-- The erases of the sample store over a list of calls with none cut, and over one with a cut commit, computed. Assumes nothing.
 use mathlib.Core.Path.{_≡_, refl}
 use mathlib.Core.List.{List, [], _∷_, _++_, map}
 use Prim.Native.Nat.{ℕ, suc, _+_, _*_, _≤_}
 use native.Mathlib.Omega.{arith}
-use Rattle.chip.specs.Geometry.{small}
+use Rattle.chip.specs.declared.geometry.Nand.the-variants.{Small}
 use Rattle.chip.specs.Erases.{erasesIn}
 use Rattle.tree.specs.Tree as T
 use Rattle.promise.specs.Plain.{cuts, insertion, deletion, refuses, accepted, isChipSize, isTornSize, hasBlocks, leaf}
@@ -33,7 +33,7 @@ before = next (insert 3 30) ∷ []
 
 abbrev between : List Order
 between =
-    next (insert 4 40) ∷ commits ∷ next (delete 6) ∷ reboot junk (mount 255 (torn 90)) ∷ commits ∷ next (insert 5 50) ∷ commits ∷ next (insert 6 60) ∷ []
+    next (insert 4 40) ∷ commits ∷ next (delete 6) ∷ reboot junk (mount Small 255 (torn 90)) ∷ commits ∷ next (insert 5 50) ∷ commits ∷ next (insert 6 60) ∷ []
 
 abbrev worn : List Order
 worn = before ++ (commits ∷ (between ++ (commits ∷ [])))
@@ -51,10 +51,10 @@ lastCommit = stepOf commits (leaves between (firstCommit .state) (firstCommit .i
 pub wear-examples :
     (map sampleAnswer (stepsOf worn s₀ i₀) ≡ accepted ∷ accepted ∷ accepted ∷ accepted ∷ refuses 4 ∷ accepted ∷ accepted ∷ accepted ∷ accepted ∷ accepted ∷ accepted ∷ [])
     × (finishedCommits sample (stepsOf worn s₀ i₀) ≡ 4)
-    × (map (λ b. wholeErases small sample b (stepsOf worn s₀ i₀)) (0 ∷ 1 ∷ 2 ∷ []) ≡ 1 ∷ 2 ∷ 1 ∷ [])
-    × (sample .free (leavesImage worn s₀ i₀) ≡ 3)
-    × (erasesIn 1 (doneBy small sample firstCommit) ≡ 1)
-    × (erasesIn 1 (doneBy small sample lastCommit) ≡ 1)
+    × (map (λ b. wholeErases sample b (stepsOf worn s₀ i₀)) (0 ∷ 1 ∷ 2 ∷ []) ≡ 1 ∷ 2 ∷ 1 ∷ [])
+    × (sample .free Small (leavesImage worn s₀ i₀) ≡ 3)
+    × (erasesIn 1 (doneBy sample firstCommit) ≡ 1)
+    × (erasesIn 1 (doneBy sample lastCommit) ≡ 1)
     × (finishedCommits sample (firstCommit ∷ steps) ≡ 3)
 unfolding insertion deletion isChipSize isTornSize hasBlocks stateOf leaf T.insert T.allowed T.inserted T.insertAt T.gain T.fitOrSplit T.halve T.raise T.find
 wear-examples = (refl, refl, refl, refl, refl, refl, refl)
@@ -65,12 +65,13 @@ unfolding insertion deletion isChipSize isTornSize hasBlocks stateOf leaf T.inse
 worn-fine =
     (insert-proper 3 30, (tt, (insert-proper 4 40, (tt, (delete-proper 6, ((tt, refl, accepted-not 1), (tt, (insert-proper 5 50, (tt, (insert-proper 6 60, (tt, tt)))))))))))
 
-unbroken : Unbroken small sample s₀ i₀ (stepsOf worn s₀ i₀)
+unbroken : Unbroken sample s₀ i₀ (stepsOf worn s₀ i₀)
 unfolding insertion deletion isChipSize isTornSize hasBlocks stateOf leaf T.insert T.allowed T.inserted T.insertAt T.gain T.fitOrSplit T.halve T.raise T.find
 unbroken =
     record {
       good = (refl, refl);
       runs = runs worn (Only sample s₀) s₀ i₀ refl worn-fine;
+      named = (refl, (refl, (refl, (refl, (refl, (refl, (refl, (refl, (refl, (refl, (refl, tt)))))))))));
       uncut = (refl, (refl, (refl, (refl, (refl, (refl, (refl, (refl, (refl, (refl, (refl, tt)))))))))));
       unformatted = (refl, (refl, (refl, (refl, (refl, (refl, (refl, (refl, (refl, (refl, (refl, tt)))))))))));
     }
@@ -79,17 +80,17 @@ pub sample-pays : 2 ≤ finishedCommits sample (firstCommit ∷ steps)
 sample-pays =
     let first = wear-examples .4 in
     let last = wear-examples .5 in
-    erases-pay small sample s₀ i₀ (stepsOf before s₀ i₀) steps [] firstCommit lastCommit unbroken 1 (omega arith) (omega arith)
+    erases-pay sample s₀ i₀ (stepsOf before s₀ i₀) steps [] firstCommit lastCommit unbroken 1 (omega arith) (omega arith)
 
 -- ---- a commit that is cut after its erase, a mount, and a commit that erases the same block again
 abbrev cutWorn : List Order
-cutWorn = next (insert 3 30) ∷ next (commit 1 (torn 90)) ∷ reboot junk (mount 255 (torn 90)) ∷ next (insert 3 30) ∷ commits ∷ []
+cutWorn = next (insert 3 30) ∷ next (commit 1 (torn 90)) ∷ reboot junk (mount Small 255 (torn 90)) ∷ next (insert 3 30) ∷ commits ∷ []
 
 pub cut-examples :
     (map sampleAnswer (stepsOf cutWorn s₀ i₀) ≡ accepted ∷ refuses 10 ∷ accepted ∷ accepted ∷ accepted ∷ [])
     × (finishedCommits sample (stepsOf cutWorn s₀ i₀) ≡ 1)
     × (cuts (feeds sample (stepsOf cutWorn s₀ i₀)) ≡ 1)
-    × (map (λ b. wholeErases small sample b (stepsOf cutWorn s₀ i₀)) (0 ∷ 1 ∷ 2 ∷ []) ≡ 0 ∷ 2 ∷ 0 ∷ [])
+    × (map (λ b. wholeErases sample b (stepsOf cutWorn s₀ i₀)) (0 ∷ 1 ∷ 2 ∷ []) ≡ 0 ∷ 2 ∷ 0 ∷ [])
 unfolding insertion deletion isChipSize isTornSize hasBlocks stateOf leaf T.insert T.allowed T.inserted T.insertAt T.gain T.fitOrSplit T.halve T.raise T.find
 cut-examples = (refl, refl, refl, refl)
 
@@ -98,8 +99,8 @@ cut-fine : Fine cutWorn s₀ i₀
 unfolding insertion deletion isChipSize isTornSize hasBlocks stateOf leaf T.insert T.allowed T.inserted T.insertAt T.gain T.fitOrSplit T.halve T.raise T.find
 cut-fine = (insert-proper 3 30, (tt, ((tt, refl, accepted-not 1), (insert-proper 3 30, (tt, tt)))))
 
-pub sample-few : (b : ℕ) → 2 * wholeErases small sample b (stepsOf cutWorn s₀ i₀) ≤ suc (finishedCommits sample (stepsOf cutWorn s₀ i₀) + 2 * cuts (feeds sample (stepsOf cutWorn s₀ i₀)))
+pub sample-few : (b : ℕ) → 2 * wholeErases sample b (stepsOf cutWorn s₀ i₀) ≤ suc (finishedCommits sample (stepsOf cutWorn s₀ i₀) + 2 * cuts (feeds sample (stepsOf cutWorn s₀ i₀)))
 unfolding insertion deletion isChipSize isTornSize hasBlocks stateOf leaf T.insert T.allowed T.inserted T.insertAt T.gain T.fitOrSplit T.halve T.raise T.find
 sample-few =
-    erases-few small sample s₀ i₀ (stepsOf cutWorn s₀ i₀) (refl, refl) (runs cutWorn (Only sample s₀) s₀ i₀ refl cut-fine)
-    (refl, (refl, (refl, (refl, (refl, tt))))) (refl, (refl, (refl, (refl, (refl, tt)))))
+    erases-few sample s₀ i₀ (stepsOf cutWorn s₀ i₀) (refl, refl) (runs cutWorn (Only sample s₀) s₀ i₀ refl cut-fine)
+    (refl, (refl, (refl, (refl, (refl, tt))))) (refl, (refl, (refl, (refl, (refl, tt))))) (refl, (refl, (refl, (refl, (refl, tt)))))

@@ -6,7 +6,7 @@ use mathlib.Core.List.{List, [], _∷_}
 use Prim.Native.Nat.{ℕ, suc, _+_, _<_, _≤_}
 use lib.Dec.{eqb}
 use lib.ListN.{length, getD}
-use Rattle.chip.specs.Geometry.{Geometry, blocksOf}
+use Rattle.chip.specs.Geometry.{Nand, geometryOf, blocksOf}
 use Rattle.chip.specs.Power.{takesEffect}
 use Rattle.chip.specs.Chip.{Op}
 use Rattle.chip.specs.Erases.{erasesIn}
@@ -31,8 +31,9 @@ pub record Store : Type 1 where
   pub Image : Type 0
   -- the length of an image
   pub size : Image → ℕ
-  -- on or off, B, the pending count, G
+  -- on or off, the part, B, the pending count, G
   pub on : State → Bool
+  pub nand : State → Nand
   pub blocks : State → ℕ
   pub pending : State → ℕ
   pub number : State → ℕ
@@ -40,18 +41,18 @@ pub record Store : Type 1 where
   pub erases : State → ℕ → ℕ
   -- P: what the pages of the image and the buffer of the state give
   pub present : State → Image → Table
-  pub meaning : Image → Meaning
-  -- the number of its free pages
-  pub free : Image → ℕ
+  -- read as one part or as the other: what an image means, and the number of its free pages
+  pub meaning : Nand → Image → Meaning
+  pub free : Nand → Image → ℕ
   -- the operations of a mount (a mark for each void page), of a commit, and of a format of a chip with that many blocks
-  pub mountOps : Image → List Op
+  pub mountOps : Nand → Image → List Op
   pub commitOps : State → Image → List Op
-  pub formatOps : ℕ → List Op
-  -- the most operations that a commit has
-  pub most : ℕ
+  pub formatOps : Nand → ℕ → List Op
+  -- the most operations that a commit has on a part
+  pub most : Nand → ℕ
   -- the state is one that calls gave for this image; the image has the unused blocks that a commit may need
   pub Good : State → Image → Type 0
-  pub Room : Image → Type 0
+  pub Room : Nand → Image → Type 0
   -- the plan of a commit is not stuck: it finds places for its pages
   pub able : State → Image → Bool
 
@@ -90,7 +91,15 @@ module _ (S : Store) where
   -- the state's meaning on an image, as a plain store
   unfoldable pub stateOf : S .State → S .Image → Plain
   stateOf s i =
-      record { kept = treeIn (S .meaning i); present = S .present s i; pending = S .pending s; number = S .number s; on = S .on s; blocks = S .blocks s }
+      record {
+        kept = treeIn (S .meaning (S .nand s) i);
+        present = S .present s i;
+        pending = S .pending s;
+        number = S .number s;
+        on = S .on s;
+        nand = S .nand s;
+        blocks = S .blocks s;
+      }
 
   -- refused with none of 3 to 6
   abbrev pub PassesLater : Call → S .State → S .Image → Type 0
@@ -105,14 +114,13 @@ module _ (S : Store) where
     pub state : s' ≡ s
     pub image : i' ≡ i
 
-module _ (g : Geometry) (S : Store) where
   -- refused with neither 2 nor 1
   abbrev pub PassesFirst : Call → S .State → Type 0
-  PassesFirst c s = firstRefusal g (S .on s) (S .blocks s) c ≡ 0
+  PassesFirst c s = firstRefusal (S .nand s) (S .on s) (S .blocks s) c ≡ 0
 
   -- ---- every call: 2 and 1 exactly, on any state and any image; a call refused so changes nothing, and no call changes the image's length
   pub record FirstTests (c : Call) (s : S .State) (i : S .Image) (a : Answer) (s' : S .State) (i' : S .Image) : Type 0 where
-    pub refused : (n : ℕ) → firstRefusal g (S .on s) (S .blocks s) c ≡ suc n → (a ≡ refuses (suc n)) × Same S s i s' i'
+    pub refused : (n : ℕ) → firstRefusal (S .nand s) (S .on s) (S .blocks s) c ≡ suc n → (a ≡ refuses (suc n)) × Same s i s' i'
     pub not1 : PassesFirst c s → a ≡ refuses 1 → ⊥
     pub not2 : PassesFirst c s → a ≡ refuses 2 → ⊥
     pub sameSize : S .size i' ≡ S .size i
@@ -121,8 +129,8 @@ module _ (g : Geometry) (S : Store) where
   pub record Reads (r : ReadCall) (s : S .State) (i : S .Image) (a : Answer) (s' : S .State) (i' : S .Image) : Type 0 where
     pub first : FirstTests (reads r (S .size i)) s i a s' i'
     pub range : tellsOr (2 ∷ 1 ∷ r .numbers) a ≡ true
-    pub same : Same S s i s' i'
-    pub done : S .Good s i → PassesFirst (reads r (S .size i)) s → a ≡ r .answer (stateOf S s i)
+    pub same : Same s i s' i'
+    pub done : S .Good s i → PassesFirst (reads r (S .size i)) s → a ≡ r .answer (stateOf s i)
 
   -- ---- updates: no image is written, and a refusal changes nothing, on any state
   pub record Updates (u : UpdateCall) (s : S .State) (i : S .Image) (a : Answer) (s' : S .State) (i' : S .Image) : Type 0 where
@@ -134,9 +142,9 @@ module _ (g : Geometry) (S : Store) where
     -- 3 exactly when 16 are pending, on any state and any image
     pub full : PassesFirst (updates u (S .size i)) s → 16 ≤ S .pending s → a ≡ refuses 3
     pub notFull : PassesFirst (updates u (S .size i)) s → S .pending s < 16 → a ≡ refuses 3 → ⊥
-    pub then : S .Good s i → PassesFirst (updates u (S .size i)) s → (n : ℕ) → laterRefusal (stateOf S s i) (updates u (S .size i)) ≡ suc n → a ≡ refuses (suc n)
-    pub done : S .Good s i → PassesFirst (updates u (S .size i)) s → PassesLater S (updates u (S .size i)) s i
-        → (a ≡ accepted) × (stateOf S s' i' ≡ updated (u .step (S .blocks s) (S .present s i)) (stateOf S s i)) × S .Good s' i'
+    pub then : S .Good s i → PassesFirst (updates u (S .size i)) s → (n : ℕ) → laterRefusal (stateOf s i) (updates u (S .size i)) ≡ suc n → a ≡ refuses (suc n)
+    pub done : S .Good s i → PassesFirst (updates u (S .size i)) s → PassesLater (updates u (S .size i)) s i
+        → (a ≡ accepted) × (stateOf s' i' ≡ updated (u .step (S .blocks s) (S .present s i)) (stateOf s i)) × S .Good s' i'
 
   abbrev pub Insert : (k v : ℕ) → S .State → S .Image → Answer → S .State → S .Image → Type 0
   Insert k v = Updates (insertion k v)
@@ -148,23 +156,24 @@ module _ (g : Geometry) (S : Store) where
   abbrev pub LookUp : (k : ℕ) → S .State → S .Image → Answer → S .State → S .Image → Type 0
   LookUp k = Reads (lookingUp k)
 
-  -- ---- writes
-  pub record Format (allowance : ℕ) (torn : List ℕ) (s : S .State) (i : S .Image) (a : Answer) (ops : ℕ) (s' : S .State) (i' : S .Image) : Type 0 where
-    pub first : FirstTests (formats allowance (S .size i) (length torn)) s i a s' i'
+  -- ---- writes; a format and a mount name the part
+  pub record Format (nand : Nand) (allowance : ℕ) (torn : List ℕ) (s : S .State) (i : S .Image) (a : Answer) (ops : ℕ) (s' : S .State) (i' : S .Image) : Type 0 where
+    pub first : FirstTests (formats nand allowance (S .size i) (length torn)) s i a s' i'
     pub range : acceptsOr (1 ∷ 10 ∷ []) a ≡ true
     -- with a refusal other than 10 no operation is told
     pub quiet : (n : ℕ) → a ≡ refuses n → (n ≡ 10 → ⊥) → ops ≡ 0
-    pub few : PassesFirst (formats allowance (S .size i) (length torn)) s → length (S .formatOps (blocksOf g (S .size i))) ≤ enoughWrites
-    pub power : PassesFirst (formats allowance (S .size i) (length torn)) s → OpsTold (length (S .formatOps (blocksOf g (S .size i)))) allowance a ops
-    pub done : PassesFirst (formats allowance (S .size i) (length torn)) s → length (S .formatOps (blocksOf g (S .size i))) ≤ allowance
-        → (stateOf S s' i' ≡ fresh (blocksOf g (S .size i))) × (S .meaning i' ≡ means (leaf (blocksOf g (S .size i))) 1) × S .Good s' i' × S .Room i'
+    pub few : PassesFirst (formats nand allowance (S .size i) (length torn)) s → length (S .formatOps nand (blocksOf (geometryOf nand) (S .size i))) ≤ enoughWrites nand
+    pub power : PassesFirst (formats nand allowance (S .size i) (length torn)) s → OpsTold (length (S .formatOps nand (blocksOf (geometryOf nand) (S .size i)))) allowance a ops
+    pub done : PassesFirst (formats nand allowance (S .size i) (length torn)) s → length (S .formatOps nand (blocksOf (geometryOf nand) (S .size i))) ≤ allowance
+        → (stateOf s' i' ≡ fresh nand (blocksOf (geometryOf nand) (S .size i))) × (S .meaning nand i' ≡ means (leaf (blocksOf (geometryOf nand) (S .size i))) 1)
+        × S .Good s' i' × S .Room nand i'
     pub zeros : a ≡ accepted → (b : ℕ) → S .erases s' b ≡ 0
-    pub cut : PassesFirst (formats allowance (S .size i) (length torn)) s → allowance < length (S .formatOps (blocksOf g (S .size i))) → S .on s' ≡ false
+    pub cut : PassesFirst (formats nand allowance (S .size i) (length torn)) s → allowance < length (S .formatOps nand (blocksOf (geometryOf nand) (S .size i))) → S .on s' ≡ false
 
   -- a commit or a forecast that the first tests pass, with updates pending and a number left, on any state
   pub record Proceeding (c : Call) (s : S .State) : Type 0 where
     pub passes : PassesFirst c s
-    pub numbers : PassesNumbers S c s
+    pub numbers : PassesNumbers c s
     pub pending : 0 < S .pending s
 
   -- such a commit on a state that calls gave
@@ -176,34 +185,36 @@ module _ (g : Geometry) (S : Store) where
     pub first : FirstTests (commits allowance (S .size i) (length torn)) s i a s' i'
     pub range : acceptsOr (2 ∷ 1 ∷ 6 ∷ 10 ∷ []) a ≡ true
     -- with a refusal other than 10 no operation is told, and nothing is changed, on any state and any image
-    pub quiet : (n : ℕ) → a ≡ refuses n → (n ≡ 10 → ⊥) → (ops ≡ 0) × Same S s i s' i'
+    pub quiet : (n : ℕ) → a ≡ refuses n → (n ≡ 10 → ⊥) → (ops ≡ 0) × Same s i s' i'
     -- the last number: 6, on any state and any image
     pub last : PassesFirst (commits allowance (S .size i) (length torn)) s → (n : ℕ)
         → numbersRefusal (S .pending s) (S .number s) (commits allowance (S .size i) (length torn)) ≡ suc n → a ≡ refuses (suc n)
     -- nothing pending: accepted, no operation, nothing changed, on any state and any image
-    pub idle : PassesFirst (commits allowance (S .size i) (length torn)) s → S .pending s ≡ 0 → (a ≡ accepted) × (ops ≡ 0) × Same S s i s' i'
+    pub idle : PassesFirst (commits allowance (S .size i) (length torn)) s → S .pending s ≡ 0 → (a ≡ accepted) × (ops ≡ 0) × Same s i s' i'
     pub none : S .pending s ≡ 0 → length (S .commitOps s i) ≡ 0
-    pub bound : S .most ≤ enoughWrites
+    pub bound : S .most (S .nand s) ≤ enoughWrites (S .nand s)
     -- no places: 6, and by `quiet` nothing is changed, on any state and any image; where the image has room there are places
     pub stuck : Proceeding (commits allowance (S .size i) (length torn)) s → S .able s i ≡ false → a ≡ refuses 6
-    pub able : Committing allowance torn s i → S .Room i → S .able s i ≡ true
-    pub few : Committing allowance torn s i → S .able s i ≡ true → length (S .commitOps s i) ≤ S .most
+    pub able : Committing allowance torn s i → S .Room (S .nand s) i → S .able s i ≡ true
+    pub few : Committing allowance torn s i → S .able s i ≡ true → length (S .commitOps s i) ≤ S .most (S .nand s)
     -- places: accepted where the allowance is enough for its operations, else 10, on any state and any image
     pub power : Proceeding (commits allowance (S .size i) (length torn)) s → S .able s i ≡ true → OpsTold (length (S .commitOps s i)) allowance a ops
     -- the image means P and G + 1 where the commit takes effect, else what it meant
     pub choice : Committing allowance torn s i → S .able s i ≡ true
-        → S .meaning i' ≡ cond (takesEffect (getD torn 0 0) allowance (length (S .commitOps s i))) (means (S .present s i) (suc (S .number s))) (S .meaning i)
-    pub room : Committing allowance torn s i → S .able s i ≡ true → S .Room i → S .Room i'
+        → S .meaning (S .nand s) i' ≡ cond (takesEffect (getD torn 0 0) allowance (length (S .commitOps s i))) (means (S .present s i) (suc (S .number s)))
+        (S .meaning (S .nand s) i)
+    pub room : Committing allowance torn s i → S .able s i ≡ true → S .Room (S .nand s) i → S .Room (S .nand s) i'
     pub done : Committing allowance torn s i → S .able s i ≡ true → length (S .commitOps s i) ≤ allowance
-        → (stateOf S s' i' ≡ committed (stateOf S s i)) × S .Good s' i'
+        → (stateOf s' i' ≡ committed (stateOf s i)) × S .Good s' i'
     -- no block is erased twice; finished, each figure grows by the erases of its block: one that is not above the number has room for that
     pub once : Committing allowance torn s i → S .able s i ≡ true → (b : ℕ) → erasesIn b (S .commitOps s i) ≤ 1
     pub adds : Committing allowance torn s i → S .able s i ≡ true → length (S .commitOps s i) ≤ allowance → (b : ℕ) → S .erases s b ≤ S .number s
         → S .erases s' b ≡ S .erases s b + erasesIn b (S .commitOps s i)
-    -- finished, it leaves a page free, and the next one, from any state that calls gave for the image it left, erases no block that this one erased
-    pub leavesFree : Committing allowance torn s i → S .able s i ≡ true → length (S .commitOps s i) ≤ allowance → 0 < S .free i'
+    -- finished, it leaves a page free, and the next one, from any state of this part that calls gave for the image it left, erases no block that this
+    -- one erased
+    pub leavesFree : Committing allowance torn s i → S .able s i ≡ true → length (S .commitOps s i) ≤ allowance → 0 < S .free (S .nand s) i'
     pub rests : Committing allowance torn s i → S .able s i ≡ true → length (S .commitOps s i) ≤ allowance → (b : ℕ) → 0 < erasesIn b (S .commitOps s i)
-        → (t : S .State) → S .Good t i' → erasesIn b (S .commitOps t i') ≡ 0
+        → (t : S .State) → S .Good t i' → S .nand t ≡ S .nand s → erasesIn b (S .commitOps t i') ≡ 0
     pub cut : Committing allowance torn s i → S .able s i ≡ true → allowance < length (S .commitOps s i) → S .on s' ≡ false
 
   -- ---- forecast: state and image are read only, and it gives no state back: s' is s. It is refused as a commit is, save 10, and tells how many
@@ -211,34 +222,34 @@ module _ (g : Geometry) (S : Store) where
   pub record Forecast (s : S .State) (i : S .Image) (a : Answer) (ops : ℕ) (s' : S .State) (i' : S .Image) : Type 0 where
     pub first : FirstTests (forecasts (S .size i)) s i a s' i'
     pub range : acceptsOr (2 ∷ 1 ∷ 6 ∷ []) a ≡ true
-    pub same : Same S s i s' i'
+    pub same : Same s i s' i'
     pub quiet : (n : ℕ) → a ≡ refuses n → ops ≡ 0
     -- the last number, nothing pending, and with updates pending no places or places: on any state and any image
     pub last : PassesFirst (forecasts (S .size i)) s → (n : ℕ) → numbersRefusal (S .pending s) (S .number s) (forecasts (S .size i)) ≡ suc n → a ≡ refuses (suc n)
     pub idle : PassesFirst (forecasts (S .size i)) s → S .pending s ≡ 0 → (a ≡ accepted) × (ops ≡ 0)
     pub stuck : Proceeding (forecasts (S .size i)) s → S .able s i ≡ false → a ≡ refuses 6
-    pub able : S .Good s i → Proceeding (forecasts (S .size i)) s → S .Room i → S .able s i ≡ true
+    pub able : S .Good s i → Proceeding (forecasts (S .size i)) s → S .Room (S .nand s) i → S .able s i ≡ true
     pub done : Proceeding (forecasts (S .size i)) s → S .able s i ≡ true → (a ≡ accepted) × (ops ≡ length (S .commitOps s i))
 
-  -- mount reads the image alone
-  pub record Mount (allowance : ℕ) (torn : List ℕ) (s : S .State) (i : S .Image) (a : Answer) (ops : ℕ) (s' : S .State) (i' : S .Image) : Type 0 where
-    pub first : FirstTests (mounts allowance (S .size i) (length torn)) s i a s' i'
+  -- mount reads the image alone, as the part named
+  pub record Mount (nand : Nand) (allowance : ℕ) (torn : List ℕ) (s : S .State) (i : S .Image) (a : Answer) (ops : ℕ) (s' : S .State) (i' : S .Image) : Type 0 where
+    pub first : FirstTests (mounts nand allowance (S .size i) (length torn)) s i a s' i'
     pub range : acceptsOr (1 ∷ 7 ∷ 8 ∷ 9 ∷ 10 ∷ []) a ≡ true
     -- with a refusal other than 10 no operation is told
     pub quiet : (n : ℕ) → a ≡ refuses n → (n ≡ 10 → ⊥) → ops ≡ 0
-    pub few : (K : Table) (G : ℕ) → S .meaning i ≡ means K G → length (S .mountOps i) ≤ enoughMarks
-    pub refused : PassesFirst (mounts allowance (S .size i) (length torn)) s → (n : ℕ) → S .meaning i ≡ invalid n
+    pub few : (K : Table) (G : ℕ) → S .meaning nand i ≡ means K G → length (S .mountOps nand i) ≤ enoughMarks
+    pub refused : PassesFirst (mounts nand allowance (S .size i) (length torn)) s → (n : ℕ) → S .meaning nand i ≡ invalid n
         → (a ≡ refuses n) × (ops ≡ 0) × (S .on s' ≡ false) × (i' ≡ i)
-    pub power : PassesFirst (mounts allowance (S .size i) (length torn)) s → (K : Table) (G : ℕ) → S .meaning i ≡ means K G
-        → OpsTold (length (S .mountOps i)) allowance a ops
-    pub stays : PassesFirst (mounts allowance (S .size i) (length torn)) s → (K : Table) (G : ℕ) → S .meaning i ≡ means K G
-        → (S .meaning i' ≡ means K G) × (S .Room i → S .Room i')
-    pub done : PassesFirst (mounts allowance (S .size i) (length torn)) s → (K : Table) (G : ℕ) → S .meaning i ≡ means K G
-        → length (S .mountOps i) ≤ allowance → (stateOf S s' i' ≡ resting K G (blocksOf g (S .size i))) × S .Good s' i'
-    pub cut : PassesFirst (mounts allowance (S .size i) (length torn)) s → (K : Table) (G : ℕ) → S .meaning i ≡ means K G
-        → allowance < length (S .mountOps i) → S .on s' ≡ false
+    pub power : PassesFirst (mounts nand allowance (S .size i) (length torn)) s → (K : Table) (G : ℕ) → S .meaning nand i ≡ means K G
+        → OpsTold (length (S .mountOps nand i)) allowance a ops
+    pub stays : PassesFirst (mounts nand allowance (S .size i) (length torn)) s → (K : Table) (G : ℕ) → S .meaning nand i ≡ means K G
+        → (S .meaning nand i' ≡ means K G) × (S .Room nand i → S .Room nand i')
+    pub done : PassesFirst (mounts nand allowance (S .size i) (length torn)) s → (K : Table) (G : ℕ) → S .meaning nand i ≡ means K G
+        → length (S .mountOps nand i) ≤ allowance → (stateOf s' i' ≡ resting nand K G (blocksOf (geometryOf nand) (S .size i))) × S .Good s' i'
+    pub cut : PassesFirst (mounts nand allowance (S .size i) (length torn)) s → (K : Table) (G : ℕ) → S .meaning nand i ≡ means K G
+        → allowance < length (S .mountOps nand i) → S .on s' ≡ false
     pub zeros : a ≡ accepted → (b : ℕ) → S .erases s' b ≡ 0
     -- it erases no block
-    pub noErase : (b : ℕ) → erasesIn b (S .mountOps i) ≡ 0
-    -- an image that calls gave a state for has no void page: there is nothing to do, and it stays as it is
-    pub still : (t : S .State) → S .Good t i → (S .mountOps i ≡ []) × (i' ≡ i)
+    pub noErase : (b : ℕ) → erasesIn b (S .mountOps nand i) ≡ 0
+    -- an image that calls gave a state of this part for has no void page: there is nothing to do, and it stays as it is
+    pub still : (t : S .State) → S .Good t i → S .nand t ≡ nand → (S .mountOps nand i ≡ []) × (i' ≡ i)

@@ -6,7 +6,7 @@ use mathlib.Core.List.{List, [], _∷_}
 use Prim.Native.Nat.{ℕ, _+_, _≤_}
 use lib.ListN.{take}
 use Rattle.lists.specs.Lists.{any}
-use Rattle.chip.specs.Geometry.{Geometry, blocksOf}
+use Rattle.chip.specs.Geometry.{Nand, geometryOf, blocksOf}
 use Rattle.chip.specs.Chip.{Op}
 use Rattle.chip.specs.Erases.{erasesIn}
 use Rattle.tree.specs.Tree.{Table}
@@ -24,15 +24,14 @@ module _ (S : Store) where
   sinceStart [] = []
   sinceStart (x ∷ xs) = cond (any begins (x ∷ xs)) (sinceStart xs) (x ∷ xs)
 
-module _ (g : Geometry) (S : Store) where
   -- the operations of a call on this state and image
   abbrev pub operationsOf : Act → S .State → S .Image → List Op
   operationsOf (read r) s i = []
   operationsOf (update u) s i = []
   operationsOf forecast s i = []
-  operationsOf (format n torn) s i = S .formatOps (blocksOf g (S .size i))
+  operationsOf (format m n torn) s i = S .formatOps m (blocksOf (geometryOf m) (S .size i))
   operationsOf (commit n torn) s i = S .commitOps s i
-  operationsOf (mount n torn) s i = S .mountOps i
+  operationsOf (mount m n torn) s i = S .mountOps m i
 
   -- those that a step did whole: the first ones, as many as it told
   abbrev pub doneBy : Step S → List Op
@@ -48,19 +47,19 @@ module _ (g : Geometry) (S : Store) where
   Unworn s = (b : ℕ) → S .erases s b ≡ 0
 
   abbrev pub StartsUnworn : Type 0
-  StartsUnworn = (x : Step S) → begins S x ≡ true → Allowed g S (x .act) (x .given) (x .lent) (x .answer) (x .ops) (x .state) (x .left) → Unworn (x .state)
+  StartsUnworn = (x : Step S) → begins x ≡ true → Allowed S (x .act) (x .given) (x .lent) (x .answer) (x .ops) (x .state) (x .left) → Unworn (x .state)
 
   -- where a list of the promise leaves the store on, each figure is the whole erases of its block since the last finished mount or format, or since the start
   abbrev pub FiguresTell : Type 0
-  FiguresTell = (K : Table) (G : ℕ) (s : S .State) (i : S .Image) (xs : List (Step S)) → Course g S K G s i xs → Unworn s
-      → (t : S .State) → lastHands S (Only S s) xs t → S .on t ≡ true → (b : ℕ) → S .erases t b ≡ wholeErases b (sinceStart S xs)
+  FiguresTell = (n : Nand) (K : Table) (G : ℕ) (s : S .State) (i : S .Image) (xs : List (Step S)) → Course S n K G s i xs → Unworn s
+      → (t : S .State) → lastHands S (Only S s) xs t → S .on t ≡ true → (b : ℕ) → S .erases t b ≡ wholeErases b (sinceStart xs)
 
   -- the same from any state that calls gave: formats may be cut, there may be no room, whoever began the chip
   abbrev pub FiguresAny : Type 0
-  FiguresAny = (s : S .State) (i : S .Image) (xs : List (Step S)) → S .Good s i → Runs g S (Only S s) i xs → Unworn s
-      → (t : S .State) → lastHands S (Only S s) xs t → S .on t ≡ true → (b : ℕ) → S .erases t b ≡ wholeErases b (sinceStart S xs)
+  FiguresAny = (s : S .State) (i : S .Image) (xs : List (Step S)) → S .Good s i → Runs S (Only S s) i xs → Unworn s
+      → (t : S .State) → lastHands S (Only S s) xs t → S .on t ≡ true → (b : ℕ) → S .erases t b ≡ wholeErases b (sinceStart xs)
 
   -- and no figure is above the number of the state, so that 64 bits hold it
   abbrev pub FiguresFit : Type 0
-  FiguresFit = (s : S .State) (i : S .Image) (xs : List (Step S)) → S .Good s i → Runs g S (Only S s) i xs → Unworn s
+  FiguresFit = (s : S .State) (i : S .Image) (xs : List (Step S)) → S .Good s i → Runs S (Only S s) i xs → Unworn s
       → (t : S .State) → lastHands S (Only S s) xs t → S .on t ≡ true → (b : ℕ) → S .erases t b ≤ S .number t

@@ -5,7 +5,7 @@ use mathlib.Core.Bool.{Bool, true, false}
 use mathlib.Core.List.{List, [], _∷_, _++_}
 use Prim.Native.Nat.{ℕ, _<_, _≤_}
 use lib.ListN.{length}
-use Rattle.chip.specs.Geometry.{Geometry, pageSize}
+use Rattle.chip.specs.Geometry.{geometryOf, pageSize}
 use Rattle.promise.specs.Plain.{Answer, refuses, accepted}
 use Rattle.promise.specs.Calls.{Store, Forecast, Commit}
 use Rattle.promise.specs.Steps.{Act, read, update, forecast, format, commit, mount, boots, Step, Allowed, Runs}
@@ -21,9 +21,9 @@ abbrev pub isRead : Act → Bool
 isRead (read r) = true
 isRead (update u) = false
 isRead forecast = true
-isRead (format n torn) = false
-isRead (commit n torn) = false
-isRead (mount n torn) = false
+isRead (format n a torn) = false
+isRead (commit a torn) = false
+isRead (mount n a torn) = false
 
 module _ (S : Store) where
   -- a step, no mount or format, that gave back the state and left the image that it got
@@ -36,27 +36,26 @@ module _ (S : Store) where
   AllStill [] = Unit {0}
   AllStill (x ∷ xs) = Still x × AllStill xs
 
-module _ (g : Geometry) (S : Store) where
   -- on any state and any image, whoever gave them
   abbrev pub ForecastNow : Type 0
-  ForecastNow = (s : S .State) (i : S .Image) (f : Answer) (foretold : ℕ) (t : S .State) (j : S .Image) → Forecast g S s i f foretold t j
-      → (n : ℕ) (torn : List ℕ) → length torn ≡ pageSize g → (a : Answer) (ops : ℕ) (s' : S .State) (i' : S .Image) → Commit g S n torn s i a ops s' i'
+  ForecastNow = (s : S .State) (i : S .Image) (f : Answer) (foretold : ℕ) (t : S .State) (j : S .Image) → Forecast S s i f foretold t j
+      → (n : ℕ) (torn : List ℕ) → length torn ≡ pageSize (geometryOf (S .nand s)) → (a : Answer) (ops : ℕ) (s' : S .State) (i' : S .Image) → Commit S n torn s i a ops s' i'
       → Foresees f foretold n a ops
 
   -- in a list: a forecast y, calls zs that change nothing, a commit x, where neither y nor x is refused with 1: so each is lent the one image, or the store is off
   abbrev pub ForecastHolds : Type 1
-  ForecastHolds = (H : S .State → Type 0) (i : S .Image) (xs zs ys : List (Step S)) (y x : Step S) → Runs g S H i (xs ++ (y ∷ (zs ++ (x ∷ ys))))
-      → y .act ≡ forecast → AllStill S zs → (n : ℕ) (torn : List ℕ) → x .act ≡ commit n torn → length torn ≡ pageSize g
+  ForecastHolds = (H : S .State → Type 0) (i : S .Image) (xs zs ys : List (Step S)) (y x : Step S) → Runs S H i (xs ++ (y ∷ (zs ++ (x ∷ ys))))
+      → y .act ≡ forecast → AllStill zs → (n : ℕ) (torn : List ℕ) → x .act ≡ commit n torn → length torn ≡ pageSize (geometryOf (S .nand (x .given)))
       → (y .answer ≡ refuses 1 → ⊥) → (x .answer ≡ refuses 1 → ⊥) → Foresees (y .answer) (y .ops) n (x .answer) (x .ops)
 
   -- a read or a forecast changes nothing; nor does an update or a commit that is refused, but not cut
   abbrev pub ReadStill : Type 0
-  ReadStill = (x : Step S) → Allowed g S (x .act) (x .given) (x .lent) (x .answer) (x .ops) (x .state) (x .left) → isRead (x .act) ≡ true → Still S x
+  ReadStill = (x : Step S) → Allowed S (x .act) (x .given) (x .lent) (x .answer) (x .ops) (x .state) (x .left) → isRead (x .act) ≡ true → Still x
 
   abbrev pub RefusedStill : Type 0
-  RefusedStill = (x : Step S) (k : ℕ) → Allowed g S (x .act) (x .given) (x .lent) (x .answer) (x .ops) (x .state) (x .left) → boots (x .act) ≡ false
-      → x .answer ≡ refuses k → (k ≡ 10 → ⊥) → Still S x
+  RefusedStill = (x : Step S) (k : ℕ) → Allowed S (x .act) (x .given) (x .lent) (x .answer) (x .ops) (x .state) (x .left) → boots (x .act) ≡ false
+      → x .answer ≡ refuses k → (k ≡ 10 → ⊥) → Still x
 
   -- such a call may stand anywhere: taken out of a list it leaves a list of all the others
   abbrev pub StillOut : Type 1
-  StillOut = (H : S .State → Type 0) (i : S .Image) (xs ys : List (Step S)) (x : Step S) → Runs g S H i (xs ++ (x ∷ ys)) → Still S x → Runs g S H i (xs ++ ys)
+  StillOut = (H : S .State → Type 0) (i : S .Image) (xs ys : List (Step S)) (x : Step S) → Runs S H i (xs ++ (x ∷ ys)) → Still x → Runs S H i (xs ++ ys)

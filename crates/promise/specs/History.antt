@@ -4,7 +4,7 @@ use mathlib.Core.Bool.{Bool, cond}
 use mathlib.Core.List.{List, [], _∷_, _++_}
 use Prim.Native.Nat.{ℕ, _*_, _<_, _≤_}
 use lib.ListN.{length}
-use Rattle.chip.specs.Geometry.{Geometry, blocksOf}
+use Rattle.chip.specs.Geometry.{geometryOf, blocksOf}
 use Rattle.tree.specs.Tree.{Table, Found, absent, found, find, rootLevel}
 use Rattle.tree.specs.Tree as T
 use Rattle.tree.specs.Step6.{top, Tree}
@@ -34,9 +34,9 @@ abbrev pub LawfulAct : Act → Type 0
 LawfulAct (read r) = Unit {0}
 LawfulAct (update u) = Lawful u
 LawfulAct forecast = Unit {0}
-LawfulAct (format n torn) = Unit {0}
-LawfulAct (commit n torn) = Unit {0}
-LawfulAct (mount n torn) = Unit {0}
+LawfulAct (format n a torn) = Unit {0}
+LawfulAct (commit a torn) = Unit {0}
+LawfulAct (mount n a torn) = Unit {0}
 
 -- the value of a key after the updates: what the newest that speaks of it says, or what was there before
 abbrev pub valueOf : ℕ → Table → List UpdateCall → Found
@@ -64,29 +64,29 @@ abbrev pub dropped : History → History
 dropped l = record { base = l .base; kept = l .kept; pending = [] }
 
 -- the history after a call: a commit keeps what was pending, where it is finished or takes effect; a mount and a cut drop it; a format starts anew
-abbrev pub historyAfter : Geometry → Verdict → Bool → Call → History → History
-historyAfter g (denied n) w c l = l
-historyAfter g passed w (reads r image) l = l
-historyAfter g passed w (updates u image) l = record { base = l .base; kept = l .kept; pending = u ∷ l .pending }
-historyAfter g passed w (forecasts image) l = l
-historyAfter g passed w (formats a image torn) l = begun (leaf (blocksOf g image))
-historyAfter g passed w (commits a image torn) l = flushed l
-historyAfter g passed w (mounts a image torn) l = dropped l
-historyAfter g cut w (reads r image) l = l
-historyAfter g cut w (updates u image) l = l
-historyAfter g cut w (forecasts image) l = l
-historyAfter g cut w (formats a image torn) l = dropped l
-historyAfter g cut w (commits a image torn) l = cond w (flushed l) (dropped l)
-historyAfter g cut w (mounts a image torn) l = dropped l
+abbrev pub historyAfter : Verdict → Bool → Call → History → History
+historyAfter (denied n) w c l = l
+historyAfter passed w (reads r image) l = l
+historyAfter passed w (updates u image) l = record { base = l .base; kept = l .kept; pending = u ∷ l .pending }
+historyAfter passed w (forecasts image) l = l
+historyAfter passed w (formats n a image torn) l = begun (leaf (blocksOf (geometryOf n) image))
+historyAfter passed w (commits a image torn) l = flushed l
+historyAfter passed w (mounts n a image torn) l = dropped l
+historyAfter cut w (reads r image) l = l
+historyAfter cut w (updates u image) l = l
+historyAfter cut w (forecasts image) l = l
+historyAfter cut w (formats n a image torn) l = dropped l
+historyAfter cut w (commits a image torn) l = cond w (flushed l) (dropped l)
+historyAfter cut w (mounts n a image torn) l = dropped l
 
-module _ (g : Geometry) (S : Store) where
+module _ (S : Store) where
   abbrev pub nextHistory : Plain → S .Image → Step S → History → History
-  nextHistory p i x l = historyAfter g (verdict g p (fed (x .act) (S .size (x .lent))) (isTen (x .answer))) (counts S i (x .image)) (fed (x .act) (S .size (x .lent))) l
+  nextHistory p i x l = historyAfter (verdict p (fed (x .act) (S .size (x .lent))) (isTen (x .answer))) (counts S i x) (fed (x .act) (S .size (x .lent))) l
 
   -- the history after a list
   abbrev pub lastHistory : Plain → S .Image → List (Step S) → History → History
   lastHistory p i [] l = l
-  lastHistory p i (x ∷ xs) l = lastHistory (next g S p i x) (x .image) xs (nextHistory p i x l)
+  lastHistory p i (x ∷ xs) l = lastHistory (next S p i x) (x .image) xs (nextHistory p i x l)
 
   -- the updates of a list that are kept or pending at its end, where nothing is pending before it
   abbrev pub since : Plain → S .Image → List (Step S) → History

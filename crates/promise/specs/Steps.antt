@@ -1,12 +1,13 @@
 -- A list of calls as it happened, each step allowed by its call's contract; and what of it is compared with the plain store.
 use mathlib.Core.Path.{_≡_}
 use mathlib.Core.Logic.{_⊎_}
-use mathlib.Core.Bool.{Bool, true, false, cond, not}
+use mathlib.Core.Bool.{Bool, true, false, cond, not, _&&_}
 use mathlib.Core.List.{List, [], _∷_, map}
 use Prim.Native.Nat.{ℕ}
 use lib.Dec.{eqb}
 use lib.ListN.{length}
-use Rattle.chip.specs.Geometry.{Geometry, blocksOf}
+use Rattle.chip.specs.Geometry.{Nand, geometryOf, blocksOf}
+use Rattle.chip.specs.declared.geometry.Nand.the-variants.{Small, Large}
 use Rattle.tree.specs.Tree.{Table}
 use Rattle.promise.specs.Plain.{Answer, refuses, accepted, tells, Plain, ReadCall, UpdateCall, Call, reads, updates, forecasts, formats, commits, mounts, lookingUp, insertion, deletion, lastNumber, resting, fresh, answer, after, Fed, Compared, isCut}
 use Rattle.promise.specs.Calls.{Meaning, means, numberIn, Store, stateOf, Reads, Updates, Forecast, Format, Commit, Mount}
@@ -16,9 +17,9 @@ pub data Act : Type 0 where
   read : ReadCall → Act
   update : UpdateCall → Act
   forecast : Act
-  format : (allowance : ℕ) (torn : List ℕ) → Act
+  format : (nand : Nand) (allowance : ℕ) (torn : List ℕ) → Act
   commit : (allowance : ℕ) (torn : List ℕ) → Act
-  mount : (allowance : ℕ) (torn : List ℕ) → Act
+  mount : (nand : Nand) (allowance : ℕ) (torn : List ℕ) → Act
 
 abbrev pub insert : (key value : ℕ) → Act
 insert k v = update (insertion k v)
@@ -34,9 +35,14 @@ abbrev pub fed : Act → ℕ → Call
 fed (read r) image = reads r image
 fed (update u) image = updates u image
 fed forecast image = forecasts image
-fed (format a torn) image = formats a image (length torn)
+fed (format n a torn) image = formats n a image (length torn)
 fed (commit a torn) image = commits a image (length torn)
-fed (mount a torn) image = mounts a image (length torn)
+fed (mount n a torn) image = mounts n a image (length torn)
+
+abbrev pub isOne : Answer → Bool
+isOne (refuses n) = eqb n 1
+isOne accepted = false
+isOne (tells vs) = false
 
 abbrev pub isTen : Answer → Bool
 isTen (refuses n) = eqb n 10
@@ -52,18 +58,43 @@ abbrev pub isFormat : Act → Bool
 isFormat (read r) = false
 isFormat (update u) = false
 isFormat forecast = false
-isFormat (format a torn) = true
+isFormat (format n a torn) = true
 isFormat (commit a torn) = false
-isFormat (mount a torn) = false
+isFormat (mount n a torn) = false
+
+-- the part of a format, n of any other call
+abbrev pub formattedAs : Nand → Act → Nand
+formattedAs n (read r) = n
+formattedAs n (update u) = n
+formattedAs n forecast = n
+formattedAs n (format m a torn) = m
+formattedAs n (commit a torn) = n
+formattedAs n (mount m a torn) = n
+
+-- are the parts the same?
+abbrev pub isNand : Nand → Nand → Bool
+isNand Small Small = true
+isNand Small Large = false
+isNand Large Small = false
+isNand Large Large = true
+
+-- a mount that names a part other than n
+abbrev pub namesOther : Nand → Act → Bool
+namesOther n (read r) = false
+namesOther n (update u) = false
+namesOther n forecast = false
+namesOther n (format m a torn) = false
+namesOther n (commit a torn) = false
+namesOther n (mount m a torn) = not (isNand m n)
 
 -- a mount or a format: it reads nothing of the state that it is given
 abbrev pub boots : Act → Bool
 boots (read r) = false
 boots (update u) = false
 boots forecast = false
-boots (format a torn) = true
+boots (format n a torn) = true
 boots (commit a torn) = false
-boots (mount a torn) = true
+boots (mount n a torn) = true
 
 module _ (S : Store) where
   -- one call: the state given and the image lent to it, what it left of that, the answer, the operations told (by a forecast: foretold), the state returned;
@@ -101,9 +132,9 @@ module _ (S : Store) where
   lastImage i [] = i
   lastImage i (x ∷ xs) = lastImage (x .image) xs
 
-  -- the choice of a cut commit, read off the one image just before and just after it: is the number another one?
-  abbrev pub counts : S .Image → S .Image → Bool
-  counts i i' = not (eqb (numberIn (S .meaning i')) (numberIn (S .meaning i)))
+  -- the choice of a cut commit, read off the one image just before and just after it, as the part of the state given: is the number another one?
+  abbrev pub counts : S .Image → Step → Bool
+  counts i x = not (eqb (numberIn (S .meaning (S .nand (x .given)) (x .image))) (numberIn (S .meaning (S .nand (x .given)) i)))
 
   -- ---- what the plain store is fed of a list
   abbrev pub feed : Step → Fed
@@ -115,20 +146,34 @@ module _ (S : Store) where
   -- the choices of a list's cut commits, in order: each is read off the one image before and after that commit
   abbrev pub choices : S .Image → List Step → List Bool
   choices i [] = []
-  choices i (x ∷ xs) = cond (isCut (feed x)) (counts i (x .image) ∷ choices (x .image) xs) (choices (x .image) xs)
+  choices i (x ∷ xs) = cond (isCut (feed x)) (counts i x ∷ choices (x .image) xs) (choices (x .image) xs)
 
-  -- what a place of the list shows: the answer, and what the one image means after the call
-  abbrev pub seen : Step → Answer × Meaning
-  seen x = (x .answer, S .meaning (x .image))
+  -- the part of the last finished format, n before the step
+  abbrev pub nandAfter : Nand → Step → Nand
+  nandAfter n x = cond (isAccepted (x .answer)) (formattedAs n (x .act)) n
+
+  -- a mount that is not refused with 1 and names a part other than n
+  abbrev pub strays : Nand → Step → Bool
+  strays n x = namesOther n (x .act) && not (isOne (x .answer))
+
+  -- each mount that is not refused with 1 names the part of the last finished format before it, n at the start
+  abbrev pub Named : Nand → List Step → Type 0
+  Named n [] = Unit {0}
+  Named n (x ∷ xs) = (strays n x ≡ false) × Named (nandAfter n x) xs
+
+  -- what the places of a list show: the answer, and what the one image means after the call, read as that part
+  abbrev pub seen : Nand → List Step → List (Answer × Meaning)
+  seen n [] = []
+  seen n (x ∷ xs) = (x .answer, S .meaning (nandAfter n x) (x .image)) ∷ seen (nandAfter n x) xs
 
   -- ---- no commit or forecast of the list is stuck: where it answers 6 the number is the last
   abbrev pub SixIsLast : Act → S .State → Answer → Type 0
   SixIsLast (read r) s a = Unit {0}
   SixIsLast (update u) s a = Unit {0}
   SixIsLast forecast s a = a ≡ refuses 6 → S .number s ≡ lastNumber
-  SixIsLast (format n torn) s a = Unit {0}
+  SixIsLast (format m n torn) s a = Unit {0}
   SixIsLast (commit n torn) s a = a ≡ refuses 6 → S .number s ≡ lastNumber
-  SixIsLast (mount n torn) s a = Unit {0}
+  SixIsLast (mount m n torn) s a = Unit {0}
 
   abbrev pub Unstuck : List Step → Type 0
   Unstuck [] = Unit {0}
@@ -150,23 +195,32 @@ module _ (S : Store) where
   NoFormat [] = Unit {0}
   NoFormat (x ∷ xs) = (isFinishedFormat x ≡ false) × NoFormat xs
 
--- a plain store that a list is held to, or none since a format was cut
+-- a plain store that a list is held to; none since a format was cut, or since a mount named the other part
 pub data Mode : Type 0 where
   promised : Plain → Mode
   unpromised : Mode
 
+-- an accepted format begins one, on an image of this length
+abbrev pub begunBy : Act → ℕ → Mode
+begunBy (read r) image = unpromised
+begunBy (update u) image = unpromised
+begunBy forecast image = unpromised
+begunBy (format n a torn) image = promised (fresh n (blocksOf (geometryOf n) image))
+begunBy (commit a torn) image = unpromised
+begunBy (mount n a torn) image = unpromised
+
 abbrev pub expected : Compared → Answer × Meaning
 expected r = (r .answer, means (r .kept) (r .number))
 
-module _ (g : Geometry) (S : Store) where
+module _ (S : Store) where
   -- the call's contract allows what happened, from the state s
   abbrev pub Allowed : Act → S .State → S .Image → Answer → ℕ → S .State → S .Image → Type 0
-  Allowed (read r) s i a ops s' i' = Reads g S r s i a s' i'
-  Allowed (update u) s i a ops s' i' = Updates g S u s i a s' i'
-  Allowed forecast s i a ops s' i' = Forecast g S s i a ops s' i'
-  Allowed (format allowance torn) s i a ops s' i' = Format g S allowance torn s i a ops s' i'
-  Allowed (commit allowance torn) s i a ops s' i' = Commit g S allowance torn s i a ops s' i'
-  Allowed (mount allowance torn) s i a ops s' i' = Mount g S allowance torn s i a ops s' i'
+  Allowed (read r) s i a ops s' i' = Reads S r s i a s' i'
+  Allowed (update u) s i a ops s' i' = Updates S u s i a s' i'
+  Allowed forecast s i a ops s' i' = Forecast S s i a ops s' i'
+  Allowed (format n allowance torn) s i a ops s' i' = Format S n allowance torn s i a ops s' i'
+  Allowed (commit allowance torn) s i a ops s' i' = Commit S allowance torn s i a ops s' i'
+  Allowed (mount n allowance torn) s i a ops s' i' = Mount S n allowance torn s i a ops s' i'
 
   -- a step from the one image i, where H are the states at hand
   pub record Takes (H : S .State → Type 0) (i : S .Image) (x : Step S) : Type 0 where
@@ -179,32 +233,32 @@ module _ (g : Geometry) (S : Store) where
   Runs H i [] = Unit {0}
   Runs H i (x ∷ xs) = Takes H i x × Runs (Hands S H x) (x .image) xs
 
-  -- ---- on with nothing pending, where the image means (K, G): so a finished mount leaves any image with a meaning
-  pub record Mounted (K : Table) (G : ℕ) (s : S .State) (i : S .Image) : Type 0 where
-    pub is : stateOf S s i ≡ resting K G (blocksOf g (S .size i))
-    pub image : S .meaning i ≡ means K G
+  -- ---- on with nothing pending, where the image, read as part n, means (K, G): so a finished mount leaves any image with a meaning
+  pub record Mounted (n : Nand) (K : Table) (G : ℕ) (s : S .State) (i : S .Image) : Type 0 where
+    pub is : stateOf S s i ≡ resting n K G (blocksOf (geometryOf n) (S .size i))
+    pub image : S .meaning n i ≡ means K G
     pub good : S .Good s i
 
   -- a list starts there, with room
-  pub record Started (K : Table) (G : ℕ) (s : S .State) (i : S .Image) : Type 0 where
-    pub mounted : Mounted K G s i
-    pub room : S .Room i
+  pub record Started (n : Nand) (K : Table) (G : ℕ) (s : S .State) (i : S .Image) : Type 0 where
+    pub mounted : Mounted n K G s i
+    pub room : S .Room n i
 
-  abbrev pub starts : Table → ℕ → S .Image → Plain
-  starts K G i = resting K G (blocksOf g (S .size i))
+  abbrev pub starts : Nand → Table → ℕ → S .Image → Plain
+  starts n K G i = resting n K G (blocksOf (geometryOf n) (S .size i))
 
   -- so after a finished format
-  pub record Formatted (s : S .State) (i : S .Image) : Type 0 where
+  pub record Formatted (n : Nand) (s : S .State) (i : S .Image) : Type 0 where
     pub allowance : ℕ
     pub torn : List ℕ
     pub before : S .State
     pub was : S .Image
     pub ops : ℕ
-    pub says : Format g S allowance torn before was accepted ops s i
+    pub says : Format S n allowance torn before was accepted ops s i
 
   -- the plain store after a step from the one image i, and after a list
   abbrev pub next : Plain → S .Image → Step S → Plain
-  next p i x = after g (counts S i (x .image)) p (fed (x .act) (S .size (x .lent))) (isTen (x .answer))
+  next p i x = after (counts S i x) p (fed (x .act) (S .size (x .lent))) (isTen (x .answer))
 
   abbrev pub lastPlain : Plain → S .Image → List (Step S) → Plain
   lastPlain p i [] = p
@@ -212,26 +266,31 @@ module _ (g : Geometry) (S : Store) where
 
   -- the answer that the plain store gives to this step
   abbrev pub answerTo : Plain → Step S → Answer
-  answerTo p x = answer g p (fed (x .act) (S .size (x .lent))) (isTen (x .answer))
+  answerTo p x = answer p (fed (x .act) (S .size (x .lent))) (isTen (x .answer))
 
   -- compared at each place: the answer; and, after the call, K and G with what the image means
   abbrev pub Agrees : Plain → S .Image → List (Step S) → Type 0
   Agrees p i [] = Unit {0}
-  Agrees p i (x ∷ xs) = (x .answer ≡ answerTo p x) × (S .meaning (x .image) ≡ means (next p i x .kept) (next p i x .number)) × Agrees (next p i x) (x .image) xs
+  Agrees p i (x ∷ xs) = (x .answer ≡ answerTo p x) × (S .meaning (next p i x .nand) (x .image) ≡ means (next p i x .kept) (next p i x .number)) × Agrees (next p i x) (x .image) xs
 
-  -- ---- formats may be cut: nothing is promised from a cut format until a finished one
+  -- ---- formats may be cut, and mounts may name the other part: nothing is promised from there until a finished format
+  abbrev pub modeFor : Mode → Step S → Mode
+  modeFor (promised p) x = cond (strays S (p .nand) x) unpromised (promised p)
+  modeFor unpromised x = unpromised
+
   abbrev pub nextMode : Mode → S .Image → Step S → Mode
   nextMode (promised p) i x = cond (isCutFormat S x) unpromised (promised (next p i x))
-  nextMode unpromised i x = cond (isFinishedFormat S x) (promised (fresh (blocksOf g (S .size (x .image))))) unpromised
+  nextMode unpromised i x = cond (isAccepted (x .answer)) (begunBy (x .act) (S .size (x .image))) unpromised
 
   abbrev pub AnswerIs : Mode → Step S → Type 0
   AnswerIs (promised p) x = x .answer ≡ answerTo p x
   AnswerIs unpromised x = Unit {0}
 
   abbrev pub MeaningIs : Mode → S .Image → Type 0
-  MeaningIs (promised p) i = S .meaning i ≡ means (p .kept) (p .number)
+  MeaningIs (promised p) i = S .meaning (p .nand) i ≡ means (p .kept) (p .number)
   MeaningIs unpromised i = Unit {0}
 
   abbrev pub AgreesAny : Mode → S .Image → List (Step S) → Type 0
   AgreesAny m i [] = Unit {0}
-  AgreesAny m i (x ∷ xs) = AnswerIs m x × MeaningIs (nextMode m i x) (x .image) × AgreesAny (nextMode m i x) (x .image) xs
+  AgreesAny m i (x ∷ xs) =
+      AnswerIs (modeFor m x) x × MeaningIs (nextMode (modeFor m x) i x) (x .image) × AgreesAny (nextMode (modeFor m x) i x) (x .image) xs

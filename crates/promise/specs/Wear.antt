@@ -6,11 +6,10 @@ use mathlib.Core.List.{List, [], _∷_, _++_}
 use Prim.Native.Nat.{ℕ, suc, _+_, _*_, _<_, _≤_}
 use lib.Dec.{ltb}
 use Rattle.lists.specs.Lists.{count}
-use Rattle.chip.specs.Geometry.{Geometry}
 use Rattle.chip.specs.Erases.{erasesIn}
 use Rattle.promise.specs.Plain.{isCommit, cuts}
 use Rattle.promise.specs.Calls.{Store}
-use Rattle.promise.specs.Steps.{fed, isTen, isAccepted, Step, Only, feeds, Uncut, NoFormat, Runs}
+use Rattle.promise.specs.Steps.{fed, isTen, isAccepted, Step, Only, Named, feeds, Uncut, NoFormat, Runs}
 use Rattle.promise.specs.Erases.{doneBy, wholeErases}
 
 module _ (S : Store) where
@@ -27,33 +26,33 @@ module _ (S : Store) where
   NoneCut [] = Unit {0}
   NoneCut (x ∷ xs) = (isTen (x .answer) ≡ false) × NoneCut xs
 
-module _ (g : Geometry) (S : Store) where
-  -- a list of note 8: from a state that calls gave for the image, as a finished format gives one; no call is cut, and no format finishes
+  -- a list of note 8: from a state that calls gave for the image, as a finished format gives one; mounts name its part, no call is cut, and no format finishes
   pub record Unbroken (s : S .State) (i : S .Image) (xs : List (Step S)) : Type 0 where
     pub good : S .Good s i
-    pub runs : Runs g S (Only S s) i xs
-    pub uncut : NoneCut S xs
+    pub runs : Runs S (Only S s) i xs
+    pub named : Named S (S .nand s) xs
+    pub uncut : NoneCut xs
     pub unformatted : NoFormat S xs
 
   -- the step x erased block b whole
   abbrev pub Erased : ℕ → Step S → Type 0
-  Erased b x = 0 < erasesIn b (doneBy g S x)
+  Erased b x = 0 < erasesIn b (doneBy S x)
 
   -- no step erases a block twice
   abbrev pub OnceEach : Type 0
-  OnceEach = (s : S .State) (i : S .Image) (xs ys : List (Step S)) (x : Step S) → Unbroken s i (xs ++ (x ∷ ys)) → (b : ℕ) → erasesIn b (doneBy g S x) ≤ 1
+  OnceEach = (s : S .State) (i : S .Image) (xs ys : List (Step S)) (x : Step S) → Unbroken s i (xs ++ (x ∷ ys)) → (b : ℕ) → erasesIn b (doneBy S x) ≤ 1
 
   -- where x erased block b and a later y does, two commits with pending updates finished between the two, x included
   abbrev pub ErasesPay : Type 0
   ErasesPay = (s : S .State) (i : S .Image) (xs ys zs : List (Step S)) (x y : Step S) → Unbroken s i (xs ++ (x ∷ (ys ++ (y ∷ zs))))
-      → (b : ℕ) → Erased b x → Erased b y → 2 ≤ finishedCommits S (x ∷ ys)
+      → (b : ℕ) → Erased b x → Erased b y → 2 ≤ finishedCommits (x ∷ ys)
 
   -- so a block has at most one erase for two of these commits, and one more; where calls are cut, but no format, one more for each cut commit
   abbrev pub ErasesFew : Type 0
-  ErasesFew = (s : S .State) (i : S .Image) (xs : List (Step S)) → S .Good s i → Runs g S (Only S s) i xs → Uncut S xs → NoFormat S xs
-      → (b : ℕ) → 2 * wholeErases g S b xs ≤ suc (finishedCommits S xs + 2 * cuts (feeds S xs))
+  ErasesFew = (s : S .State) (i : S .Image) (xs : List (Step S)) → S .Good s i → Runs S (Only S s) i xs → Named S (S .nand s) xs → Uncut S xs → NoFormat S xs
+      → (b : ℕ) → 2 * wholeErases S b xs ≤ suc (finishedCommits xs + 2 * cuts (feeds S xs))
 
   -- a step that erased a block is a commit with pending updates that finished, and it leaves a page free
   abbrev pub LeavesFree : Type 0
   LeavesFree = (s : S .State) (i : S .Image) (xs ys : List (Step S)) (x : Step S) → Unbroken s i (xs ++ (x ∷ ys)) → (b : ℕ) → Erased b x
-      → (isFinishedCommit S x ≡ true) × (0 < S .free (x .image))
+      → (isFinishedCommit x ≡ true) × (0 < S .free (S .nand s) (x .image))

@@ -63,8 +63,8 @@ admission-chip g on B len e =
 pub not-one : {A : Type 0} {m n : ℕ} → refuses m ≡ refuses n → (m ≡ n → ⊥) → A
 not-one e h = absurd (h (cc))
 
-module _ (g : Geometry) (c : Call) (s : State) (i : List ℕ) (a : Answer) where
-  pub first-refused : (n : ℕ) → suc n ≡ firstRefusal g (s .on) (s .blocks) c → a ≡ refuses (suc n) → FirstTests g (index g) c s i a s i
+module _ (c : Call) (s : State) (i : List ℕ) (a : Answer) where
+  pub first-refused : (n : ℕ) → suc n ≡ firstRefusal (s .nand) (s .on) (s .blocks) c → a ≡ refuses (suc n) → FirstTests index c s i a s i
   first-refused n e q =
       record {
         refused = λ m h. (q ∙ ap refuses (e ∙ h), record { state = refl; image = refl });
@@ -74,7 +74,7 @@ module _ (g : Geometry) (c : Call) (s : State) (i : List ℕ) (a : Answer) where
       }
 
   -- a call that is not
-  pub first-passed : (s' : State) → 0 ≡ firstRefusal g (s .on) (s .blocks) c → (a ≡ refuses 1 → ⊥) → (a ≡ refuses 2 → ⊥) → FirstTests g (index g) c s i a s' i
+  pub first-passed : (s' : State) → 0 ≡ firstRefusal (s .nand) (s .on) (s .blocks) c → (a ≡ refuses 1 → ⊥) → (a ≡ refuses 2 → ⊥) → FirstTests index c s i a s' i
   first-passed s' e n1 n2 =
       record {
         refused = λ m h. let z : 0 ≡ suc m = e ∙ h in absurd (omega arith);

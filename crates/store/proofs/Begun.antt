@@ -26,11 +26,12 @@ use Rattle.log.proofs.PlanFair.{fair-kept}
 use Rattle.log.proofs.PlanNodes.{Fair, nothing}
 use Rattle.promise.specs.Image.{viewsOf, bySix, imageMeaning}
 use Rattle.promise.proofs.Images.{image-tree}
+use Rattle.promise.specs.Plain.{Plain}
 use Rattle.promise.specs.Calls as P
 use Rattle.store.specs.declared.state.State.{State}
 use Rattle.store.specs.AdmitCode.{ChipOf}
 use Rattle.store.specs.FreshCode.{NextOf}
-use Rattle.store.specs.State.{nodeFrom, nodesOf, goods, unitsOf, presentOf, Good}
+use Rattle.store.specs.State.{nodeFrom, nodesOf, goods, unitsOf, presentOf, Good, geometryIn}
 use Rattle.store.specs.Contracts.{index}
 use Rattle.store.proofs.BegunViews.{map-tab, views-at, views-all, views-size, view-at, image-bytes, fair-entries, fair-level, some-there, none-there, next-is}
 
@@ -131,11 +132,6 @@ module _ (g : Geometry) (s : State) (i : List ℕ) (nodes : List Node) (b : Sett
   settled-meaning =
       ap (λ (B : ℕ). bySix (Views.meaning g (8 * B) (pagesOf g i))) (sym (b .chip .blocks)) ∙ ap bySix (b .means) ∙ rw (b .tree)
 
-  pub settled-state : P.stateOf (index g) s i
-      ≡ record { kept = viewsOf nodes; present = viewsOf nodes; pending = 0; number = s .commit; on = s .on; blocks = s .blocks }
-  unfolding P.stateOf
-  settled-state = rw (settled-meaning, settled-present, b .pending)
-
   -- ---- P as the views of the image's nodes
   abbrev settledNode : ℕ → Node
   settledNode n = nodeIn g (8 * s .blocks) (pagesOf g i) n
@@ -190,6 +186,14 @@ module _ (g : Geometry) (s : State) (i : List ℕ) (nodes : List Node) (b : Sett
         past = b .past;
       }
 
+-- what it means
+abbrev pub settledPlain : State → List Node → Plain
+settledPlain s nodes = record { kept = viewsOf nodes; present = viewsOf nodes; pending = 0; number = s .commit; on = s .on; nand = s .nand; blocks = s .blocks }
+
+pub settled-state : (s : State) (i : List ℕ) (nodes : List Node) → Settled (geometryIn s) s i nodes → P.stateOf index s i ≡ settledPlain s nodes
+unfolding P.stateOf
+settled-state s i nodes b = rw (settled-meaning (geometryIn s) s i nodes b, settled-present (geometryIn s) s i nodes b, b .pending)
+
 -- ---- the same with a next number counted from the lists: what a finished format and a finished mount give
 pub record Begun (g : Geometry) (s : State) (i : List ℕ) (nodes : List Node) : Type 0 where
   pub chip : ChipOf g (s .blocks) (length i)
@@ -226,9 +230,8 @@ module _ (g : Geometry) (s : State) (i : List ℕ) (nodes : List Node) (b : Begu
   pub begun-meaning : imageMeaning g i ≡ P.means (viewsOf nodes) (s .commit)
   begun-meaning = settled-meaning g s i nodes begun-settled
 
-  pub begun-state : P.stateOf (index g) s i
-      ≡ record { kept = viewsOf nodes; present = viewsOf nodes; pending = 0; number = s .commit; on = s .on; blocks = s .blocks }
-  begun-state = settled-state g s i nodes begun-settled
-
   pub begun-good : Good g s i
   begun-good = settled-good g s i nodes begun-settled
+
+pub begun-state : (s : State) (i : List ℕ) (nodes : List Node) → Begun (geometryIn s) s i nodes → P.stateOf index s i ≡ settledPlain s nodes
+begun-state s i nodes b = settled-state s i nodes (begun-settled (geometryIn s) s i nodes b)

@@ -12,7 +12,8 @@ use Rattle.lists.specs.Lists.{count}
 use Rattle.lists.proofs.Tests.{clash}
 use Rattle.chip.specs.declared.power.Power.the-variants.{Left}
 use Rattle.chip.specs.declared.progress.Progress.{Progress}
-use Rattle.chip.specs.Geometry.{Geometry, Fits, pageSize}
+use Rattle.chip.specs.Geometry.{Geometry, Nand, Fits, geometryOf, pageSize}
+use Rattle.chip.proofs.Sizes.{nand-fits}
 use Rattle.chip.specs.Power.{isGone, takesEffect}
 use Rattle.chip.specs.Counts.{countsOf, nothing, total}
 use Rattle.chip.specs.Chip.{Legal, Machine, kindOf, kindsOf, pagesOf, run}
@@ -25,7 +26,7 @@ use Rattle.views.specs.Table.{Node, events, turn}
 use Rattle.views.specs.Stored.{Stores}
 use Rattle.views.specs.Groups.{Distinct}
 use Rattle.log.specs.Commit.{groupsOf}
-use Rattle.log.specs.Plan.{Plan, newsOf, nodeAt, opsOf, stuck, isEmpty}
+use Rattle.log.specs.Plan.{Plan, mostOps, newsOf, nodeAt, opsOf, stuck, isEmpty}
 use Rattle.log.proofs.PlanKept.{few-ops}
 use Rattle.log.proofs.EraseLaws.{commit-erases, erased-most}
 use Rattle.promise.specs.Plain.{Answer, refuses, accepted, Call, commits, firstRefusal, numbersRefusal}
@@ -48,11 +49,12 @@ use Rattle.store.specs.Parts.{joined}
 use Rattle.store.specs.Answers.{answerOf}
 use Rattle.store.specs.EndingCode.{endedWith}
 use Rattle.store.specs.FreshCode.{committedState}
-use Rattle.store.specs.State.{turnedOff, limitOf, nodesOf, unitsOf, presentOf, Good, Room}
+use Rattle.store.specs.State.{turnedOff, geometryIn, limitOf, nodesOf, unitsOf, presentOf, Good, Room}
 use Rattle.store.specs.State as State
 use Rattle.store.specs.Contracts.{index, thePlan, theOps, toldOf, Commits}
 use Rattle.store.proofs.EndingLaws.{either-end}
 use Rattle.store.proofs.CommitTests.{commits-past}
+use Rattle.store.proofs.SizeLaws.{enough-most}
 use Rattle.store.proofs.EndedTests.{EndedBy, ended-idle, ended-refused, later-low, not-refused, other}
 use Rattle.store.proofs.Begun.{Settled, settled-good, settled-state}
 use Rattle.store.proofs.PlanRead.{paged-empty, paged-none, paged-some, plan-is, plan-none, read}
@@ -68,15 +70,21 @@ none-told n = ap countsOf (sym (wholes-none (Left n)))
 all-done : (t n m : ℕ) → m ≤ n → takesEffect t n m ≡ true
 all-done t n m h = rw (le-leb m n h)
 
-module _ (g : Geometry) (n : ℕ) (torn : List ℕ) (s : State) (i : List ℕ) where
+module _ (n : ℕ) (torn : List ℕ) (s : State) (i : List ℕ) where
+  abbrev g : Geometry
+  g = geometryIn s
+
+  fit : Fits g
+  fit = nand-fits (s .nand)
+
   abbrev call : Call
   call = commits n (length i) (length torn)
 
-  still : P.Same (index g) s i s i
+  still : P.Same index s i s i
   still = record { state = refl; image = refl }
 
   -- ---- nothing is begun: what a commit says that its tests end
-  not-begun : (a : A.Answer) → EndedBy g call s i a → (answerOf a ≡ refuses 10 → ⊥) → Commits g n torn s i (record { answer = a; ops = nothing; state = s }) i
+  not-begun : (a : A.Answer) → EndedBy call s i a → (answerOf a ≡ refuses 10 → ⊥) → Commits n torn s i (record { answer = a; ops = nothing; state = s }) i
   not-begun a d t =
       record {
         says = record {
@@ -86,7 +94,7 @@ module _ (g : Geometry) (n : ℕ) (torn : List ℕ) (s : State) (i : List ℕ) w
           last = d .last;
           idle = λ p q. (d .idle p q, refl, still);
           none = λ h. ap length (ops-none g s i h);
-          bound = omega arith;
+          bound = enough-most (s .nand);
           stuck = λ c. absurd (d .never c);
           able = λ c. absurd (d .never (c .proceeds));
           few = λ c. absurd (d .never (c .proceeds));
@@ -106,25 +114,25 @@ module _ (g : Geometry) (n : ℕ) (torn : List ℕ) (s : State) (i : List ℕ) w
         legal = λ c. absurd (d .never (c .proceeds));
         once = λ c. absurd (d .never (c .proceeds));
         off = λ e. absurd (t e);
-        bounds = record { blocks = refl; units = omega arith };
+        bounds = record { nand = refl; blocks = refl; units = omega arith };
       }
 
   -- refused by 2, 1 or 6
   commit-refused : (a : A.Answer) → answerOf a ≡ answerFor (commitTests g (s .on) (s .blocks) (s .pending) (s .commit) (length i) (length torn))
-      → 0 < commitTests g (s .on) (s .blocks) (s .pending) (s .commit) (length i) (length torn) → Commits g n torn s i (record { answer = a; ops = nothing; state = s }) i
+      → 0 < commitTests g (s .on) (s .blocks) (s .pending) (s .commit) (length i) (length torn) → Commits n torn s i (record { answer = a; ops = nothing; state = s }) i
   commit-refused a e h =
-      let d = ended-refused g call s i (first-most g (commit n torn) (length i) (s .on) (s .blocks)) refl a e h in
+      let d = ended-refused call s i (first-most (s .nand) (commit n torn) (length i) (s .on) (s .blocks)) refl a e h in
       not-begun a (d .0) (d .1)
 
   -- ---- they pass
-  module _ (passes : firstRefusal g (s .on) (s .blocks) call ≡ 0) where
+  module _ (passes : firstRefusal (s .nand) (s .on) (s .blocks) call ≡ 0) where
     tests : (a : Answer) (s' : State) (i' : List ℕ) → (a ≡ refuses 1 → ⊥) → (a ≡ refuses 2 → ⊥) → length i' ≡ length i
-        → FirstTests g (index g) call s i a s' i'
+        → FirstTests index call s i a s' i'
     tests a s' i' h k z = record { refused = λ m e. absurd (omega arith); not1 = λ p. h; not2 = λ p. k; sameSize = z }
 
     -- nothing is pending
-    commit-idle : s .pending ≡ 0 → Commits g n torn s i (record { answer = Accepted; ops = nothing; state = s }) i
-    commit-idle h = not-begun Accepted (ended-idle g call s i refl passes h) (λ e. not-refused 10 e)
+    commit-idle : s .pending ≡ 0 → Commits n torn s i (record { answer = Accepted; ops = nothing; state = s }) i
+    commit-idle h = not-begun Accepted (ended-idle call s i refl passes h) (λ e. not-refused 10 e)
 
     -- ---- with updates pending and a number left, the plan is to do nothing: refused with 6
     module _ (pending : 0 < s .pending) (number : s .commit < 4294967295) (is-stuck : thePlan g s i ≡ stuck) (no-room : Good g s i → Room g i → ⊥) where
@@ -134,7 +142,7 @@ module _ (g : Geometry) (n : ℕ) (torn : List ℕ) (s : State) (i : List ℕ) w
       no-ops : theOps g s i ≡ []
       no-ops = ap (opsOf g (s .commit)) is-stuck
 
-      nothing-done : Commits g n torn s i (record { answer = Last; ops = nothing; state = s }) i
+      nothing-done : Commits n torn s i (record { answer = Last; ops = nothing; state = s }) i
       nothing-done =
           record {
             says = record {
@@ -144,7 +152,7 @@ module _ (g : Geometry) (n : ℕ) (torn : List ℕ) (s : State) (i : List ℕ) w
               last = λ p m e. absurd (omega (arith, later-low (s .pending) (s .commit) pending number));
               idle = λ p q. absurd (omega arith);
               none = λ q. ap length (ops-none g s i q);
-              bound = omega arith;
+              bound = enough-most (s .nand);
               stuck = λ c b. refl;
               able = λ c r. absurd (no-room (c .good) r);
               few = λ c b. no-plan b;
@@ -166,15 +174,15 @@ module _ (g : Geometry) (n : ℕ) (torn : List ℕ) (s : State) (i : List ℕ) w
             legal = λ c. subst (λ (q : Plan). Legal g (pagesOf g i) (opsOf g (s .commit) q)) (sym is-stuck) tt;
             once = λ c. subst (λ (q : Plan). Distinct (groupsOf (q .written))) (sym is-stuck) tt;
             off = λ e. other 6 10 (λ u. omega arith) e;
-            bounds = record { blocks = refl; units = omega arith };
+            bounds = record { nand = refl; blocks = refl; units = omega arith };
           }
 
     -- more units than the buffer holds
-    commit-full : 0 < s .pending → s .commit < 4294967295 → 960 < s .count → Commits g n torn s i (record { answer = Last; ops = nothing; state = s }) i
+    commit-full : 0 < s .pending → s .commit < 4294967295 → 960 < s .count → Commits n torn s i (record { answer = Last; ops = nothing; state = s }) i
     commit-full h low many = nothing-done h low (plan-none g s i many) (λ ok r. omega (arith, good-few g s i ok))
 
     -- ---- the plan is executed
-    module _ (fit : Fits g) (pending : 0 < s .pending) (number : s .commit < 4294967295) (size : length torn ≡ pageSize g) (fits : s .count ≤ 960) (slots : length (s .slots) ≡ 1024)
+    module _ (pending : 0 < s .pending) (number : s .commit < 4294967295) (size : length torn ≡ pageSize g) (fits : s .count ≤ 960) (slots : length (s .slots) ≡ 1024)
         (figured : length (s .erases) ≡ 32) (bytes : (j : ℕ) → getD i j 0 < 256) (i' lens' slots' erases' : List ℕ) (e : Ended)
         (low : n < 2 ^ 32) (p : Progress) (from : p ≡ atStart n)
         (begins : Executes g (8 * s .blocks) (s .blocks) (s .lens) (s .slots) (s .count) (s .buffer) (s .commit) torn p i i' (s .lens) (s .slots) lens' slots' (s .erases) erases' e) where
@@ -190,9 +198,9 @@ module _ (g : Geometry) (n : ℕ) (torn : List ℕ) (s : State) (i : List ℕ) w
       by-pages = x .stuck ∙ sym (ap (λ (q : Plan). isEmpty (q .written)) (plan-is g s i fits) ∙ paged-empty (read g s i))
 
       -- ---- no room: nothing was done
-      pub commit-stuck : e .stuck ≡ true → Commits g n torn s i (record { answer = Last; ops = nothing; state = s }) i'
+      pub commit-stuck : e .stuck ≡ true → Commits n torn s i (record { answer = Last; ops = nothing; state = s }) i'
       commit-stuck st =
-          subst (λ (j : List ℕ). Commits g n torn s i (record { answer = Last; ops = nothing; state = s }) j) (sym (x .still st))
+          subst (λ (j : List ℕ). Commits n torn s i (record { answer = Last; ops = nothing; state = s }) j) (sym (x .still st))
           (nothing-done pending number (plan-is g s i fits ∙ paged-none (read g s i) (sym (x .stuck) ∙ st))
           (λ ok r. clash (sym by-pages ∙ st) (roomy-page g fit torn size s i ok bytes pending number r)))
 
@@ -233,7 +241,7 @@ module _ (g : Geometry) (n : ℕ) (torn : List ℕ) (s : State) (i : List ℕ) w
         need : length (State.commitOps g s i) ≡ length (theOps g s i)
         need = ap length (ops-some g s i pending)
 
-        most : Good g s i → length (State.commitOps g s i) ≤ 389
+        most : Good g s i → length (State.commitOps g s i) ≤ mostOps g
         most ok = rw need (few-ops g fit (s .blocks) (length (theOps g s i)) (good-chip g s i ok .most) (secure ok .few))
 
         gone : isGone (e .reached .left) ≡ ltb n (length (theOps g s i))
@@ -276,9 +284,9 @@ module _ (g : Geometry) (n : ℕ) (torn : List ℕ) (s : State) (i : List ℕ) w
 
         -- cut
         commit-cut : isGone (e .reached .left) ≡ true → (off : State) → off ≡ turnedOff s
-            → Commits g n torn s i (record { answer = Cut; ops = e .reached .done; state = off }) i'
+            → Commits n torn s i (record { answer = Cut; ops = e .reached .done; state = off }) i'
         commit-cut out off f =
-            subst (λ (y : State). Commits g n torn s i (record { answer = Cut; ops = e .reached .done; state = y }) i') (sym f)
+            subst (λ (y : State). Commits n torn s i (record { answer = Cut; ops = e .reached .done; state = y }) i') (sym f)
             (record {
               says = record {
                 first = tests (refuses 10) (turnedOff s) i' (λ e. other 10 1 (λ u. omega arith) e) (λ e. other 10 2 (λ u. omega arith) e) (x .size);
@@ -287,7 +295,7 @@ module _ (g : Geometry) (n : ℕ) (torn : List ℕ) (s : State) (i : List ℕ) w
                 last = λ p m q. absurd (omega (arith, later-none));
                 idle = λ p q. absurd (omega arith);
                 none = λ q. ap length (ops-none g s i q);
-                bound = omega arith;
+                bound = enough-most (s .nand);
                 stuck = λ c b. clash has-plan b;
                 able = λ c r. has-plan;
                 few = λ c b. most (c .good);
@@ -308,7 +316,7 @@ module _ (g : Geometry) (n : ℕ) (torn : List ℕ) (s : State) (i : List ℕ) w
               legal = λ c. secure (c .good) .legal;
               once = λ c. secure (c .good) .once;
               off = λ e. refl;
-              bounds = record { blocks = refl; units = omega arith };
+              bounds = record { nand = refl; blocks = refl; units = omega arith };
             })
           where
             short : n < length (theOps g s i)
@@ -334,20 +342,22 @@ module _ (g : Geometry) (n : ℕ) (torn : List ℕ) (s : State) (i : List ℕ) w
               ∙ ap (λ (b : Bool). cond b (P.means (presentOf g s i) (suc (s .commit))) (imageMeaning g i))
               (all-done (getD torn 0 0) n (length (theOps g s i)) enough)
 
-          state-new : (ok : Good g s i) → P.stateOf (index g) after i' ≡ Plain.committed (P.stateOf (index g) s i)
+          state-new : (ok : Good g s i) → P.stateOf index after i' ≡ Plain.committed (P.stateOf index s i)
           unfolding P.stateOf Plain.committed
           state-new ok =
-              settled-state g after i' (nodes ok) (settled ok)
+              settled-state after i' (nodes ok) (settled ok)
               ∙ rw (next-views g n torn s i i' lens' slots' erases' (e .reached) ok (by-plan ok) (secure ok), let z : s .commit + 1 ≡ suc (s .commit) = omega arith in z)
 
-          rests-after : Good g s i → (b : ℕ) → 0 < erasesIn b (State.commitOps g s i) → (t : State) → Good g t i' → erasesIn b (State.commitOps g t i') ≡ 0
-          rests-after ok b h =
-              after-rests g n torn s i i' lens' slots' erases' (e .reached) ok (by-plan ok) (secure ok) enough b (omega (arith, ap (erasesIn b) (ops-some g s i pending)))
+          rests-after : Good g s i → (b : ℕ) → 0 < erasesIn b (State.commitOps g s i) → (t : State) → Good (geometryIn t) t i' → t .nand ≡ s .nand
+              → erasesIn b (State.commitOps (geometryIn t) t i') ≡ 0
+          rests-after ok b h t w q =
+              subst (λ (m : Nand). Good (geometryOf m) t i' → erasesIn b (State.commitOps (geometryOf m) t i') ≡ 0) (sym q)
+              (after-rests g n torn s i i' lens' slots' erases' (e .reached) ok (by-plan ok) (secure ok) enough b (omega (arith, ap (erasesIn b) (ops-some g s i pending))) t) w
 
           commit-done : (new : State) → new ≡ committedState s lens' slots' erases'
-              → Commits g n torn s i (record { answer = Accepted; ops = e .reached .done; state = new }) i'
+              → Commits n torn s i (record { answer = Accepted; ops = e .reached .done; state = new }) i'
           commit-done new f =
-              subst (λ (y : State). Commits g n torn s i (record { answer = Accepted; ops = e .reached .done; state = y }) i') (sym f)
+              subst (λ (y : State). Commits n torn s i (record { answer = Accepted; ops = e .reached .done; state = y }) i') (sym f)
               (record {
                 says = record {
                   first = tests accepted after i' (λ e. not-refused 1 e) (λ e. not-refused 2 e) (x .size);
@@ -356,7 +366,7 @@ module _ (g : Geometry) (n : ℕ) (torn : List ℕ) (s : State) (i : List ℕ) w
                   last = λ p m q. absurd (omega (arith, later-none));
                   idle = λ p q. absurd (omega arith);
                   none = λ q. ap length (ops-none g s i q);
-                  bound = omega arith;
+                  bound = enough-most (s .nand);
                   stuck = λ c b. clash has-plan b;
                   able = λ c r. has-plan;
                   few = λ c b. most (c .good);
@@ -377,22 +387,22 @@ module _ (g : Geometry) (n : ℕ) (torn : List ℕ) (s : State) (i : List ℕ) w
                 legal = λ c. secure (c .good) .legal;
                 once = λ c. secure (c .good) .once;
                 off = λ e. not-refused 10 e;
-                bounds = record { blocks = refl; units = omega arith };
+                bounds = record { nand = refl; blocks = refl; units = omega arith };
               })
 
         -- either
-        pub commit-ended : ((j : ℕ) → getD i' j 0 < 256) → (r : Wrote) → r ≡ endedWith (e .reached) s (committedState s lens' slots' erases') → Commits g n torn s i r i'
+        pub commit-ended : ((j : ℕ) → getD i' j 0 < 256) → (r : Wrote) → r ≡ endedWith (e .reached) s (committedState s lens' slots' erases') → Commits n torn s i r i'
         commit-ended bytes' =
-            either-end (e .reached) s (committedState s lens' slots' erases') (λ (r : Wrote). Commits g n torn s i r i')
+            either-end (e .reached) s (committedState s lens' slots' erases') (λ (r : Wrote). Commits n torn s i r i')
             (λ t. commit-cut t (turnedOff s) refl)
             (λ t. commit-done t bytes' (committedState s lens' slots' erases') refl)
 
 -- ---- a commit that ends before its plan
-pub commit-ends : (g : Geometry) (m : Numbers) (buffer lens slots erases : List ℕ) (n : ℕ) (torn i : List ℕ) (a : A.Answer) → m .commit < 4294967296 → CommitBegins g m (length i) (length torn) (Ends a)
-    → Commits g n torn (joined m buffer lens slots erases) i (record { answer = a; ops = nothing; state = joined m buffer lens slots erases }) i
-commit-ends g m buffer lens slots erases n torn i a u (denied b h e) = commit-refused g n torn (joined m buffer lens slots erases) i b e h
-commit-ends g m buffer lens slots erases n torn i a u (idle e p) =
-    commit-idle g n torn (joined m buffer lens slots erases) i (commits-past g (m .on) (m .blocks) (m .pending) (m .commit) n (length i) (length torn) u e .first) p
-commit-ends g m buffer lens slots erases n torn i a u (full e p k) =
-    let w = commits-past g (m .on) (m .blocks) (m .pending) (m .commit) n (length i) (length torn) u e in
-    commit-full g n torn (joined m buffer lens slots erases) i (w .first) p (w .number p) k
+pub commit-ends : (m : Numbers) (buffer lens slots erases : List ℕ) (n : ℕ) (torn i : List ℕ) (a : A.Answer) → m .commit < 4294967296 → CommitBegins m (length i) (length torn) (Ends a)
+    → Commits n torn (joined m buffer lens slots erases) i (record { answer = a; ops = nothing; state = joined m buffer lens slots erases }) i
+commit-ends m buffer lens slots erases n torn i a u (denied b h e) = commit-refused n torn (joined m buffer lens slots erases) i b e h
+commit-ends m buffer lens slots erases n torn i a u (idle e p) =
+    commit-idle n torn (joined m buffer lens slots erases) i (commits-past (geometryOf (m .nand)) (m .on) (m .blocks) (m .pending) (m .commit) (length i) (length torn) u e .first) p
+commit-ends m buffer lens slots erases n torn i a u (full e p k) =
+    let w = commits-past (geometryOf (m .nand)) (m .on) (m .blocks) (m .pending) (m .commit) (length i) (length torn) u e in
+    commit-full n torn (joined m buffer lens slots erases) i (w .first) p (w .number p) k

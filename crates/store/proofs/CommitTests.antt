@@ -5,8 +5,8 @@ use Prim.Native.Nat.{ℕ, zero, suc, _<_, _≤_}
 use native.Mathlib.Omega.{arith}
 use lib.Dec.{ltb, leb, eqb}
 use borrow.Author.Tests.{eq-eqb, ne-eqb, eqb-true, lt-ltb, le-ltb, le-leb, lt-leb}
-use Rattle.chip.specs.Geometry.{Geometry, pageSize}
-use Rattle.promise.specs.Plain.{refuses, accepted, admission, commits, firstRefusal, hasBlocks, isChipSize, isTornSize, lastNumber, orElse, when}
+use Rattle.chip.specs.Geometry.{Geometry, geometryOf, pageSize}
+use Rattle.promise.specs.Plain.{refuses, accepted, admission, commitRefusal, hasBlocks, isChipSize, isTornSize, lastNumber, orElse, when}
 use Rattle.store.specs.declared.admit.Beginning.the-variants.{Plans}
 use Rattle.store.specs.declared.state.Numbers.{Numbers}
 use Rattle.store.specs.AdmitCode.{CommitBegins, plans, ChipOf, updateTests, commitTests, answerFor}
@@ -107,29 +107,29 @@ six-none p G e h u = below (λ (q : G ≡ lastNumber). six-some (when 6 (ltb 0 p
     below d = omega arith
 
 -- the numbers of a commit past its tests
-pub record Past (g : Geometry) (on : Bool) (B p G n len torn : ℕ) : Type 0 where
-  pub first : firstRefusal g on B (commits n len torn) ≡ 0
+pub record Past (g : Geometry) (on : Bool) (B p G len torn : ℕ) : Type 0 where
+  pub first : commitRefusal g on B len torn ≡ 0
   pub chip : ChipOf g B len
   pub slice : torn ≡ pageSize g
   pub number : 0 < p → G < lastNumber
 
-pub commits-past : (g : Geometry) (on : Bool) (B p G n len torn : ℕ) → G < 4294967296 → commitTests g on B p G len torn ≡ 0 → Past g on B p G n len torn
+pub commits-past : (g : Geometry) (on : Bool) (B p G len torn : ℕ) → G < 4294967296 → commitTests g on B p G len torn ≡ 0 → Past g on B p G len torn
 unfolding isTornSize
-commits-past g on B p G n len torn u e =
-    let w = or-none (firstRefusal g on B (commits 0 len torn)) (when 6 (ltb 0 p && eqb G lastNumber)) e in
+commits-past g on B p G len torn u e =
+    let w = or-none (commitRefusal g on B len torn) (when 6 (ltb 0 p && eqb G lastNumber)) e in
     let q = parts-passed on (isChipSize g len) (isTornSize g torn) (hasBlocks g B len) (w .0) in
     record { first = w .0; chip = admission-chip g on B len (q .1); slice = eqb-true torn (pageSize g) (q .0); number = λ h. six-none p G (w .1) h u }
 
 -- ---- a commit or a forecast that goes on to its plan
-pub record Planning (g : Geometry) (m : Numbers) (n len torn : ℕ) : Type 0 where
-  pub first : firstRefusal g (m .on) (m .blocks) (commits n len torn) ≡ 0
-  pub chip : ChipOf g (m .blocks) len
-  pub slice : torn ≡ pageSize g
+pub record Planning (m : Numbers) (len torn : ℕ) : Type 0 where
+  pub first : commitRefusal (geometryOf (m .nand)) (m .on) (m .blocks) len torn ≡ 0
+  pub chip : ChipOf (geometryOf (m .nand)) (m .blocks) len
+  pub slice : torn ≡ pageSize (geometryOf (m .nand))
   pub pending : 0 < m .pending
   pub number : m .commit < lastNumber
   pub fits : m .count ≤ 960
 
-pub planning : (g : Geometry) (m : Numbers) (n len torn : ℕ) → m .commit < 4294967296 → CommitBegins g m len torn Plans → Planning g m n len torn
-planning g m n len torn u (plans e p k) =
-    let w = commits-past g (m .on) (m .blocks) (m .pending) (m .commit) n len torn u e in
+pub planning : (m : Numbers) (len torn : ℕ) → m .commit < 4294967296 → CommitBegins m len torn Plans → Planning m len torn
+planning m len torn u (plans e p k) =
+    let w = commits-past (geometryOf (m .nand)) (m .on) (m .blocks) (m .pending) (m .commit) len torn u e in
     record { first = w .first; chip = w .chip; slice = w .slice; pending = p; number = w .number p; fits = k }

@@ -9,17 +9,18 @@ use lib.Seq.{take-all}
 use borrow.Author.Tests.{leb-true, leb-false}
 use Rattle.lists.proofs.Tests.{cases}
 use Rattle.chip.specs.declared.progress.Counts.{Counts}
-use Rattle.chip.specs.Geometry.{Geometry}
+use Rattle.chip.specs.Geometry.{Nand, geometryOf}
 use Rattle.chip.specs.Counts.{total}
 use Rattle.chip.specs.Chip.{Op, kindOf, kindsOf}
 use Rattle.chip.proofs.CountLaws.{told-sum}
-use Rattle.promise.specs.Plain.{formats, mounts, firstRefusal}
+use Rattle.promise.specs.Plain.{startRefusal}
 use Rattle.promise.specs.Calls.{means}
 use Rattle.promise.specs.Image.{imageMeaning}
 use Rattle.promise.specs.Steps.{format, mount, commit}
 use Rattle.promise.specs.Erases.{operationsOf}
 use Rattle.tree.specs.Tree.{Table}
 use Rattle.store.specs.declared.state.State.{State}
+use Rattle.store.specs.State.{geometryIn}
 use Rattle.store.specs.declared.state.Wrote.{Wrote}
 use Rattle.store.specs.Contracts.{index, toldOf, Proceeds, Formats, Mounts, Commits}
 use Rattle.store.specs.Did.{Did}
@@ -37,17 +38,16 @@ first-told n os c e =
     let z : total c ≡ n = omega arith in
     rw z)
 
-module _ (g : Geometry) (n : ℕ) (torn : List ℕ) (s : State) (i : List ℕ) (r : Wrote) (i' : List ℕ) where
-  pub format-did : Formats g n torn s i r i' → firstRefusal g (s .on) (s .blocks) (formats n (length i) (length torn)) ≡ 0
-      → Did g (operationsOf g (index g) (format n torn) s i) n torn i (total (r .ops)) i'
-  format-did f z = record { whole = first-told n _ (r .ops) (f .kinds z); bytes = f .bytes z }
+module _ (n : ℕ) (torn : List ℕ) (s : State) (i : List ℕ) (r : Wrote) (i' : List ℕ) where
+  pub format-did : (m : Nand) → Formats m n torn s i r i' → startRefusal (geometryOf m) (length i) (length torn) ≡ 0
+      → Did (geometryOf m) (operationsOf index (format m n torn) s i) n torn i (total (r .ops)) i'
+  format-did m f z = record { whole = first-told n _ (r .ops) (f .kinds z); bytes = f .bytes z }
 
-  pub mount-did : Mounts g n torn s i r i' → firstRefusal g (s .on) (s .blocks) (mounts n (length i) (length torn)) ≡ 0 → (K : Table) (G : ℕ) → imageMeaning g i ≡ means K G
-      → Did g (operationsOf g (index g) (mount n torn) s i) n torn i (total (r .ops)) i'
-  mount-did f z K G e = record { whole = first-told n _ (r .ops) (f .kinds z K G e); bytes = f .bytes z K G e }
+  pub mount-did : (m : Nand) → Mounts m n torn s i r i' → startRefusal (geometryOf m) (length i) (length torn) ≡ 0 → (K : Table) (G : ℕ)
+      → imageMeaning (geometryOf m) i ≡ means K G → Did (geometryOf m) (operationsOf index (mount m n torn) s i) n torn i (total (r .ops)) i'
+  mount-did m f z K G e = record { whole = first-told n _ (r .ops) (f .kinds z K G e); bytes = f .bytes z K G e }
 
-  pub commit-did : Commits g n torn s i r i' → Proceeds g n torn s i
-      → Did g (operationsOf g (index g) (commit n torn) s i) n torn i (total (r .ops)) i'
+  pub commit-did : Commits n torn s i r i' → Proceeds n torn s i → Did (geometryIn s) (operationsOf index (commit n torn) s i) n torn i (total (r .ops)) i'
   commit-did f c =
-      subst (λ (os : List Op). Did g os n torn i (total (r .ops)) i') (sym (ops-some g s i (c .pending)))
+      subst (λ (os : List Op). Did (geometryIn s) os n torn i (total (r .ops)) i') (sym (ops-some (geometryIn s) s i (c .pending)))
       (record { whole = first-told n _ (r .ops) (f .kinds c); bytes = f .bytes c })

@@ -5,7 +5,6 @@ use mathlib.Core.List.{List, _∷_}
 use Prim.Native.Nat.{ℕ, zero, suc, _≤_, _<_}
 use native.Mathlib.Omega.{arith}
 use borrow.Author.Tests.{ne-eqb, lt-ltb, le-ltb}
-use Rattle.chip.specs.Geometry.{Geometry}
 use Rattle.promise.specs.Plain.{Answer, refuses, accepted, Call, firstRefusal, noNumberLeft, numbersRefusal, orElse, when}
 use Rattle.promise.specs.Calls as P
 use Rattle.promise.specs.Calls.{FirstTests, Proceeding}
@@ -37,22 +36,22 @@ range-of zero a ns e l = rw e
 range-of (suc zero) a ns e l = rw e
 range-of (suc (suc k)) a ns e l = absurd (omega arith)
 
-module _ (g : Geometry) (c : Call) (s : State) (i : List ℕ) where
+module _ (c : Call) (s : State) (i : List ℕ) where
   abbrev first : ℕ
-  first = firstRefusal g (s .on) (s .blocks) c
+  first = firstRefusal (s .nand) (s .on) (s .blocks) c
 
   abbrev later : ℕ
   later = numbersRefusal (s .pending) (s .commit) c
 
   -- the answer a, and nothing changed
   pub record EndedBy (a : A.Answer) : Type 0 where
-    pub tests : FirstTests g (index g) c s i (answerOf a) s i
+    pub tests : FirstTests index c s i (answerOf a) s i
     pub range : (ns : List ℕ) → P.acceptsOr (2 ∷ 1 ∷ 6 ∷ ns) (answerOf a) ≡ true
     pub last : first ≡ 0 → (m : ℕ) → later ≡ suc m → answerOf a ≡ refuses (suc m)
     pub idle : first ≡ 0 → s .pending ≡ 0 → answerOf a ≡ accepted
-    pub never : Proceeding g (index g) c s → ⊥
+    pub never : Proceeding index c s → ⊥
 
-  still : P.Same (index g) s i s i
+  still : P.Same index s i s i
   still = record { state = refl; image = refl }
 
   module _ (low : first ≤ 2) (six : later ≡ when 6 (noNumberLeft (s .pending) (s .commit))) where

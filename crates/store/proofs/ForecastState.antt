@@ -7,12 +7,13 @@ use native.Mathlib.Omega.{arith}
 use lib.ListN.{length, getD, length-map, replicate, length-replicate}
 use Rattle.lists.proofs.Tests.{clash}
 use Rattle.chip.specs.declared.progress.Counts.{Counts}
-use Rattle.chip.specs.Geometry.{Geometry, Fits, pageSize}
+use Rattle.chip.specs.Geometry.{Geometry, pageSize, geometryOf}
 use Rattle.chip.specs.Counts.{countsOf, nothing, total}
 use Rattle.chip.specs.Chip.{kindOf, kindsOf, pagesOf}
 use Rattle.chip.proofs.CountLaws.{total-counts}
 use Rattle.log.specs.Plan.{Plan, isEmpty, opsOf, stuck}
-use Rattle.promise.specs.Plain.{Answer, refuses, accepted, Call, commits, forecasts, firstRefusal, numbersRefusal, orElse}
+use Rattle.chip.proofs.Sizes.{nand-fits}
+use Rattle.promise.specs.Plain.{Answer, refuses, accepted, Call, forecasts, numbersRefusal, orElse, admission, commitRefusal}
 use Rattle.promise.specs.Calls as P
 use Rattle.promise.specs.Calls.{FirstTests}
 use Rattle.promise.specs.Steps.{forecast}
@@ -28,7 +29,7 @@ use Rattle.store.specs.declared.state.Numbers.{Numbers}
 use Rattle.store.specs.AdmitCode.{CommitBegins, denied, idle, full, commitTests, answerFor}
 use Rattle.store.specs.Parts.{joined}
 use Rattle.store.specs.Answers.{answerOf}
-use Rattle.store.specs.State.{Good, Room}
+use Rattle.store.specs.State.{Good, Room, geometryIn}
 use Rattle.store.specs.Contracts.{index, thePlan, theOps, Forecasts}
 use Rattle.store.proofs.CommitTests.{commits-past}
 use Rattle.store.proofs.EndedTests.{EndedBy, ended-idle, ended-refused, later-low, not-refused, other}
@@ -36,15 +37,18 @@ use Rattle.store.proofs.PlanRead.{paged-none, paged-some, plan-is, plan
 use Rattle.store.proofs.CommitGood.{good-few, ops-some}
 use Rattle.store.proofs.GoodPlan.{roomy-page}
 
-module _ (g : Geometry) (s : State) (i : List ℕ) where
+module _ (s : State) (i : List ℕ) where
+  abbrev g : Geometry
+  g = geometryIn s
+
   abbrev call : Call
   call = forecasts (length i)
 
-  still : P.Same (index g) s i s i
+  still : P.Same index s i s i
   still = record { state = refl; image = refl }
 
   -- ---- the tests end it
-  not-begun : (a : A.Answer) → EndedBy g call s i a → Forecasts g s i (record { answer = a; ops = nothing })
+  not-begun : (a : A.Answer) → EndedBy call s i a → Forecasts s i (record { answer = a; ops = nothing })
   not-begun a d =
       record {
         says = record {
@@ -62,31 +66,31 @@ module _ (g : Geometry) (s : State) (i : List ℕ) where
       }
 
   -- they are those of a commit with a torn slice of the right length
-  tests-are : commitTests g (s .on) (s .blocks) (s .pending) (s .commit) (length i) (pageSize g) ≡ orElse (firstRefusal g (s .on) (s .blocks) call) (numbersRefusal (s .pending) (s .commit) call)
-  tests-are = ap (λ (k : ℕ). orElse k (numbersRefusal (s .pending) (s .commit) call)) (first-torn g (s .on) (s .blocks) 0 (length i) (pageSize g) refl)
+  tests-are : commitTests g (s .on) (s .blocks) (s .pending) (s .commit) (length i) (pageSize g) ≡ orElse (admission g (s .on) (s .blocks) (length i)) (numbersRefusal (s .pending) (s .commit) call)
+  tests-are = ap (λ (k : ℕ). orElse k (numbersRefusal (s .pending) (s .commit) call)) (first-torn (s .nand) (s .on) (s .blocks) 0 (length i) (pageSize g) refl)
 
   forecast-refused : (a : A.Answer) → answerOf a ≡ answerFor (commitTests g (s .on) (s .blocks) (s .pending) (s .commit) (length i) (pageSize g))
-      → 0 < commitTests g (s .on) (s .blocks) (s .pending) (s .commit) (length i) (pageSize g) → Forecasts g s i (record { answer = a; ops = nothing })
+      → 0 < commitTests g (s .on) (s .blocks) (s .pending) (s .commit) (length i) (pageSize g) → Forecasts s i (record { answer = a; ops = nothing })
   forecast-refused a e h =
-      not-begun a (ended-refused g call s i (first-most g forecast (length i) (s .on) (s .blocks)) refl a (e ∙ ap answerFor tests-are) (subst (λ (k : ℕ). 0 < k) tests-are h) .0)
+      not-begun a (ended-refused call s i (first-most (s .nand) forecast (length i) (s .on) (s .blocks)) refl a (e ∙ ap answerFor tests-are) (subst (λ (k : ℕ). 0 < k) tests-are h) .0)
 
   -- ---- they pass
-  module _ (passes : firstRefusal g (s .on) (s .blocks) (commits 0 (length i) (pageSize g)) ≡ 0) where
-    first-none : firstRefusal g (s .on) (s .blocks) call ≡ 0
-    first-none = sym (first-torn g (s .on) (s .blocks) 0 (length i) (pageSize g) refl) ∙ passes
+  module _ (passes : commitRefusal g (s .on) (s .blocks) (length i) (pageSize g) ≡ 0) where
+    first-none : admission g (s .on) (s .blocks) (length i) ≡ 0
+    first-none = sym (first-torn (s .nand) (s .on) (s .blocks) 0 (length i) (pageSize g) refl) ∙ passes
 
-    tests : (a : Answer) → (a ≡ refuses 1 → ⊥) → (a ≡ refuses 2 → ⊥) → FirstTests g (index g) call s i a s i
+    tests : (a : Answer) → (a ≡ refuses 1 → ⊥) → (a ≡ refuses 2 → ⊥) → FirstTests index call s i a s i
     tests a h k = record { refused = λ m e. absurd (omega (arith, first-none)); not1 = λ p. h; not2 = λ p. k; sameSize = refl }
 
-    forecast-idle : s .pending ≡ 0 → Forecasts g s i (record { answer = Accepted; ops = nothing })
-    forecast-idle h = not-begun Accepted (ended-idle g call s i refl first-none h)
+    forecast-idle : s .pending ≡ 0 → Forecasts s i (record { answer = Accepted; ops = nothing })
+    forecast-idle h = not-begun Accepted (ended-idle call s i refl first-none h)
 
     module _ (pending : 0 < s .pending) (number : s .commit < 4294967295) where
       later-none : numbersRefusal (s .pending) (s .commit) call ≡ 0
       later-none = later-low (s .pending) (s .commit) pending number
 
       -- the plan is to do nothing
-      nothing-told : thePlan g s i ≡ stuck → (Good g s i → Room g i → ⊥) → Forecasts g s i (record { answer = Last; ops = nothing })
+      nothing-told : thePlan g s i ≡ stuck → (Good g s i → Room g i → ⊥) → Forecasts s i (record { answer = Last; ops = nothing })
       nothing-told q no-room =
           record {
             says = record {
@@ -103,23 +107,23 @@ module _ (g : Geometry) (s : State) (i : List ℕ) where
             kinds = λ c. sym (ap (λ (p : Plan). countsOf (kindsOf (opsOf g (s .commit) p))) q);
           }
 
-      forecast-full : 960 < s .count → Forecasts g s i (record { answer = Last; ops = nothing })
+      forecast-full : 960 < s .count → Forecasts s i (record { answer = Last; ops = nothing })
       forecast-full many = nothing-told (plan-none g s i many) (λ ok r. omega (arith, good-few g s i ok))
 
       -- the plan is read
       module _ (fits : s .count ≤ 960) (bytes : (j : ℕ) → getD i j 0 < 256) (r : Cost)
           (x : E.Costs g (8 * s .blocks) (s .blocks) (s .lens) (s .slots) (s .count) (s .buffer) (s .commit) (pagesOf g i) r) where
-        pub forecast-stuck : Fits g → r .stuck ≡ true → Forecasts g s i (record { answer = Last; ops = nothing })
-        forecast-stuck fit st =
+        pub forecast-stuck : r .stuck ≡ true → Forecasts s i (record { answer = Last; ops = nothing })
+        forecast-stuck st =
             let q = plan-is g s i fits ∙ paged-none (read g s i) (sym (x .stuck) ∙ st) in
-            nothing-told q (λ ok w. clash (ap (λ (p : Plan). isEmpty (p .written)) q) (roomy-page g fit (replicate (pageSize g) 0) (length-replicate (pageSize g) 0) s i ok bytes pending number w))
+            nothing-told q (λ ok w. clash (ap (λ (p : Plan). isEmpty (p .written)) q) (roomy-page g (nand-fits (s .nand)) (replicate (pageSize g) 0) (length-replicate (pageSize g) 0) s i ok bytes pending number w))
 
-        pub forecast-done : r .stuck ≡ false → (ops : Counts) → ops ≡ r .ops → Forecasts g s i (record { answer = Accepted; ops = ops })
+        pub forecast-done : r .stuck ≡ false → (ops : Counts) → ops ≡ r .ops → Forecasts s i (record { answer = Accepted; ops = ops })
         forecast-done st ops e =
             let q = plan-is g s i fits ∙ paged-some (read g s i) (sym (x .stuck) ∙ st) in
             let k : ops ≡ countsOf (kindsOf (theOps g s i)) = e ∙ x .all st ∙ ap (λ (p : Plan). countsOf (kindsOf (opsOf g (s .commit) p))) (sym q) in
             let able : not (isEmpty (thePlan g s i .written)) ≡ true = ap not (ap (λ (p : Plan). isEmpty (p .written)) q ∙ sym (x .stuck) ∙ st) in
-            let many : total ops ≡ length (index g .commitOps s i) =
+            let many : total ops ≡ length (index .commitOps s i) =
             ap total k ∙ total-counts (kindsOf (theOps g s i)) ∙ length-map (theOps g s i) kindOf ∙ sym (ap length (ops-some g s i pending)) in
             record {
               says = record {
@@ -137,11 +141,11 @@ module _ (g : Geometry) (s : State) (i : List ℕ) where
             }
 
 -- ---- a forecast that ends before the plan
-pub forecast-ends : (g : Geometry) (m : Numbers) (buffer lens slots erases i : List ℕ) (a : A.Answer) → m .commit < 4294967296 → CommitBegins g m (length i) (pageSize g) (Ends a)
-    → Forecasts g (joined m buffer lens slots erases) i (record { answer = a; ops = nothing })
-forecast-ends g m buffer lens slots erases i a u (denied b h e) = forecast-refused g (joined m buffer lens slots erases) i b e h
-forecast-ends g m buffer lens slots erases i a u (idle e p) =
-    forecast-idle g (joined m buffer lens slots erases) i (commits-past g (m .on) (m .blocks) (m .pending) (m .commit) 0 (length i) (pageSize g) u e .first) p
-forecast-ends g m buffer lens slots erases i a u (full e p k) =
-    let w = commits-past g (m .on) (m .blocks) (m .pending) (m .commit) 0 (length i) (pageSize g) u e in
-    forecast-full g (joined m buffer lens slots erases) i (w .first) p (w .number p) k
+pub forecast-ends : (m : Numbers) (buffer lens slots erases i : List ℕ) (a : A.Answer) → m .commit < 4294967296 → CommitBegins m (length i) (pageSize (geometryOf (m .nand))) (Ends a)
+    → Forecasts (joined m buffer lens slots erases) i (record { answer = a; ops = nothing })
+forecast-ends m buffer lens slots erases i a u (denied b h e) = forecast-refused (joined m buffer lens slots erases) i b e h
+forecast-ends m buffer lens slots erases i a u (idle e p) =
+    forecast-idle (joined m buffer lens slots erases) i (commits-past (geometryOf (m .nand)) (m .on) (m .blocks) (m .pending) (m .commit) (length i) (pageSize (geometryOf (m .nand))) u e .first) p
+forecast-ends m buffer lens slots erases i a u (full e p k) =
+    let w = commits-past (geometryOf (m .nand)) (m .on) (m .blocks) (m .pending) (m .commit) (length i) (pageSize (geometryOf (m .nand))) u e in
+    forecast-full (joined m buffer lens slots erases) i (w .first) p (w .number p) k

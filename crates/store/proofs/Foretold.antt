@@ -7,7 +7,7 @@ use lib.Dec.{ltb}
 use lib.ListN.{length, length-map}
 use borrow.Author.Tests.{ltb-true, ltb-false}
 use Rattle.lists.proofs.Tests.{cases, clash}
-use Rattle.chip.specs.Geometry.{Geometry, pageSize}
+use Rattle.chip.specs.Geometry.{pageSize}
 use Rattle.chip.specs.Counts.{total}
 use Rattle.chip.specs.Chip.{kindOf, kindsOf}
 use Rattle.chip.proofs.CountLaws.{total-counts, total-nothing}
@@ -20,20 +20,21 @@ use Rattle.store.specs.declared.answer.Forecast.{Forecast}
 use Rattle.store.specs.declared.state.State.{State}
 use Rattle.store.specs.declared.state.Wrote.{Wrote}
 use Rattle.store.specs.Answers.{answerOf}
+use Rattle.store.specs.State.{geometryIn}
 use Rattle.store.specs.Contracts.{index, theOps, Commits, Forecasts, Foretells}
 use Rattle.store.proofs.EndedTests.{not-refused}
 use Rattle.store.proofs.KindsTold.{all-told}
 
-module _ (g : Geometry) (s : State) (i : List ℕ) (r : Forecast) (f : Forecasts g s i r) (n : ℕ) (torn : List ℕ) (size : length torn ≡ pageSize g) (w : Wrote) (i' : List ℕ) (c : Commits g n torn s i w i') where
+module _ (s : State) (i : List ℕ) (r : Forecast) (f : Forecasts s i r) (n : ℕ) (torn : List ℕ) (size : length torn ≡ pageSize (geometryIn s)) (w : Wrote) (i' : List ℕ) (c : Commits n torn s i w i') where
   seen : Foresees (answerOf (r .answer)) (total (r .ops)) n (answerOf (w .answer)) (total (w .ops))
-  seen = forecast-now g (index g) s i (answerOf (r .answer)) (total (r .ops)) s i (f .says) n torn size (answerOf (w .answer)) (total (w .ops)) (w .state) i' (c .says)
+  seen = forecast-now index s i (answerOf (r .answer)) (total (r .ops)) s i (f .says) n torn size (answerOf (w .answer)) (total (w .ops)) (w .state) i' (c .says)
 
   -- an accepted forecast passed its tests
-  passes : answerOf (r .answer) ≡ accepted → (x : ℕ) → firstRefusal g (s .on) (s .blocks) (forecasts (length i)) ≡ x → firstRefusal g (s .on) (s .blocks) (forecasts (length i)) ≡ 0
+  passes : answerOf (r .answer) ≡ accepted → (x : ℕ) → firstRefusal (s .nand) (s .on) (s .blocks) (forecasts (length i)) ≡ x → firstRefusal (s .nand) (s .on) (s .blocks) (forecasts (length i)) ≡ 0
   passes a zero e = e
   passes a (suc x) e = not-refused (suc x) (sym a ∙ f .says .first .refused x e .0)
 
-  numbers : answerOf (r .answer) ≡ accepted → firstRefusal g (s .on) (s .blocks) (forecasts (length i)) ≡ 0 → (x : ℕ) → numbersRefusal (s .pending) (s .commit) (forecasts (length i)) ≡ x
+  numbers : answerOf (r .answer) ≡ accepted → firstRefusal (s .nand) (s .on) (s .blocks) (forecasts (length i)) ≡ 0 → (x : ℕ) → numbersRefusal (s .pending) (s .commit) (forecasts (length i)) ≡ x
       → numbersRefusal (s .pending) (s .commit) (forecasts (length i)) ≡ 0
   numbers a p zero e = e
   numbers a p (suc x) e = not-refused (suc x) (sym a ∙ f .says .last p x e)
@@ -43,9 +44,9 @@ module _ (g : Geometry) (s : State) (i : List ℕ) (r : Forecast) (f : Forecasts
   same-counts a l =
       let p = passes a _ refl in
       cases (ltb 0 (s .pending))
-      (λ t. let k : Proceeding g (index g) (forecasts (length i)) s = record { passes = p; numbers = numbers a p _ refl; pending = ltb-true 0 (s .pending) t } in
-      let many : total (r .ops) ≡ length (theOps g s i) = ap total (f .kinds k) ∙ total-counts (kindsOf (theOps g s i)) ∙ length-map (theOps g s i) kindOf in
-      c .kinds (commit-proceeds g (index g) n (length i) (length torn) s size k) ∙ all-told n (theOps g s i) (omega (arith, many)) ∙ sym (f .kinds k))
+      (λ t. let k : Proceeding index (forecasts (length i)) s = record { passes = p; numbers = numbers a p _ refl; pending = ltb-true 0 (s .pending) t } in
+      let many : total (r .ops) ≡ length (theOps (geometryIn s) s i) = ap total (f .kinds k) ∙ total-counts (kindsOf (theOps (geometryIn s) s i)) ∙ length-map (theOps (geometryIn s) s i) kindOf in
+      c .kinds (commit-proceeds index n (length i) (length torn) s size k) ∙ all-told n (theOps (geometryIn s) s i) (omega (arith, many)) ∙ sym (f .kinds k))
       (λ t. let z = f .says .idle p (let h = ltb-false 0 (s .pending) t in omega arith) .1 in
       let y = seen .enough a l .1 in
       total-nothing (w .ops) (omega arith) ∙ sym (total-nothing (r .ops) z))

@@ -11,8 +11,8 @@ use Rattle.lists.specs.Lists.{tab}
 use Rattle.lists.proofs.Places.{getD-same}
 use Rattle.lists.proofs.Flats.{getD-tab}
 use Rattle.chip.specs.declared.progress.Progress.{Progress}
-use Rattle.chip.specs.Geometry.{Geometry, Fits, blocksOf}
-use Rattle.chip.proofs.Sizes.{block-on, blocks-pages, pages-pos}
+use Rattle.chip.specs.Geometry.{Geometry, Fits, blocksOf, Nand, geometryOf}
+use Rattle.chip.proofs.Sizes.{block-on, blocks-pages, pages-pos, nand-fits}
 use Rattle.chip.specs.Power.{isGone}
 use Rattle.chip.specs.Counts.{nothing, total}
 use Rattle.chip.specs.Chip.{Legal, pagesOf, Machine}
@@ -31,7 +31,7 @@ use Rattle.log.proofs.FormatLaws.{format-legal, format-count, format-pages, for
 use Rattle.log.proofs.PlanBlocks.{has-room}
 use Rattle.log.proofs.PlanRoom.{room-first}
 use Rattle.log.proofs.PlanKept.{wide}
-use Rattle.promise.specs.Plain.{Answer, refuses, accepted, formats, firstRefusal, leaf, resting, fresh}
+use Rattle.promise.specs.Plain.{Answer, refuses, accepted, formats, leaf, resting, fresh, startRefusal, enoughWrites}
 use Rattle.promise.specs.Calls as P
 use Rattle.promise.specs.Calls.{FirstTests}
 use Rattle.promise.specs.Image.{viewsOf, imageMeaning}
@@ -47,7 +47,7 @@ use Rattle.store.specs.State.{turnedOff, RoomIn, Room}
 use Rattle.store.specs.Contracts.{index, toldOf, Formats}
 use Rattle.promise.proofs.Promise.{accepted-not}
 use Rattle.store.proofs.EndingLaws.{either-end}
-use Rattle.store.proofs.SizeLaws.{first-some, first-none}
+use Rattle.store.proofs.SizeLaws.{first-some, first-none, enough-most}
 use Rattle.store.proofs.Begun.{Begun, begun-meaning, begun-good, begun-state}
 
 -- ---- the node table of a finished format
@@ -95,10 +95,10 @@ one-live g fit (suc n) h = format-order g (omega arith) (omega arith) (omega ari
 one-not : {Q : Type 0} (m : ℕ) → m ≡ 1 → m ≡ 0 → Q
 one-not m e h = absurd (omega arith)
 
-pub format-size : (g : Geometry) (n : ℕ) (torn : List ℕ) (s : State) (i : List ℕ) (b : ℕ) → Sized g (length i) (length torn) b → b ≡ 0
-    → Formats g n torn s i (record { answer = Size; ops = nothing; state = s }) i
-format-size g n torn s i b z h =
-    let f : firstRefusal g (s .on) (s .blocks) (formats n (length i) (length torn)) ≡ 1 = first-none g (length i) (length torn) b z h in
+pub format-size : (nand : Nand) (n : ℕ) (torn : List ℕ) (s : State) (i : List ℕ) (b : ℕ) → Sized (geometryOf nand) (length i) (length torn) b → b ≡ 0
+    → Formats nand n torn s i (record { answer = Size; ops = nothing; state = s }) i
+format-size nand n torn s i b z h =
+    let f : startRefusal (geometryOf nand) (length i) (length torn) ≡ 1 = first-none (geometryOf nand) (length i) (length torn) b z h in
     record {
       says = record {
         first = record {
@@ -123,12 +123,18 @@ format-size g n torn s i b z h =
     }
 
 -- ---- the sizes are right: its operations were done as far as the power went
-module _ (g : Geometry) (fit : Fits g) (n : ℕ) (torn : List ℕ) (s : State) (i i' : List ℕ) (b : ℕ) (z : Sized g (length i) (length torn) b) (pos : 0 < b) (low : n < 2 ^ 32) (p reached : Progress)
-    (from : p ≡ atStart n) (first : Ran g torn (formatOps g b) p reached i i') where
+module _ (nand : Nand) (n : ℕ) (torn : List ℕ) (s : State) (i i' : List ℕ) (b : ℕ) (z : Sized (geometryOf nand) (length i) (length torn) b) (pos : 0 < b) (low : n < 2 ^ 32) (p reached : Progress)
+    (from : p ≡ atStart n) (first : Ran (geometryOf nand) torn (formatOps (geometryOf nand) b) p reached i i') where
+  abbrev g : Geometry
+  g = geometryOf nand
+
+  fit : Fits g
+  fit = nand-fits nand
+
   ran : Ran g torn (formatOps g b) (atStart n) reached i i'
   ran = subst (λ (q : Progress). Ran g torn (formatOps g b) q reached i i') from first
 
-  passes : firstRefusal g (s .on) (s .blocks) (formats n (length i) (length torn)) ≡ 0
+  passes : startRefusal g (length i) (length torn) ≡ 0
   passes = first-some g (length i) (length torn) b z pos
 
   blocks-are : blocksOf g (length i) ≡ b
@@ -153,8 +159,8 @@ module _ (g : Geometry) (fit : Fits g) (n : ℕ) (torn : List ℕ) (s : State) (
   format-bytes : pagesOf g i' ≡ formattedBy g torn (blocksOf g (length i)) n (pagesOf g i) .pages
   format-bytes = pages-are ∙ ap (λ (B : ℕ). formattedBy g torn B n (pagesOf g i) .pages) (sym blocks-are)
 
-  few-ops : length (formatOps g (blocksOf g (length i))) ≤ 2000
-  few-ops = omega (arith, need-is, z .chip pos .most)
+  few-ops : length (formatOps g (blocksOf g (length i))) ≤ enoughWrites nand
+  few-ops = omega (arith, need-is, z .chip pos .most, enough-most nand)
 
   long : length (pagesOf g i) ≡ b * g .pages
   long = length-pages g i ∙ blocks-pages g fit (length i) b (z .chip pos .size)
@@ -165,19 +171,19 @@ module _ (g : Geometry) (fit : Fits g) (n : ℕ) (torn : List ℕ) (s : State) (
   format-allowed : Legal g (pagesOf g i) (formatOps g (blocksOf g (length i)))
   format-allowed =
       subst (λ (B : ℕ). Legal g (pagesOf g i) (formatOps g B)) (sym blocks-are)
-      (format-legal g (omega arith) (omega arith) b (pagesOf g i) long (omega (arith, long, some)))
+      (format-legal g (fit .holds) (omega (arith, fit .nodes)) b (pagesOf g i) long (omega (arith, long, some)))
 
   -- neither 1 nor 2
-  tests : (a : Answer) (s' : State) → (a ≡ refuses 1 → ⊥) → (a ≡ refuses 2 → ⊥) → FirstTests g (index g) (formats n (length i) (length torn)) s i a s' i'
+  tests : (a : Answer) (s' : State) → (a ≡ refuses 1 → ⊥) → (a ≡ refuses 2 → ⊥) → FirstTests index (formats nand n (length i) (length torn)) s i a s' i'
   tests a s' h k =
       record { refused = λ m e. absurd (omega (arith, passes, e)); not1 = λ p. h; not2 = λ p. k; sameSize = ran .size }
 
   -- cut
   format-cut : isGone (reached .left) ≡ true → (off : State) → off ≡ turnedOff s
-      → Formats g n torn s i (record { answer = A.Cut; ops = reached .done; state = off }) i'
+      → Formats nand n torn s i (record { answer = A.Cut; ops = reached .done; state = off }) i'
   format-cut ok off f =
       let l : n < b + 3 = ltb-true n (b + 3) (sym gone-is ∙ ok) in
-      subst (λ (x : State). Formats g n torn s i (record { answer = A.Cut; ops = reached .done; state = x }) i') (sym f)
+      subst (λ (x : State). Formats nand n torn s i (record { answer = A.Cut; ops = reached .done; state = x }) i') (sym f)
       (record {
         says = record {
           first = tests (refuses 10) (turnedOff s) (λ e. let u : _≡_ {A = ℕ} 10 1 = cc in omega arith) (λ e. let u : _≡_ {A = ℕ} 10 2 = cc in omega arith);
@@ -204,7 +210,7 @@ module _ (g : Geometry) (fit : Fits g) (n : ℕ) (torn : List ℕ) (s : State) (
     kept : Kept g (8 * b) (pagesOf g i') (formatTable (8 * b)) 1
     kept = rw pages-are (format-begun g fit torn b n (pagesOf g i) pos long enough)
 
-    begun : Begun g (freshState b buffer) i' (formatTable (8 * b))
+    begun : Begun g (freshState nand b buffer) i' (formatTable (8 * b))
     begun =
         record {
           chip = rw (ran .size) (z .chip pos);
@@ -240,25 +246,25 @@ module _ (g : Geometry) (fit : Fits g) (n : ℕ) (torn : List ℕ) (s : State) (
         (sym (ap (λ (B : ℕ). Views.meaning g (8 * B) (pagesOf g i')) blocks-after ∙ kept .is))
         (room-at (blocksOf g (length i')) ((let e : suc (b - 1) ≡ b = omega arith in e) ∙ sym blocks-after))
 
-    state-is : P.stateOf (index g) (freshState b buffer) i' ≡ fresh (blocksOf g (length i))
+    state-is : P.stateOf index (freshState nand b buffer) i' ≡ fresh nand (blocksOf g (length i))
     unfolding resting
-    state-is = begun-state g (freshState b buffer) i' (formatTable (8 * b)) begun ∙ rw (blocks-are, format-views b pos)
+    state-is = begun-state (freshState nand b buffer) i' (formatTable (8 * b)) begun ∙ rw (blocks-are, format-views b pos)
 
     meaning-is : imageMeaning g i' ≡ P.means (leaf (blocksOf g (length i))) 1
-    meaning-is = begun-meaning g (freshState b buffer) i' (formatTable (8 * b)) begun ∙ rw (blocks-are, format-views b pos)
+    meaning-is = begun-meaning g (freshState nand b buffer) i' (formatTable (8 * b)) begun ∙ rw (blocks-are, format-views b pos)
 
-    format-finished : (new : State) → new ≡ freshState b buffer
-        → Formats g n torn s i (record { answer = Accepted; ops = reached .done; state = new }) i'
+    format-finished : (new : State) → new ≡ freshState nand b buffer
+        → Formats nand n torn s i (record { answer = Accepted; ops = reached .done; state = new }) i'
     format-finished new f =
-        subst (λ (x : State). Formats g n torn s i (record { answer = Accepted; ops = reached .done; state = x }) i') (sym f)
+        subst (λ (x : State). Formats nand n torn s i (record { answer = Accepted; ops = reached .done; state = x }) i') (sym f)
         (record {
           says = record {
-            first = tests accepted (freshState b buffer) (λ e. let u : _≡_ {A = ℕ} 0 1 = cc in omega arith) (λ e. let u : _≡_ {A = ℕ} 0 1 = cc in omega arith);
+            first = tests accepted (freshState nand b buffer) (λ e. let u : _≡_ {A = ℕ} 0 1 = cc in omega arith) (λ e. let u : _≡_ {A = ℕ} 0 1 = cc in omega arith);
             range = refl;
             quiet = λ k e d. let u : _≡_ {A = ℕ} 0 1 = cc in absurd (omega arith);
             few = λ p. few-ops;
             power = λ p. record { enough = λ m. (refl, omega (arith, told-is, enough, need-is)); short = λ m. absurd (omega (arith, need-is, enough)) };
-            done = λ p m. (state-is, meaning-is, begun-good g (freshState b buffer) i' (formatTable (8 * b)) begun, format-room);
+            done = λ p m. (state-is, meaning-is, begun-good g (freshState nand b buffer) i' (formatTable (8 * b)) begun, format-room);
             zeros = λ e b. getD-same 32 b 0;
             cut = λ p m. absurd (omega (arith, need-is, enough));
           };
@@ -270,8 +276,8 @@ module _ (g : Geometry) (fit : Fits g) (n : ℕ) (torn : List ℕ) (s : State) (
         })
 
   -- either
-  pub format-ended : ((j : ℕ) → getD i' j 0 < 256) → (buffer : List ℕ) (r : Wrote) → r ≡ endedWith reached s (freshState b buffer) → Formats g n torn s i r i'
+  pub format-ended : ((j : ℕ) → getD i' j 0 < 256) → (buffer : List ℕ) (r : Wrote) → r ≡ endedWith reached s (freshState nand b buffer) → Formats nand n torn s i r i'
   format-ended bytes buffer =
-      either-end reached s (freshState b buffer) (λ (r : Wrote). Formats g n torn s i r i')
+      either-end reached s (freshState nand b buffer) (λ (r : Wrote). Formats nand n torn s i r i')
       (λ t. format-cut t (turnedOff s) refl)
-      (λ t. format-finished t bytes buffer (freshState b buffer) refl)
+      (λ t. format-finished t bytes buffer (freshState nand b buffer) refl)

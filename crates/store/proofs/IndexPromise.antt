@@ -1,19 +1,19 @@
 -- The promise about the calls of this crate. A step of a list is what `step` ensures of one call, so each law here is about the code:
 -- any list of calls from a start, cut anywhere, with any torn bytes, mounts given any state, answers as the plain store does. Assumes nothing.
-use mathlib.Core.Path.{_≡_, refl}
+use mathlib.Core.Path.{_≡_, refl, sym, ap, subst}
 use mathlib.Core.Bool.{false}
 use mathlib.Core.List.{List}
 use Prim.Native.Nat.{ℕ}
 use lib.ListN.{length}
 use Rattle.lists.proofs.Tests.{clash}
 use Rattle.chip.specs.Counts.{total}
-use Rattle.chip.specs.Geometry.{Geometry, blocksOf}
+use Rattle.chip.specs.Geometry.{Nand, geometryOf, blocksOf}
 use Rattle.tree.specs.Tree.{Table}
-use Rattle.promise.specs.Plain.{accepted, leaf}
+use Rattle.promise.specs.Plain.{Plain, accepted, leaf, resting}
 use Rattle.promise.specs.Calls as C
-use Rattle.promise.specs.Calls.{means}
+use Rattle.promise.specs.Calls.{means, stateOf}
 use Rattle.promise.specs.Image.{imageMeaning}
-use Rattle.promise.specs.Steps.{Step, Only, NoFormat, boots, one, Runs, Takes, Mounted, Started, Formatted}
+use Rattle.promise.specs.Steps.{Step, Only, Named, NoFormat, boots, one, Runs, Takes, Mounted, Started, Formatted}
 use Rattle.promise.specs.History.{TreeOf, LawfulAct}
 use Rattle.promise.specs.Promise as P
 use Rattle.promise.specs.Erases as E
@@ -38,131 +38,139 @@ use Rattle.store.proofs.StepLaws.{step-allowed}
 use Rattle.store.proofs.StartTree.{mounted-tree}
 
 -- a step of the code that was lent the one image whole
-abbrev pub stepped : (g : Geometry) → Call → (torn : List ℕ) → State → (image : List ℕ) → Stepped → (left : List ℕ) → Step (index g)
-stepped g call torn s i r i' =
+abbrev pub stepped : Call → (torn : List ℕ) → State → (image : List ℕ) → Stepped → (left : List ℕ) → Step index
+stepped call torn s i r i' =
     record { act = actOf call torn; given = s; lent = i; left = i'; answer = answerOf (r .answer); ops = total (r .ops); state = r .state; image = i' }
 
 -- it is a step of a list: a mount or a format from any state, another call from the state at hand
-pub step-takes : (g : Geometry) (H : State → Type 0) (call : Call) (torn : List ℕ) (s : State) (i : List ℕ) (r : Stepped) (i' : List ℕ) → StepsBy g call torn s i r i'
-    → (boots (actOf call torn) ≡ false → H s) → Takes g (index g) H i (stepped g call torn s i r i')
-step-takes g H call torn s i r i' h u = record { allowed = step-allowed g call torn s i r i' h; lends = one refl refl; handed = u }
+pub step-takes : (H : State → Type 0) (call : Call) (torn : List ℕ) (s : State) (i : List ℕ) (r : Stepped) (i' : List ℕ) → StepsBy call torn s i r i'
+    → (boots (actOf call torn) ≡ false → H s) → Takes index H i (stepped call torn s i r i')
+step-takes H call torn s i r i' h u = record { allowed = step-allowed call torn s i r i' h; lends = one refl refl; handed = u }
 
 -- a box that was without power: a mount and a format go on with a list whatever state they are given
-pub mount-takes : (g : Geometry) (H : State → Type 0) (n : ℕ) (torn : List ℕ) (s : State) (i : List ℕ) (r : Stepped) (i' : List ℕ) → StepsBy g (Mount n) torn s i r i'
-    → Takes g (index g) H i (stepped g (Mount n) torn s i r i')
-mount-takes g H n torn s i r i' h = step-takes g H (Mount n) torn s i r i' h (λ e. clash refl e)
+pub mount-takes : (H : State → Type 0) (m : Nand) (n : ℕ) (torn : List ℕ) (s : State) (i : List ℕ) (r : Stepped) (i' : List ℕ) → StepsBy (Mount m n) torn s i r i'
+    → Takes index H i (stepped (Mount m n) torn s i r i')
+mount-takes H m n torn s i r i' h = step-takes H (Mount m n) torn s i r i' h (λ e. clash refl e)
 
-pub format-takes : (g : Geometry) (H : State → Type 0) (n : ℕ) (torn : List ℕ) (s : State) (i : List ℕ) (r : Stepped) (i' : List ℕ) → StepsBy g (Format n) torn s i r i'
-    → Takes g (index g) H i (stepped g (Format n) torn s i r i')
-format-takes g H n torn s i r i' h = step-takes g H (Format n) torn s i r i' h (λ e. clash refl e)
+pub format-takes : (H : State → Type 0) (m : Nand) (n : ℕ) (torn : List ℕ) (s : State) (i : List ℕ) (r : Stepped) (i' : List ℕ) → StepsBy (Format m n) torn s i r i'
+    → Takes index H i (stepped (Format m n) torn s i r i')
+format-takes H m n torn s i r i' h = step-takes H (Format m n) torn s i r i' h (λ e. clash refl e)
 
 -- ---- where a list starts
 -- a finished format is a start, and so is a finished mount of an image that has room; there K is a tree of the chip
-pub index-starts : (g : Geometry) (s : State) (i : List ℕ) → Formatted g (index g) s i → Started g (index g) (leaf (blocksOf g (length i))) 1 s i
-index-starts g = format-starts g (index g)
+pub index-starts : (nand : Nand) (s : State) (i : List ℕ) → Formatted index nand s i → Started index nand (leaf (blocksOf (geometryOf nand) (length i))) 1 s i
+index-starts = format-starts index
 
-pub index-mounts : (g : Geometry) (n : ℕ) (torn : List ℕ) (s : State) (i : List ℕ) (ops : ℕ) (s' : State) (i' : List ℕ) (K : Table) (G : ℕ)
-    → imageMeaning g i ≡ means K G → C.Mount g (index g) n torn s i accepted ops s' i' → Mounted g (index g) K G s' i' × (Room g i → Started g (index g) K G s' i')
-index-mounts g = mount-mounts g (index g)
+pub index-mounts : (nand : Nand) (n : ℕ) (torn : List ℕ) (s : State) (i : List ℕ) (ops : ℕ) (s' : State) (i' : List ℕ) (K : Table) (G : ℕ)
+    → imageMeaning (geometryOf nand) i ≡ means K G → C.Mount index nand n torn s i accepted ops s' i'
+    → Mounted index nand K G s' i' × (Room (geometryOf nand) i → Started index nand K G s' i')
+index-mounts = mount-mounts index
 
-pub index-tree : (g : Geometry) (K : Table) (G : ℕ) (s : State) (i : List ℕ) → Mounted g (index g) K G s i → TreeOf (blocksOf g (length i)) K
-index-tree g = mounted-tree g
+pub index-tree : (nand : Nand) (K : Table) (G : ℕ) (s : State) (i : List ℕ) → Mounted index nand K G s i → TreeOf (blocksOf (geometryOf nand) (length i)) K
+index-tree = mounted-tree
+
+-- the state is of the part that the start names
+pub index-nand : (nand : Nand) (K : Table) (G : ℕ) (s : State) (i : List ℕ) → Mounted index nand K G s i → s .nand ≡ nand
+unfolding stateOf resting
+index-nand nand K G s i m = ap (λ (q : Plain). q .nand) (m .is)
 
 -- the calls of the code, their keys of 32 bits, are lawful
 pub index-lawful : (c : Call) (torn : List ℕ) → KeyBits c → LawfulAct (actOf c torn)
-index-lawful (Format n) torn h = tt
+index-lawful (Format m n) torn h = tt
 index-lawful (Insert k v) torn h = insert-lawful k v h
 index-lawful (Delete k) torn h = delete-lawful k h
 index-lawful (LookUp k) torn h = tt
 index-lawful Forecast torn h = tt
 index-lawful (Commit n) torn h = tt
-index-lawful (Mount n) torn h = tt
+index-lawful (Mount m n) torn h = tt
 
 -- ---- what holds of every list
-pub index-promise : (g : Geometry) → P.Promise g (index g)
-index-promise g = L.promise g (index g)
+pub index-promise : P.Promise index
+index-promise = L.promise index
 
-pub index-claim : (g : Geometry) → P.OneClaim g (index g)
-index-claim g = L.one-claim g (index g)
+pub index-claim : P.OneClaim index
+index-claim = L.one-claim index
 
-pub index-choices : (g : Geometry) → P.ChosenThen g (index g)
-index-choices g = L.chosen-then g (index g)
+pub index-choices : P.ChosenThen index
+index-choices = L.chosen-then index
 
-pub index-any : (g : Geometry) → P.PromiseAny g (index g)
-index-any g = L.promise-any g (index g)
+pub index-any : P.PromiseAny index
+index-any = L.promise-any index
 
-pub index-foreign : (g : Geometry) → P.PromiseForeign g (index g)
-index-foreign g = L.promise-foreign g (index g)
+pub index-foreign : P.PromiseForeign index
+index-foreign = L.promise-foreign index
 
-pub index-good : (g : Geometry) → P.GoodAt g (index g)
-index-good g = L.good-at g (index g)
+pub index-good : P.GoodAt index
+index-good = L.good-at index
 
-pub index-commit : (g : Geometry) → P.CommitRefused g (index g)
-index-commit g = L.commit-refused g (index g)
+pub index-commit : P.CommitRefused index
+index-commit = L.commit-refused index
 
-pub index-mount : (g : Geometry) → P.MountRefused g (index g)
-index-mount g = L.mount-refused g (index g)
+pub index-mount : P.MountRefused index
+index-mount = L.mount-refused index
 
-pub index-format : (g : Geometry) → P.FormatRefused g (index g)
-index-format g = L.format-refused g (index g)
+pub index-format : P.FormatRefused index
+index-format = L.format-refused index
 
-pub index-power : (g : Geometry) → P.CommitPowered g (index g)
-index-power g = L.commit-powered g (index g)
+pub index-power : P.CommitPowered index
+index-power = L.commit-powered index
 
-pub index-look-up : (g : Geometry) → P.LookUpTells g (index g)
-index-look-up g = D.look-up-tells g (index g)
+pub index-look-up : P.LookUpTells index
+index-look-up = D.look-up-tells index
 
-pub index-durable : (g : Geometry) → P.Durable g (index g)
-index-durable g = D.durable g (index g)
+pub index-durable : P.Durable index
+index-durable = D.durable index
 
-pub index-choice : (g : Geometry) → P.ChoiceHolds g (index g)
-index-choice g = D.choice-holds g (index g)
+pub index-choice : P.ChoiceHolds index
+index-choice = D.choice-holds index
 
-pub index-mount-drops : (g : Geometry) → P.MountDrops g (index g)
-index-mount-drops g = D.mount-drops g (index g)
+pub index-mount-drops : P.MountDrops index
+index-mount-drops = D.mount-drops index
 
 -- ---- erases on record
-pub index-unworn : (g : Geometry) → E.StartsUnworn g (index g)
-index-unworn g = F.starts-unworn g (index g)
+pub index-unworn : E.StartsUnworn index
+index-unworn = F.starts-unworn index
 
-pub index-figures : (g : Geometry) → E.FiguresTell g (index g)
-index-figures g = F.figures-tell g (index g)
+pub index-figures : E.FiguresTell index
+index-figures = F.figures-tell index
 
-pub index-figures-any : (g : Geometry) → E.FiguresAny g (index g)
-index-figures-any g = F.figures-any g (index g)
+pub index-figures-any : E.FiguresAny index
+index-figures-any = F.figures-any index
 
-pub index-figures-fit : (g : Geometry) → E.FiguresFit g (index g)
-index-figures-fit g = F.figures-fit g (index g)
+pub index-figures-fit : E.FiguresFit index
+index-figures-fit = F.figures-fit index
 
--- ---- an erase pays: from a state that calls gave, with no call cut and no format finished; so after a finished format
-pub index-unbroken : (g : Geometry) (s : State) (i : List ℕ) (xs : List (Step (index g))) → Formatted g (index g) s i → Runs g (index g) (Only (index g) s) i xs
-    → W.NoneCut (index g) xs → NoFormat (index g) xs → W.Unbroken g (index g) s i xs
-index-unbroken g s i xs f r c n = record { good = index-starts g s i f .mounted .good; runs = r; uncut = c; unformatted = n }
+-- ---- an erase pays: from a state that calls gave, mounts naming its part, with no call cut and no format finished; so after a finished format
+pub index-unbroken : (nand : Nand) (s : State) (i : List ℕ) (xs : List (Step index)) → Formatted index nand s i → Runs index (Only index s) i xs
+    → Named index nand xs → W.NoneCut index xs → NoFormat index xs → W.Unbroken index s i xs
+index-unbroken nand s i xs f r m c n =
+    let k = index-starts nand s i f .mounted in
+    record { good = k .good; runs = r; named = subst (λ (p : Nand). Named index p xs) (sym (index-nand nand _ _ s i k)) m; uncut = c; unformatted = n }
 
-pub index-once-each : (g : Geometry) → W.OnceEach g (index g)
-index-once-each g = once-each g (index g)
+pub index-once-each : W.OnceEach index
+index-once-each = once-each index
 
-pub index-erases-pay : (g : Geometry) → W.ErasesPay g (index g)
-index-erases-pay g = erases-pay g (index g)
+pub index-erases-pay : W.ErasesPay index
+index-erases-pay = erases-pay index
 
-pub index-erases-few : (g : Geometry) → W.ErasesFew g (index g)
-index-erases-few g = erases-few g (index g)
+pub index-erases-few : W.ErasesFew index
+index-erases-few = erases-few index
 
-pub index-leaves-free : (g : Geometry) → W.LeavesFree g (index g)
-index-leaves-free g = leaves-free g (index g)
+pub index-leaves-free : W.LeavesFree index
+index-leaves-free = leaves-free index
 
 -- ---- what a commit would cost: a forecast put before a commit tells what that does; and it changes nothing
-pub index-forecast : (g : Geometry) → N.ForecastHolds g (index g)
-index-forecast g = forecast-holds g (index g)
+pub index-forecast : N.ForecastHolds index
+index-forecast = forecast-holds index
 
-pub index-forecast-now : (g : Geometry) → N.ForecastNow g (index g)
-index-forecast-now g = forecast-now g (index g)
+pub index-forecast-now : N.ForecastNow index
+index-forecast-now = forecast-now index
 
-pub index-read-still : (g : Geometry) → N.ReadStill g (index g)
-index-read-still g = read-still g (index g)
+pub index-read-still : N.ReadStill index
+index-read-still = read-still index
 
-pub index-refused-still : (g : Geometry) → N.RefusedStill g (index g)
-index-refused-still g = refused-still g (index g)
+pub index-refused-still : N.RefusedStill index
+index-refused-still = refused-still index
 
-pub index-still-out : (g : Geometry) → N.StillOut g (index g)
-index-still-out g = still-out g (index g)
+pub index-still-out : N.StillOut index
+index-still-out = still-out index

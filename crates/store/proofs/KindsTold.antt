@@ -11,13 +11,13 @@ use lib.Seq.{take-all}
 use borrow.Author.Tests.{leb-true, leb-false, ltb-true, ltb-false}
 use Rattle.lists.proofs.Tests.{cases}
 use Rattle.chip.specs.declared.progress.Counts.{Counts}
-use Rattle.chip.specs.Geometry.{Geometry, blocksOf}
+use Rattle.chip.specs.Geometry.{Geometry, blocksOf, Nand, geometryOf}
 use Rattle.chip.specs.Counts.{countsOf, nothing, total}
 use Rattle.chip.specs.Chip.{Op, kindOf, kindsOf, pagesOf}
 use Rattle.chip.proofs.CountLaws.{total-nothing}
 use Rattle.log.specs.Format.{formatOps}
 use Rattle.log.proofs.KindLaws.{format-kinds, mount-kinds, commit-kinds}
-use Rattle.promise.specs.Plain.{refuses, accepted, commits, formats, mounts, firstRefusal, isChipSize, isTornSize, noNumberLeft, numbersRefusal}
+use Rattle.promise.specs.Plain.{refuses, accepted, commits, formats, firstRefusal, isChipSize, isTornSize, noNumberLeft, numbersRefusal, startRefusal}
 use Rattle.promise.specs.Plain as Plain
 use Rattle.promise.specs.Calls as P
 use Rattle.promise.specs.Calls.{Meaning, invalid, means}
@@ -27,7 +27,7 @@ use Rattle.promise.proofs.Promise.{accepted-not, first-most, when-is}
 use Rattle.store.specs.declared.state.State.{State}
 use Rattle.store.specs.declared.state.Wrote.{Wrote}
 use Rattle.store.specs.Answers.{answerOf}
-use Rattle.store.specs.State.{commitOps}
+use Rattle.store.specs.State.{commitOps, geometryIn}
 use Rattle.store.specs.Contracts.{index, thePlan, theOps, toldOf, Proceeds, Formats, Mounts, Commits}
 use Rattle.store.proofs.CommitGood.{ops-some}
 use Rattle.store.proofs.EndedTests.{other}
@@ -36,10 +36,10 @@ use Rattle.store.proofs.EndedTests.{other}
 pub all-told : (n : ℕ) (os : List Op) → length os ≤ n → toldOf n os ≡ countsOf (kindsOf os)
 all-told n os h = ap countsOf (take-all n (kindsOf os) (omega (arith, length-map os kindOf)))
 
-module _ (g : Geometry) (n : ℕ) (torn : List ℕ) (s : State) (i : List ℕ) (r : Wrote) (i' : List ℕ) where
+module _ (n : ℕ) (torn : List ℕ) (s : State) (i : List ℕ) (r : Wrote) (i' : List ℕ) where
   -- an accepted call passed the first tests
-  passed : (c : Plain.Call) (m : ℕ) → firstRefusal g (s .on) (s .blocks) c ≡ m
-      → P.FirstTests g (index g) c s i (answerOf (r .answer)) (r .state) i' → answerOf (r .answer) ≡ accepted → firstRefusal g (s .on) (s .blocks) c ≡ 0
+  passed : (c : Plain.Call) (m : ℕ) → firstRefusal (s .nand) (s .on) (s .blocks) c ≡ m
+      → P.FirstTests index c s i (answerOf (r .answer)) (r .state) i' → answerOf (r .answer) ≡ accepted → firstRefusal (s .nand) (s .on) (s .blocks) c ≡ 0
   passed c zero e f a = e
   passed c (suc m) e f a = absurd (accepted-not (suc m) (sym a ∙ f .refused m e .0))
 
@@ -48,57 +48,60 @@ module _ (g : Geometry) (n : ℕ) (torn : List ℕ) (s : State) (i : List ℕ) (
   powered need p a =
       cases (leb need n) (λ t. leb-true need n t) (λ t. absurd (accepted-not 10 (sym a ∙ p .short (leb-false need n t) .0)))
 
-  -- ---- format
-  pub format-refused : Formats g n torn s i r i' → (k : ℕ) → answerOf (r .answer) ≡ refuses k → (k ≡ 10 → ⊥) → r .ops ≡ nothing
-  format-refused f k a d = total-nothing (r .ops) (f .says .quiet k a d)
+  -- ---- format and mount, as the part named
+  module _ (nand : Nand) where
+    pub format-refused : Formats nand n torn s i r i' → (k : ℕ) → answerOf (r .answer) ≡ refuses k → (k ≡ 10 → ⊥) → r .ops ≡ nothing
+    format-refused f k a d = total-nothing (r .ops) (f .says .quiet k a d)
 
-  pub format-told : Formats g n torn s i r i' → answerOf (r .answer) ≡ accepted → r .ops ≡ record { programs = 1; marks = 2; erases = blocksOf g (length i) }
-  format-told f a =
-      let z = passed (formats n (length i) (length torn)) _ refl (f .says .first) a in
-      f .kinds z
-      ∙ all-told n (formatOps g (blocksOf g (length i))) (powered (length (formatOps g (blocksOf g (length i)))) (f .says .power z) a)
-      ∙ format-kinds g (blocksOf g (length i))
+    pub format-told : Formats nand n torn s i r i' → answerOf (r .answer) ≡ accepted → r .ops ≡ record { programs = 1; marks = 2; erases = blocksOf (geometryOf nand) (length i) }
+    format-told f a =
+        let z = passed (formats nand n (length i) (length torn)) _ refl (f .says .first) a in
+        f .kinds z
+        ∙ all-told n (formatOps (geometryOf nand) (blocksOf (geometryOf nand) (length i))) (powered (length (formatOps (geometryOf nand) (blocksOf (geometryOf nand) (length i)))) (f .says .power z) a)
+        ∙ format-kinds (geometryOf nand) (blocksOf (geometryOf nand) (length i))
 
-  -- ---- mount
-  pub mount-refused : Mounts g n torn s i r i' → (k : ℕ) → answerOf (r .answer) ≡ refuses k → (k ≡ 10 → ⊥) → r .ops ≡ nothing
-  mount-refused f k a d = total-nothing (r .ops) (f .says .quiet k a d)
+    pub mount-refused : Mounts nand n torn s i r i' → (k : ℕ) → answerOf (r .answer) ≡ refuses k → (k ≡ 10 → ⊥) → r .ops ≡ nothing
+    mount-refused f k a d = total-nothing (r .ops) (f .says .quiet k a d)
 
-  -- finished, cut or refused: marks alone
-  abbrev MarksAlone : Counts → Type 0
-  MarksAlone c = (c .programs ≡ 0) × (c .erases ≡ 0)
+    -- finished, cut or refused: marks alone
+    abbrev MarksAlone : Counts → Type 0
+    MarksAlone c = (c .programs ≡ 0) × (c .erases ≡ 0)
 
-  alone : (c : Counts) → c ≡ nothing → MarksAlone c
-  alone c e = (ap (λ (d : Counts). d .programs) e, ap (λ (d : Counts). d .erases) e)
+    alone : (c : Counts) → c ≡ nothing → MarksAlone c
+    alone c e = (ap (λ (d : Counts). d .programs) e, ap (λ (d : Counts). d .erases) e)
 
-  by-meaning : Mounts g n torn s i r i' → firstRefusal g (s .on) (s .blocks) (mounts n (length i) (length torn)) ≡ 0
-      → (m : Meaning) → imageMeaning g i ≡ m → MarksAlone (r .ops)
-  by-meaning f z (invalid k) e = alone (r .ops) (total-nothing (r .ops) (f .says .refused z k e .1))
-  by-meaning f z (means K G) e =
-      let q = f .kinds z K G e ∙ mount-kinds g n (pagesOf g i) in
-      (ap (λ (d : Counts). d .programs) q, ap (λ (d : Counts). d .erases) q)
+    by-meaning : Mounts nand n torn s i r i' → startRefusal (geometryOf nand) (length i) (length torn) ≡ 0
+        → (m : Meaning) → imageMeaning (geometryOf nand) i ≡ m → MarksAlone (r .ops)
+    by-meaning f z (invalid k) e = alone (r .ops) (total-nothing (r .ops) (f .says .refused z k e .1))
+    by-meaning f z (means K G) e =
+        let q = f .kinds z K G e ∙ mount-kinds (geometryOf nand) n (pagesOf (geometryOf nand) i) in
+        (ap (λ (d : Counts). d .programs) q, ap (λ (d : Counts). d .erases) q)
 
-  ten-not : (m : ℕ) → firstRefusal g (s .on) (s .blocks) (mounts n (length i) (length torn)) ≡ suc m → suc m ≡ 10 → ⊥
-  ten-not m e t = omega (arith, when-is 1 m (not (isChipSize g (length i) && isTornSize g (length torn))) e, t)
+    ten-not : (m : ℕ) → startRefusal (geometryOf nand) (length i) (length torn) ≡ suc m → suc m ≡ 10 → ⊥
+    ten-not m e t = omega (arith, when-is 1 m (not (isChipSize (geometryOf nand) (length i) && isTornSize (geometryOf nand) (length torn))) e, t)
 
-  by-first : Mounts g n torn s i r i' → (m : ℕ) → firstRefusal g (s .on) (s .blocks) (mounts n (length i) (length torn)) ≡ m → MarksAlone (r .ops)
-  by-first f zero e = by-meaning f e (imageMeaning g i) refl
-  by-first f (suc m) e = alone (r .ops) (mount-refused f (suc m) (f .says .first .refused m e .0) (λ t. ten-not m e t))
+    by-first : Mounts nand n torn s i r i' → (m : ℕ) → startRefusal (geometryOf nand) (length i) (length torn) ≡ m → MarksAlone (r .ops)
+    by-first f zero e = by-meaning f e (imageMeaning (geometryOf nand) i) refl
+    by-first f (suc m) e = alone (r .ops) (mount-refused f (suc m) (f .says .first .refused m e .0) (λ t. ten-not m e t))
 
-  pub mount-told : Mounts g n torn s i r i' → MarksAlone (r .ops)
-  mount-told f = by-first f (firstRefusal g (s .on) (s .blocks) (mounts n (length i) (length torn))) refl
+    pub mount-told : Mounts nand n torn s i r i' → MarksAlone (r .ops)
+    mount-told f = by-first f (startRefusal (geometryOf nand) (length i) (length torn)) refl
 
   -- ---- commit
-  pub commit-refused : Commits g n torn s i r i' → (k : ℕ) → answerOf (r .answer) ≡ refuses k → (k ≡ 10 → ⊥) → r .ops ≡ nothing
+  abbrev g : Geometry
+  g = geometryIn s
+
+  pub commit-refused : Commits n torn s i r i' → (k : ℕ) → answerOf (r .answer) ≡ refuses k → (k ≡ 10 → ⊥) → r .ops ≡ nothing
   commit-refused f k a d = total-nothing (r .ops) (f .says .quiet k a d .0)
 
   -- on any state: accepted or cut, it passed its tests
   abbrev call : Plain.Call
   call = commits n (length i) (length torn)
 
-  tested : Commits g n torn s i r i' → (x y : ℕ) → firstRefusal g (s .on) (s .blocks) call ≡ x → numbersRefusal (s .pending) (s .commit) call ≡ y
-      → ((k : ℕ) → k ≤ 6 → answerOf (r .answer) ≡ refuses k → ⊥) → (firstRefusal g (s .on) (s .blocks) call ≡ 0) × (numbersRefusal (s .pending) (s .commit) call ≡ 0)
+  tested : Commits n torn s i r i' → (x y : ℕ) → firstRefusal (s .nand) (s .on) (s .blocks) call ≡ x → numbersRefusal (s .pending) (s .commit) call ≡ y
+      → ((k : ℕ) → k ≤ 6 → answerOf (r .answer) ≡ refuses k → ⊥) → (firstRefusal (s .nand) (s .on) (s .blocks) call ≡ 0) × (numbersRefusal (s .pending) (s .commit) call ≡ 0)
   tested f (suc x) y e l d =
-      let w = first-most g (commit n torn) (length i) (s .on) (s .blocks) in
+      let w = first-most (s .nand) (commit n torn) (length i) (s .on) (s .blocks) in
       absurd (d (suc x) (omega arith) (f .says .first .refused x e .0))
   tested f zero (suc y) e l d =
       let w = when-is 6 y (noNumberLeft (s .pending) (s .commit)) l in
@@ -106,18 +109,18 @@ module _ (g : Geometry) (n : ℕ) (torn : List ℕ) (s : State) (i : List ℕ) (
   tested f zero zero e l d = (e, l)
 
   -- finished with updates pending: a data program and two marks for each page of the plan, and its erases
-  pub commit-told : Commits g n torn s i r i' → 0 < s .pending → answerOf (r .answer) ≡ accepted
+  pub commit-told : Commits n torn s i r i' → 0 < s .pending → answerOf (r .answer) ≡ accepted
       → r .ops ≡ record { programs = length (thePlan g s i .written); marks = 2 * length (thePlan g s i .written); erases = length (thePlan g s i .erased) }
   commit-told f h a =
       f .kinds c
       ∙ all-told n (theOps g s i) enough
       ∙ commit-kinds g (s .commit) (thePlan g s i)
     where
-      c : Proceeds g n torn s i
+      c : Proceeds n torn s i
       c = let t = tested f _ _ refl refl (λ k l q. accepted-not k (sym a ∙ q)) in record { passes = t .0; numbers = t .1; pending = h }
 
-      able : index g .able s i ≡ true
-      able = cases (index g .able s i) (λ t. t) (λ t. absurd (accepted-not 6 (sym a ∙ f .says .stuck c t)))
+      able : index .able s i ≡ true
+      able = cases (index .able s i) (λ t. t) (λ t. absurd (accepted-not 6 (sym a ∙ f .says .stuck c t)))
 
       enough : length (theOps g s i) ≤ n
       enough =
@@ -125,11 +128,11 @@ module _ (g : Geometry) (n : ℕ) (torn : List ℕ) (s : State) (i : List ℕ) (
           omega (arith, p, ap length (ops-some g s i h))
 
   -- cut: the counts add up to the allowance
-  pub commit-spent : Commits g n torn s i r i' → answerOf (r .answer) ≡ refuses 10 → total (r .ops) ≡ n
+  pub commit-spent : Commits n torn s i r i' → answerOf (r .answer) ≡ refuses 10 → total (r .ops) ≡ n
   commit-spent f a =
       cases (ltb 0 (s .pending))
-      (λ t. let c : Proceeds g n torn s i = record { passes = z .0; numbers = z .1; pending = ltb-true 0 (s .pending) t } in
-      cases (index g .able s i)
+      (λ t. let c : Proceeds n torn s i = record { passes = z .0; numbers = z .1; pending = ltb-true 0 (s .pending) t } in
+      cases (index .able s i)
       (λ b. cases (leb (length (commitOps g s i)) n)
       (λ l. absurd (accepted-not 10 (sym (f .says .power c b .enough (leb-true (length (commitOps g s i)) n l) .0) ∙ a)))
       (λ l. f .says .power c b .short (leb-false (length (commitOps g s i)) n l) .1))
@@ -139,5 +142,5 @@ module _ (g : Geometry) (n : ℕ) (torn : List ℕ) (s : State) (i : List ℕ) (
       apart : (k : ℕ) → k ≤ 6 → answerOf (r .answer) ≡ refuses k → ⊥
       apart k l q = other 10 k (λ u. omega arith) (sym a ∙ q)
 
-      z : (firstRefusal g (s .on) (s .blocks) call ≡ 0) × (numbersRefusal (s .pending) (s .commit) call ≡ 0)
+      z : (firstRefusal (s .nand) (s .on) (s .blocks) call ≡ 0) × (numbersRefusal (s .pending) (s .commit) call ≡ 0)
       z = tested f _ _ refl refl apart

@@ -25,7 +25,7 @@ use Rattle.store.specs.declared.answer.Look.{Look}
 use Rattle.store.specs.declared.answer.Look.the-variants as L
 use Rattle.store.specs.declared.state.State.{State}
 use Rattle.store.specs.Answers.{lookOf, pagesTold}
-use Rattle.store.specs.State.{limitOf, nodeFrom, nodesOf, presentOf, Good}
+use Rattle.store.specs.State.{limitOf, nodeFrom, nodesOf, presentOf, Good, geometryIn}
 use Rattle.store.specs.Contracts.{listLengths, Looks}
 use Rattle.store.proofs.AdmitLaws.{first-refused, first-passed, not-one}
 use Rattle.store.proofs.StartTree.{present-size}
@@ -67,15 +67,18 @@ look-is : (f : Found) (n : ℕ) → (lookOf (lookFrom f n) ≡ lookedUp f) × (p
 look-is absent n = (refl, refl, λ e. not-one e (λ z. omega arith), λ e. not-one e (λ z. omega arith), refl)
 look-is (found v) n = (refl, refl, λ e. (let z : _≡_ {A = ℕ} 0 1 = cc in absurd (omega arith)), λ e. (let z : _≡_ {A = ℕ} 0 1 = cc in absurd (omega arith)), refl)
 
-module _ (g : Geometry) (k : ℕ) (s : State) (i : List ℕ) where
+module _ (k : ℕ) (s : State) (i : List ℕ) where
+  abbrev g : Geometry
+  g = geometryIn s
+
   -- refused with 2 or 1
-  pub look-refused : (r : Look) (n : ℕ) → lookOf r ≡ refuses (suc n) → tellsOr (2 ∷ 1 ∷ 4 ∷ []) (lookOf r) ≡ true → pagesTold r ≡ 0 → suc n ≡ admission g (s .on) (s .blocks) (length i) → Looks g k s i r
+  pub look-refused : (r : Look) (n : ℕ) → lookOf r ≡ refuses (suc n) → tellsOr (2 ∷ 1 ∷ 4 ∷ []) (lookOf r) ≡ true → pagesTold r ≡ 0 → suc n ≡ admission g (s .on) (s .blocks) (length i) → Looks k s i r
   unfolding lookingUp
   look-refused r n q kind p e =
       record {
         says =
             record {
-              first = first-refused g (looksUp k (length i)) s i (lookOf r) n e q;
+              first = first-refused (looksUp k (length i)) s i (lookOf r) n e q;
               range = kind;
               same = record { state = refl; image = refl };
               done = λ _ h. let z : suc n ≡ 0 = e ∙ h in absurd (omega arith);
@@ -88,7 +91,7 @@ module _ (g : Geometry) (k : ℕ) (s : State) (i : List ℕ) where
 
   module _ (e : 0 ≡ admission g (s .on) (s .blocks) (length i)) where
     look-done : (f : Found) (n : ℕ) → k < top → f ≡ find k (presentOf g s i) → n ≡ pagesRead (s .lens) (s .slots) (path k (presentOf g s i)) → n ≤ 16
-        → Looks g k s i (lookFrom f n)
+        → Looks k s i (lookFrom f n)
     unfolding lookingUp stateOf
     look-done f n h q p l =
         let w = look-is f n in
@@ -96,7 +99,7 @@ module _ (g : Geometry) (k : ℕ) (s : State) (i : List ℕ) where
         record {
           says =
               record {
-                first = first-passed g (looksUp k (length i)) s i (lookOf (lookFrom f n)) s e (w .2) (w .3);
+                first = first-passed (looksUp k (length i)) s i (lookOf (lookFrom f n)) s e (w .2) (w .3);
                 range = w .4;
                 same = record { state = refl; image = refl };
                 done = λ _ _. u;
@@ -108,6 +111,6 @@ module _ (g : Geometry) (k : ℕ) (s : State) (i : List ℕ) where
         }
 
     pub looked : (t : Looked) → Answers (s .lens) (s .slots) k (shown g (8 * s .blocks) (pagesOf g i) (s .lens) (s .slots) (s .count) (s .buffer)) t
-        → k < top → (f : Found) → hitOf (t .hit) ≡ f → Looks g k s i (lookFrom f (t .pages))
+        → k < top → (f : Found) → hitOf (t .hit) ≡ f → Looks k s i (lookFrom f (t .pages))
     unfolding presentOf
     looked t a h f q = look-done f (t .pages) h (sym q ∙ a .found) (a .pages) (a .few)

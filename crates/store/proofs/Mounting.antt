@@ -14,8 +14,8 @@ use Rattle.lists.proofs.Alls.{All-filter}
 use Rattle.lists.proofs.Places.{at-seam, getD-same}
 use Rattle.chip.specs.declared.progress.Progress.{Progress}
 use Rattle.chip.specs.declared.power.Power.the-variants.{Left}
-use Rattle.chip.specs.Geometry.{Geometry, Fits, blocksOf, pageSize}
-use Rattle.chip.proofs.Sizes.{blocks-pages}
+use Rattle.chip.specs.Geometry.{Geometry, Fits, blocksOf, pageSize, Nand, geometryOf}
+use Rattle.chip.proofs.Sizes.{blocks-pages, nand-fits}
 use Rattle.chip.specs.Power.{isGone}
 use Rattle.chip.specs.Counts.{nothing, total}
 use Rattle.chip.specs.Page.{Page, isLive}
@@ -35,7 +35,7 @@ use Rattle.log.proofs.MountLaws.{clean-none, clean-stays, mount-erases, mount-l
 use Rattle.log.proofs.PlanBlocks.{has-room, room-has}
 use Rattle.log.proofs.PlanRoom.{LiveAt, obsoletes, room-marks}
 use Rattle.log.specs.MountCode.{retireOps}
-use Rattle.promise.specs.Plain.{Plain, mounts, firstRefusal, refuses, resting}
+use Rattle.promise.specs.Plain.{Plain, refuses, resting, startRefusal}
 use Rattle.promise.specs.Plain as Plain
 use Rattle.promise.specs.Calls as P
 use Rattle.promise.specs.Calls.{invalid, isOneOf, acceptsOr}
@@ -46,7 +46,7 @@ use Rattle.store.specs.declared.state.State.{State}
 use Rattle.store.specs.declared.state.Wrote.{Wrote}
 use Rattle.store.specs.Answers.{answerOf}
 use Rattle.store.specs.AdmitCode.{ChipOf, Sized}
-use Rattle.store.specs.State.{Good, RoomIn, Room}
+use Rattle.store.specs.State.{Good, RoomIn, Room, geometryIn}
 use Rattle.store.specs.FreshCode.{NextOf, mountedState}
 use Rattle.store.specs.CheckCode.{marksOf, Read}
 use Rattle.store.specs.EndingCode.{refusedWith, acceptedWith, endedWith}
@@ -86,11 +86,21 @@ good-none : (g : Geometry) (t : State) (i : List ℕ) → Good g t i → mountOp
 good-none g t i h = clean-none g (pagesOf g i) (ordered (liveFrom g 0 (pagesOf g i))) (h .clean)
 
 -- ---- a mount refused by its sizes
-module _ (g : Geometry) (fit : Fits g) (allowance : ℕ) (torn : List ℕ) (s : State) (i : List ℕ) (bytes : (j : ℕ) → getD i j 0 < 256) where
-  abbrev first : ℕ
-  first = firstRefusal g (s .on) (s .blocks) (mounts allowance (length i) (length torn))
+module _ (nand : Nand) (allowance : ℕ) (torn : List ℕ) (s : State) (i : List ℕ) (bytes : (j : ℕ) → getD i j 0 < 256) where
+  abbrev g : Geometry
+  g = geometryOf nand
 
-  pub size-mounts : Sized g (length i) (length torn) 0 → Mounts g allowance torn s i (record { answer = Size; ops = nothing; state = s }) i
+  fit : Fits g
+  fit = nand-fits nand
+
+  abbrev first : ℕ
+  first = startRefusal g (length i) (length torn)
+
+  -- a state of this part that calls gave for the image
+  of-part : (t : State) → Good (geometryIn t) t i → t .nand ≡ nand → Good g t i
+  of-part t h e = subst (λ (m : Nand). Good (geometryOf m) t i) e h
+
+  pub size-mounts : Sized g (length i) (length torn) 0 → Mounts nand allowance torn s i (record { answer = Size; ops = nothing; state = s }) i
   size-mounts z =
       let one : first ≡ 1 = not-admitted g (length i) (length torn) z in
       let never : first ≡ 0 → ⊥ = λ e. omega arith in
@@ -112,7 +122,7 @@ module _ (g : Geometry) (fit : Fits g) (allowance : ℕ) (torn : List ℕ) (s : 
           cut = λ e K G m l. absurd (never e);
           zeros = λ e. absurd (accepted-not 1 (sym e));
           noErase = mount-erases g (pagesOf g i);
-          still = λ t h. (good-none g t i h, refl);
+          still = λ t h e. (good-none g t i (of-part t h e), refl);
         };
         kinds = λ e K G m. absurd (never e);
         bytes = λ e K G m. absurd (never e);
@@ -127,7 +137,7 @@ module _ (g : Geometry) (fit : Fits g) (allowance : ℕ) (torn : List ℕ) (s : 
     passes = admitted g b (length i) (length torn) chip long
 
     -- refused for what the image means
-    pub invalid-mounts : (a : Answer) (n : ℕ) → answerOf a ≡ refuses n → 2 < n → isOneOf n (1 ∷ 7 ∷ 8 ∷ 9 ∷ 10 ∷ []) ≡ true → imageMeaning g i ≡ invalid n → Mounts g allowance torn s i (refusedWith a nothing s) i
+    pub invalid-mounts : (a : Answer) (n : ℕ) → answerOf a ≡ refuses n → 2 < n → isOneOf n (1 ∷ 7 ∷ 8 ∷ 9 ∷ 10 ∷ []) ≡ true → imageMeaning g i ≡ invalid n → Mounts nand allowance torn s i (refusedWith a nothing s) i
     invalid-mounts a n is low kind m =
         let zero : first ≡ 0 = passes in
         let no : (K : Table) (G : ℕ) → imageMeaning g i ≡ P.means K G → ⊥ = λ K G e. let u : _≡_ {A = ℕ} 0 1 = cc in omega arith in
@@ -149,7 +159,7 @@ module _ (g : Geometry) (fit : Fits g) (allowance : ℕ) (torn : List ℕ) (s : 
             cut = λ e K G q l. absurd (no K G q);
             zeros = λ e. absurd (accepted-not n (sym e ∙ is));
             noErase = mount-erases g (pagesOf g i);
-            still = λ t h. (good-none g t i h, refl);
+            still = λ t h e. (good-none g t i (of-part t h e), refl);
           };
           kinds = λ e K G q. absurd (no K G q);
           bytes = λ e K G q. absurd (no K G q);
@@ -189,8 +199,9 @@ module _ (g : Geometry) (fit : Fits g) (allowance : ℕ) (torn : List ℕ) (s : 
       sizes = image-sized g i b (chip .size)
 
       -- without a void page the image stays as it is
-      still : (t : State) → Good g t i → (mountOps g ps ≡ []) × (i' ≡ i)
-      still t h =
+      still : (t : State) → Good (geometryIn t) t i → t .nand ≡ nand → (mountOps g ps ≡ []) × (i' ≡ i)
+      still t w e =
+          let h = of-part t w e in
           let z = chip .size in (
             good-none g t i h,
             same-image g i (b * g .pages) (blocks-pages g fit (length i) b z) (z ∙ sym (mul-assoc b (g .pages) (pageSize g))) i' (ran .size)
@@ -198,7 +209,7 @@ module _ (g : Geometry) (fit : Fits g) (allowance : ℕ) (torn : List ℕ) (s : 
           )
 
       keeps : Views.meaning g limit (pagesOf g i') ≡ Views.meaning g limit ps
-      keeps = ap (Views.meaning g limit) pages-are ∙ mount-keeps g limit torn (omega arith) ps sizes allowance
+      keeps = ap (Views.meaning g limit) pages-are ∙ mount-keeps g limit torn (omega (arith, fit .marks)) ps sizes allowance
 
       same-size : 8 * blocksOf g (length i') ≡ limit
       same-size = ap (λ (n : ℕ). 8 * blocksOf g n) (ran .size)
@@ -242,7 +253,7 @@ module _ (g : Geometry) (fit : Fits g) (allowance : ℕ) (torn : List ℕ) (s : 
       never-invalid n e = let m = means-is in let u : _≡_ {A = ℕ} 0 1 = cc in omega arith
 
       -- ---- cut
-      cut-mounts : isGone (reached .left) ≡ true → Mounts g allowance torn s i (refusedWith Cut (reached .done) s) i'
+      cut-mounts : isGone (reached .left) ≡ true → Mounts nand allowance torn s i (refusedWith Cut (reached .done) s) i'
       cut-mounts ok =
           let zero : first ≡ 0 = passes in
           let short : allowance < length (mountOps g ps) = ltb-true allowance (length (mountOps g ps)) (sym gone-is ∙ ok) in
@@ -280,12 +291,12 @@ module _ (g : Geometry) (fit : Fits g) (allowance : ℕ) (torn : List ℕ) (s : 
         enough = ltb-false allowance (length (mountOps g ps)) (sym gone-is ∙ ok)
 
         abbrev st : State
-        st = mountedState b G next buffer lens slots
+        st = mountedState nand b G next buffer lens slots
 
         begun : Begun g st i' (rd .nodes)
         begun =
             let z = ran .size in
-            let k = mount-clean g limit torn (omega arith) ps sizes allowance (rd .nodes) G (rd .means) enough .clean in
+            let k = mount-clean g limit torn (omega (arith, fit .marks)) ps sizes allowance (rd .nodes) G (rd .means) enough .clean in
             record {
               chip = rw z chip;
               bytes = bytes';
@@ -300,19 +311,19 @@ module _ (g : Geometry) (fit : Fits g) (allowance : ℕ) (torn : List ℕ) (s : 
             }
 
         plain-same : (K K' : Table) (H H' a a' : ℕ) → K ≡ K' → H ≡ H' → a ≡ a'
-            → _≡_ {A = Plain} (record { kept = K; present = K; pending = 0; number = H; on = true; blocks = a })
-            (record { kept = K'; present = K'; pending = 0; number = H'; on = true; blocks = a' })
+            → _≡_ {A = Plain} (record { kept = K; present = K; pending = 0; number = H; on = true; nand = nand; blocks = a })
+            (record { kept = K'; present = K'; pending = 0; number = H'; on = true; nand = nand; blocks = a' })
         plain-same K K' H H' a a' p q r = rw (p, q, r)
 
-        is-done : (K : Table) (H : ℕ) → imageMeaning g i ≡ P.means K H → P.stateOf (index g) st i' ≡ resting K H (blocksOf g (length i))
+        is-done : (K : Table) (H : ℕ) → imageMeaning g i ≡ P.means K H → P.stateOf index st i' ≡ resting nand K H (blocksOf g (length i))
         unfolding resting
         is-done K H m =
             let e = means-is in
             let p : viewsOf (rd .nodes) ≡ K = cc in
             let q : G ≡ H = cc in
-            begun-state g st i' (rd .nodes) begun ∙ plain-same (viewsOf (rd .nodes)) K G H b (blocksOf g (length i)) p q (chip .blocks)
+            begun-state st i' (rd .nodes) begun ∙ plain-same (viewsOf (rd .nodes)) K G H b (blocksOf g (length i)) p q (chip .blocks)
 
-        done-mounts : Mounts g allowance torn s i (acceptedWith (reached .done) st) i'
+        done-mounts : Mounts nand allowance torn s i (acceptedWith (reached .done) st) i'
         done-mounts =
             let zero : first ≡ 0 = passes in
             let fits = enough in
@@ -348,8 +359,8 @@ module _ (g : Geometry) (fit : Fits g) (allowance : ℕ) (torn : List ℕ) (s : 
     pub marked-mounts : (lens slots : List ℕ) (G v : ℕ) → Read g i lens slots G v → (i' : List ℕ) → allowance < 2 ^ 32 → (p reached : Progress) → p ≡ atStart allowance
         → Ran g torn (marksOf g v (pagesOf g i)) p reached i i' → ((j : ℕ) → getD i' j 0 < 256)
         → (next : ℕ) → NextOf (8 * b) lens next → (buffer : List ℕ) (r : Wrote)
-        → r ≡ endedWith reached s (mountedState b G next buffer lens slots) → Mounts g allowance torn s i r i'
+        → r ≡ endedWith reached s (mountedState nand b G next buffer lens slots) → Mounts nand allowance torn s i r i'
     marked-mounts lens slots G v rd i' low p reached from ran bytes' next nx buffer =
-        either-end reached s (mountedState b G next buffer lens slots) (λ (r : Wrote). Mounts g allowance torn s i r i')
+        either-end reached s (mountedState nand b G next buffer lens slots) (λ (r : Wrote). Mounts nand allowance torn s i r i')
         (λ t. cut-mounts lens slots G v rd i' low p reached from ran t)
         (λ t. done-mounts lens slots G v rd i' low p reached from ran bytes' next nx buffer t)

@@ -14,11 +14,12 @@ use Rattle.chip.specs.Geometry.{Geometry, Fits, pageSize, blockSize}
 use Rattle.chip.specs.Page.{isFree}
 use Rattle.chip.specs.Chip.{pagesOf}
 use Rattle.chip.proofs.ImageLaws.{block-cut}
-use Rattle.chip.proofs.Sizes.{block-on, block-end, blocks-pages}
+use Rattle.chip.proofs.Sizes.{block-on, block-end, blocks-pages, nand-fits}
 use Rattle.promise.specs.Plain.{admission, orElse, when}
 use Rattle.store.specs.declared.answer.Report.{Report}
 use Rattle.store.specs.declared.answer.Report.the-variants.{Free, Absent}
 use Rattle.store.specs.declared.state.State.{State}
+use Rattle.store.specs.State.{geometryIn}
 use Rattle.store.specs.Answers.{reportRefusal}
 use Rattle.store.specs.Contracts.{reportNumber, blockPages, Reports}
 
@@ -54,9 +55,12 @@ first-or : (n m : ℕ) → 0 < n → n ≡ orElse n m
 first-or zero m h = absurd (omega arith)
 first-or (suc n) m h = refl
 
-module _ (g : Geometry) (b : ℕ) (s : State) (i : List ℕ) where
+module _ (b : ℕ) (s : State) (i : List ℕ) where
+  abbrev g : Geometry
+  g = geometryIn s
+
   -- refused with 2 or 1
-  pub report-first : (r : Report) → 0 < reportRefusal r → reportRefusal r ≡ admission g (s .on) (s .blocks) (length i) → Reports g b s i r
+  pub report-first : (r : Report) → 0 < reportRefusal r → reportRefusal r ≡ admission g (s .on) (s .blocks) (length i) → Reports b s i r
   report-first r h e =
       record {
         refusal = first-or (reportRefusal r) (when 4 (leb (s .blocks) b)) h ∙ ap (λ (m : ℕ). orElse m (when 4 (leb (s .blocks) b))) e;
@@ -66,11 +70,11 @@ module _ (g : Geometry) (b : ℕ) (s : State) (i : List ℕ) where
       }
 
   module _ (e : 0 ≡ admission g (s .on) (s .blocks) (length i)) where
-    number-is : (n : ℕ) → n ≡ when 4 (leb (s .blocks) b) → n ≡ reportNumber g s (length i) b
+    number-is : (n : ℕ) → n ≡ when 4 (leb (s .blocks) b) → n ≡ reportNumber s (length i) b
     number-is n q = q ∙ ap (λ (m : ℕ). orElse m (when 4 (leb (s .blocks) b))) e
 
     -- and with 4
-    pub report-absent : s .blocks ≤ b → Reports g b s i Absent
+    pub report-absent : s .blocks ≤ b → Reports b s i Absent
     report-absent h =
         record {
           refusal = number-is 4 (rw (le-leb (s .blocks) b h));
@@ -80,11 +84,11 @@ module _ (g : Geometry) (b : ℕ) (s : State) (i : List ℕ) where
         }
 
     -- the free pages of the block's part of the image
-    pub report-free : Fits g → b < s .blocks → length i ≡ s .blocks * blockSize g → (n f e size : ℕ) → size ≡ blockSize g
+    pub report-free : b < s .blocks → length i ≡ s .blocks * blockSize g → (n f e size : ℕ) → size ≡ blockSize g
         → n ≡ count isFree (pagesOf g (part (b * blockSize g) size i)) → f ≡ first isFree (pagesOf g (part (b * blockSize g) size i))
-        → e ≡ getD (s .erases) b 0 → Reports g b s i (Free n f e)
-    report-free fit h l n f e size z c d k =
-        let w : pagesOf g (part (b * blockSize g) size i) ≡ blockPages g b i = ap (λ (m : ℕ). pagesOf g (part (b * blockSize g) m i)) z ∙ block-pages g fit b (s .blocks) i l h in
+        → e ≡ getD (s .erases) b 0 → Reports b s i (Free n f e)
+    report-free h l n f e size z c d k =
+        let w : pagesOf g (part (b * blockSize g) size i) ≡ blockPages g b i = ap (λ (m : ℕ). pagesOf g (part (b * blockSize g) m i)) z ∙ block-pages g (nand-fits (s .nand)) b (s .blocks) i l h in
         record {
           refusal = number-is 0 (rw (lt-leb (s .blocks) b h));
           free = λ _. c ∙ ap (count isFree) w;

@@ -6,9 +6,11 @@ use native.Mathlib.Omega.{arith}
 use lib.Dec.{ltb}
 use borrow.Author.Tests.{eq-eqb, ne-eqb, lt-ltb, le-ltb}
 use Rattle.lists.proofs.Tests.{cases}
-use Rattle.chip.specs.Geometry.{Geometry, Fits, blocksOf, blockSize, mostPages, pageSize}
+use Rattle.chip.specs.declared.geometry.Nand.the-variants.{Small, Large}
+use Rattle.chip.specs.Geometry.{Geometry, Nand, Fits, geometryOf, blocksOf, blockSize, mostPages, pageSize}
 use Rattle.chip.proofs.Sizes.{chip-size, blocks-pages, blocks-whole, pages-most}
-use Rattle.promise.specs.Plain.{when, isChipSize, isTornSize}
+use Rattle.log.specs.Plan.{mostOps}
+use Rattle.promise.specs.Plain.{enoughWrites, startRefusal, isChipSize, isTornSize, when}
 use Rattle.store.specs.AdmitCode.{ChipOf, Sized}
 
 -- an image that has blocks is a chip
@@ -58,10 +60,10 @@ sized-test g len slice b z =
     never false = sym (le-ltb 0 0 (omega arith))
 
 -- so the refusal is 1, or none
-pub first-some : (g : Geometry) (len slice b : ℕ) → Sized g len slice b → 0 < b → when 1 (not (isChipSize g len && isTornSize g slice)) ≡ 0
+pub first-some : (g : Geometry) (len slice b : ℕ) → Sized g len slice b → 0 < b → startRefusal g len slice ≡ 0
 first-some g len slice b z h = ap (λ (x : Bool). when 1 (not x)) (sized-test g len slice b z ∙ lt-ltb 0 b h)
 
-pub first-none : (g : Geometry) (len slice b : ℕ) → Sized g len slice b → b ≡ 0 → when 1 (not (isChipSize g len && isTornSize g slice)) ≡ 1
+pub first-none : (g : Geometry) (len slice b : ℕ) → Sized g len slice b → b ≡ 0 → startRefusal g len slice ≡ 1
 first-none g len slice b z h = ap (λ (x : Bool). when 1 (not x)) (sized-test g len slice b z ∙ le-ltb 0 b (omega arith))
 
 -- a chip and a torn slice of a page, by the test of both
@@ -69,8 +71,13 @@ pub sized-chip : (g : Geometry) (len slice r : ℕ) → Sized g len slice r → 
 sized-chip g len slice r s d = let h : 0 < r = omega arith in (s .chip h, s .torn h)
 
 -- the first tests of a format and of a mount
-pub admitted : (g : Geometry) (b len slice : ℕ) → ChipOf g b len → slice ≡ pageSize g → when 1 (not (isChipSize g len && isTornSize g slice)) ≡ 0
+pub admitted : (g : Geometry) (b len slice : ℕ) → ChipOf g b len → slice ≡ pageSize g → startRefusal g len slice ≡ 0
 admitted g b len slice c e = first-some g len slice b (sized-some g len slice b e (c .blocks)) (omega (arith, c .least))
 
-pub not-admitted : (g : Geometry) (len slice : ℕ) → Sized g len slice 0 → when 1 (not (isChipSize g len && isTornSize g slice)) ≡ 1
+pub not-admitted : (g : Geometry) (len slice : ℕ) → Sized g len slice 0 → startRefusal g len slice ≡ 1
 not-admitted g len slice s = first-none g len slice 0 s refl
+
+-- the most operations of a commit are few enough on either part
+pub enough-most : (n : Nand) → mostOps (geometryOf n) ≤ enoughWrites n
+enough-most Small = omega arith
+enough-most Large = omega arith

@@ -4,7 +4,7 @@ use mathlib.Core.List.{List}
 use Prim.Native.Nat.{ℕ, _≤_}
 use lib.ListN.{length}
 use Rattle.lists.proofs.Flats.{length-tab}
-use Rattle.chip.specs.Geometry.{Geometry, blocksOf}
+use Rattle.chip.specs.Geometry.{Geometry, blocksOf, Nand, geometryOf}
 use Rattle.tree.specs.Tree.{Table}
 use Rattle.tree.specs.Shown.{shown}
 use Rattle.promise.specs.Plain.{Plain, resting}
@@ -12,7 +12,7 @@ use Rattle.promise.specs.Calls.{stateOf}
 use Rattle.promise.specs.Steps.{Mounted}
 use Rattle.promise.specs.History.{TreeOf}
 use Rattle.store.specs.declared.state.State.{State}
-use Rattle.store.specs.State.{limitOf, presentOf, Good}
+use Rattle.store.specs.State.{geometryIn, limitOf, presentOf, Good}
 use Rattle.store.specs.Contracts.{index}
 
 pub present-size : (g : Geometry) (s : State) (i : List ℕ) → length (presentOf g s i) ≡ limitOf s
@@ -22,9 +22,10 @@ present-size g s i = simp length-tab
 pub good-tree : (g : Geometry) (s : State) (i : List ℕ) → Good g s i → TreeOf (s .blocks) (presentOf g s i)
 good-tree g s i ok = record { tree = ok .tree; size = present-size g s i; numbers = subst (λ (n : ℕ). n ≤ limitOf s) (ok .next) (ok .numbers); levels = ok .levels }
 
-pub mounted-tree : (g : Geometry) (K : Table) (G : ℕ) (s : State) (i : List ℕ) → Mounted g (index g) K G s i → TreeOf (blocksOf g (length i)) K
+pub mounted-tree : (n : Nand) (K : Table) (G : ℕ) (s : State) (i : List ℕ) → Mounted index n K G s i → TreeOf (blocksOf (geometryOf n) (length i)) K
 unfolding stateOf resting
-mounted-tree g K G s i m =
+mounted-tree n K G s i m =
+    let g = geometryIn s in
     let p : presentOf g s i ≡ K = ap (λ (q : Plain). q .present) (m .is) in
-    let b : s .blocks ≡ blocksOf g (length i) = ap (λ (q : Plain). q .blocks) (m .is) in
-    subst (λ (t : Table). TreeOf (blocksOf g (length i)) t) p (subst (λ (B : ℕ). TreeOf B (presentOf g s i)) b (good-tree g s i (m .good)))
+    let b : s .blocks ≡ blocksOf (geometryOf n) (length i) = ap (λ (q : Plain). q .blocks) (m .is) in
+    subst (λ (t : Table). TreeOf (blocksOf (geometryOf n) (length i)) t) p (subst (λ (B : ℕ). TreeOf B (presentOf g s i)) b (good-tree g s i (m .good)))

@@ -2,7 +2,7 @@
 use mathlib.Core.Path.{_≡_, refl, sym, subst}
 use mathlib.Core.List.{List}
 use Prim.Native.Nat.{ℕ}
-use Rattle.chip.specs.Geometry.{Geometry}
+use Rattle.chip.specs.Geometry.{Nand}
 use Rattle.chip.specs.Counts.{total}
 use Rattle.promise.specs.Calls as C
 use Rattle.promise.specs.Plain as Plain
@@ -29,51 +29,51 @@ look-answer Off = refl
 look-answer Size = refl
 
 -- the whole contract of a call is what the promise allows
-look-allowed : (g : Geometry) (k : ℕ) (s : State) (i : List ℕ) (l : L.Look) → Looks g k s i l → Allowed g (index g) (P.lookUp k) s i (answerOf (answerIn l)) 0 s i
-look-allowed g k s i l h = subst (λ (a : Plain.Answer). C.LookUp g (index g) k s i a s i) (sym (look-answer l)) (h .says)
+look-allowed : (k : ℕ) (s : State) (i : List ℕ) (l : L.Look) → Looks k s i l → Allowed index (P.lookUp k) s i (answerOf (answerIn l)) 0 s i
+look-allowed k s i l h = subst (λ (a : Plain.Answer). C.LookUp index k s i a s i) (sym (look-answer l)) (h .says)
 
 same-image : (P : List ℕ → Type 0) (i i' : List ℕ) → i' ≡ i → P i → P i'
 same-image P i i' e h = subst P (sym e) h
 
-abbrev AllowedBy : Geometry → Call → List ℕ → State → List ℕ → Stepped → List ℕ → Type 0
-AllowedBy g call torn s i r i' = Allowed g (index g) (actOf call torn) s i (answerOf (r .answer)) (total (r .ops)) (r .state) i'
+abbrev AllowedBy : Call → List ℕ → State → List ℕ → Stepped → List ℕ → Type 0
+AllowedBy call torn s i r i' = Allowed index (actOf call torn) s i (answerOf (r .answer)) (total (r .ops)) (r .state) i'
 
-pub step-allowed : (g : Geometry) (call : Call) (torn : List ℕ) (s : State) (i : List ℕ) (r : Stepped) (i' : List ℕ) → StepsBy g call torn s i r i' → AllowedBy g call torn s i r i'
-step-allowed g (Format n) torn s i r i' h = h .says
-step-allowed g (Insert k v) torn s i r i' h = same-image (λ (x : List ℕ). AllowedBy g (Insert k v) torn s i r x) i i' (h .image) (h .says .says)
-step-allowed g (Delete k) torn s i r i' h = same-image (λ (x : List ℕ). AllowedBy g (Delete k) torn s i r x) i i' (h .image) (h .says .says)
-step-allowed g (LookUp k) torn s i r i' h =
-    same-image (λ (x : List ℕ). AllowedBy g (LookUp k) torn s i r x) i i' (h .image)
-    (subst (λ (y : Stepped). AllowedBy g (LookUp k) torn s i y i) (sym (h .is)) (look-allowed g k s i (h .look) (h .says)))
-step-allowed g Forecast torn s i r i' h =
-    same-image (λ (x : List ℕ). AllowedBy g Forecast torn s i r x) i i' (h .image)
-    (subst (λ (t : State). C.Forecast g (index g) s i (answerOf (r .answer)) (total (r .ops)) t i) (sym (h .state)) (h .says .says))
-step-allowed g (Commit n) torn s i r i' h = h .says
-step-allowed g (Mount n) torn s i r i' h = h .says
+pub step-allowed : (call : Call) (torn : List ℕ) (s : State) (i : List ℕ) (r : Stepped) (i' : List ℕ) → StepsBy call torn s i r i' → AllowedBy call torn s i r i'
+step-allowed (Format m n) torn s i r i' h = h .says
+step-allowed (Insert k v) torn s i r i' h = same-image (λ (x : List ℕ). AllowedBy (Insert k v) torn s i r x) i i' (h .image) (h .says .says)
+step-allowed (Delete k) torn s i r i' h = same-image (λ (x : List ℕ). AllowedBy (Delete k) torn s i r x) i i' (h .image) (h .says .says)
+step-allowed (LookUp k) torn s i r i' h =
+    same-image (λ (x : List ℕ). AllowedBy (LookUp k) torn s i r x) i i' (h .image)
+    (subst (λ (y : Stepped). AllowedBy (LookUp k) torn s i y i) (sym (h .is)) (look-allowed k s i (h .look) (h .says)))
+step-allowed Forecast torn s i r i' h =
+    same-image (λ (x : List ℕ). AllowedBy Forecast torn s i r x) i i' (h .image)
+    (subst (λ (t : State). C.Forecast index s i (answerOf (r .answer)) (total (r .ops)) t i) (sym (h .state)) (h .says .says))
+step-allowed (Commit n) torn s i r i' h = h .says
+step-allowed (Mount m n) torn s i r i' h = h .says
 
-module _ (g : Geometry) (call : Call) (torn : List ℕ) (s : State) (i : List ℕ) (r : Stepped) where
+module _ (call : Call) (torn : List ℕ) (s : State) (i : List ℕ) (r : Stepped) where
   -- of a call that is this one, with what is given back in this form
-  by : (k : Call) → call ≡ k → (x : Stepped) → r ≡ x → (i' : List ℕ) → StepsBy g k torn s i x i' → StepsBy g call torn s i r i'
+  by : (k : Call) → call ≡ k → (x : Stepped) → r ≡ x → (i' : List ℕ) → StepsBy k torn s i x i' → StepsBy call torn s i r i'
   by k e x q i' h =
-      subst (λ (c : Call). StepsBy g c torn s i r i') (sym e) (subst (λ (y : Stepped). StepsBy g k torn s i y i') (sym q) h)
+      subst (λ (c : Call). StepsBy c torn s i r i') (sym e) (subst (λ (y : Stepped). StepsBy k torn s i y i') (sym q) h)
 
-  pub step-format : (n : ℕ) → call ≡ Format n → (w : Wrote) (i' : List ℕ) → r ≡ ofWrote w → Formats g n torn s i w i' → StepsBy g call torn s i r i'
-  step-format n e w i' q h = by (Format n) e (ofWrote w) q i' h
+  pub step-format : (m : Nand) (n : ℕ) → call ≡ Format m n → (w : Wrote) (i' : List ℕ) → r ≡ ofWrote w → Formats m n torn s i w i' → StepsBy call torn s i r i'
+  step-format m n e w i' q h = by (Format m n) e (ofWrote w) q i' h
 
-  pub step-commit : (n : ℕ) → call ≡ Commit n → (w : Wrote) (i' : List ℕ) → r ≡ ofWrote w → Commits g n torn s i w i' → StepsBy g call torn s i r i'
+  pub step-commit : (n : ℕ) → call ≡ Commit n → (w : Wrote) (i' : List ℕ) → r ≡ ofWrote w → Commits n torn s i w i' → StepsBy call torn s i r i'
   step-commit n e w i' q h = by (Commit n) e (ofWrote w) q i' h
 
-  pub step-mount : (n : ℕ) → call ≡ Mount n → (w : Wrote) (i' : List ℕ) → r ≡ ofWrote w → Mounts g n torn s i w i' → StepsBy g call torn s i r i'
-  step-mount n e w i' q h = by (Mount n) e (ofWrote w) q i' h
+  pub step-mount : (m : Nand) (n : ℕ) → call ≡ Mount m n → (w : Wrote) (i' : List ℕ) → r ≡ ofWrote w → Mounts m n torn s i w i' → StepsBy call torn s i r i'
+  step-mount m n e w i' q h = by (Mount m n) e (ofWrote w) q i' h
 
-  pub step-insert : (k v : ℕ) → call ≡ Insert k v → (u : Updated) → r ≡ ofUpdated u → Inserts g k v s i u → StepsBy g call torn s i r i
+  pub step-insert : (k v : ℕ) → call ≡ Insert k v → (u : Updated) → r ≡ ofUpdated u → Inserts k v s i u → StepsBy call torn s i r i
   step-insert k v e u q h = by (Insert k v) e (ofUpdated u) q i (record { says = h; ops = refl; image = refl })
 
-  pub step-delete : (k : ℕ) → call ≡ Delete k → (u : Updated) → r ≡ ofUpdated u → Deletes g k s i u → StepsBy g call torn s i r i
+  pub step-delete : (k : ℕ) → call ≡ Delete k → (u : Updated) → r ≡ ofUpdated u → Deletes k s i u → StepsBy call torn s i r i
   step-delete k e u q h = by (Delete k) e (ofUpdated u) q i (record { says = h; ops = refl; image = refl })
 
-  pub step-look : (k : ℕ) → call ≡ LookUp k → (l : L.Look) → r ≡ ofLook l s → Looks g k s i l → StepsBy g call torn s i r i
+  pub step-look : (k : ℕ) → call ≡ LookUp k → (l : L.Look) → r ≡ ofLook l s → Looks k s i l → StepsBy call torn s i r i
   step-look k e l q h = by (LookUp k) e (ofLook l s) q i (record { look = l; says = h; is = refl; image = refl })
 
-  pub step-forecast : call ≡ Forecast → (f : F.Forecast) → r ≡ ofForecast f s → Forecasts g s i f → StepsBy g call torn s i r i
+  pub step-forecast : call ≡ Forecast → (f : F.Forecast) → r ≡ ofForecast f s → Forecasts s i f → StepsBy call torn s i r i
   step-forecast e f q h = by Forecast e (ofForecast f s) q i (record { says = h; state = refl; image = refl })

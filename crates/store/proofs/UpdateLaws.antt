@@ -42,7 +42,7 @@ use Rattle.store.specs.declared.answer.Answer.the-variants.{Accepted, Ab
 use Rattle.store.specs.declared.state.State.{State}
 use Rattle.store.specs.declared.state.Updated.{Updated}
 use Rattle.store.specs.Answers.{answerOf}
-use Rattle.store.specs.State.{limitOf, nodesOf, goods, unitsOf, presentOf, Good}
+use Rattle.store.specs.State.{limitOf, nodesOf, goods, unitsOf, presentOf, Good, geometryIn}
 use Rattle.store.specs.Contracts.{index, KeepsBounds}
 use Rattle.store.specs.UpdateCode.{Stays, withUnits, InsertsIn, DeletesIn}
 
@@ -135,7 +135,10 @@ pub record Pushed (g : Geometry) (s : State) (i new : List ℕ) (used x : ℕ) (
   pub next : x ≡ T.next t
   pub numbers : x ≤ limitOf s
 
-module _ (g : Geometry) (s : State) (i : List ℕ) (G : Good g s i) (low : s .pending < 16) where
+module _ (s : State) (i : List ℕ) (G : Good (geometryIn s) s i) (low : s .pending < 16) where
+  abbrev g : Geometry
+  g = geometryIn s
+
   pub ready : I.Ready (limitOf s) (s .next) (s .count) (s .buffer) (unitsOf s) (presentOf g s i)
   ready =
       record {
@@ -177,7 +180,7 @@ module _ (g : Geometry) (s : State) (i : List ℕ) (G : Good g s i) (low : s .pe
           numbers = p .numbers;
         }
 
-    means-after : stateOf (index g) (withUnits s new used x) i ≡ updated t (stateOf (index g) s i)
+    means-after : stateOf index (withUnits s new used x) i ≡ updated t (stateOf index s i)
     unfolding stateOf updated
     means-after =
         ap₂ (λ (q : Table) (n : ℕ). record {
@@ -186,11 +189,12 @@ module _ (g : Geometry) (s : State) (i : List ℕ) (G : Good g s i) (low : s .pe
           pending = n;
           number = s .commit;
           on = s .on;
+          nand = s .nand;
           blocks = s .blocks;
         })
         (p .table) (add-one (s .pending))
 
-    pub stays : Stays g (withUnits s new used x) i (updated t (stateOf (index g) s i))
+    pub stays : Stays (withUnits s new used x) i (updated t (stateOf index s i))
     stays = record { is = means-after; good = good-after }
 
 -- ---- an insert and a delete of the tree, pushed
@@ -258,34 +262,34 @@ not-refused n d = let z : _≡_ {A = ℕ} 0 1 = cc in absurd (omega arith)
 abbrev stepOf : Geometry → ℕ → ℕ → State → List ℕ → TreeStep
 stepOf g k v s i = insert (8 * s .blocks) k v (presentOf g s i)
 
-module _ (g : Geometry) (s : State) (i : List ℕ) (low : s .pending < 16) where
+module _ (s : State) (i : List ℕ) (low : s .pending < 16) where
   stay : KeepsBounds s s
-  stay = record { blocks = refl; units = omega arith }
+  stay = record { nand = refl; blocks = refl; units = omega arith }
 
   -- more units than a good state has
   module _ (many : 900 < s .count) where
-    never-many : Good g s i → ⊥
+    never-many : Good (geometryIn s) s i → ⊥
     never-many G = omega (arith, G .few)
 
-    pub insert-many : (k v : ℕ) → InsertsIn g k v s i (answered Nodes s)
+    pub insert-many : (k v : ℕ) → InsertsIn k v s i (answered Nodes s)
     unfolding insertion
     insert-many k v = record { range = refl; still = λ _ _. refl; bounds = stay; figures = refl; refused = λ G. absurd (never-many G); done = λ G. absurd (never-many G) }
 
-    pub delete-many : (k : ℕ) → DeletesIn g k s i (answered Absent s)
+    pub delete-many : (k : ℕ) → DeletesIn k s i (answered Absent s)
     unfolding deletion
     delete-many k = record { range = refl; still = λ _ _. refl; bounds = stay; figures = refl; refused = λ G. absurd (never-many G); done = λ G. absurd (never-many G) }
 
   module _ (k v : ℕ) (hk : k < top) (hv : v < top) (hl : limitOf s ≤ 256) (new : List ℕ) (r : Inserted)
-      (a : I.Inserts g i (s .lens) (s .slots) (8 * s .blocks) (s .next) k v (s .count) (s .buffer) new r) where
-    step-refused : r .refused ≡ true → Good g s i → stepOf g k v s i ≡ refusal 5
+      (a : I.Inserts (geometryIn s) i (s .lens) (s .slots) (8 * s .blocks) (s .next) k v (s .count) (s .buffer) new r) where
+    step-refused : r .refused ≡ true → Good (geometryIn s) s i → stepOf (geometryIn s) k v s i ≡ refusal 5
     unfolding presentOf
-    step-refused e G = a .refused e (unitsOf s) (ready g s i G low)
+    step-refused e G = a .refused e (unitsOf s) (ready s i G low)
 
-    step-done : r .refused ≡ false → Good g s i → I.Done g i (s .lens) (s .slots) (limitOf s) k v (s .count) (s .buffer) (unitsOf s) (presentOf g s i) new r
+    step-done : r .refused ≡ false → Good (geometryIn s) s i → I.Done (geometryIn s) i (s .lens) (s .slots) (limitOf s) k v (s .count) (s .buffer) (unitsOf s) (presentOf (geometryIn s) s i) new r
     unfolding presentOf
-    step-done e G = a .done e (unitsOf s) (ready g s i G low)
+    step-done e G = a .done e (unitsOf s) (ready s i G low)
 
-    pub insert-five : r .refused ≡ true → InsertsIn g k v s i (answered Nodes s)
+    pub insert-five : r .refused ≡ true → InsertsIn k v s i (answered Nodes s)
     unfolding insertion
     insert-five e =
         record {
@@ -293,33 +297,33 @@ module _ (g : Geometry) (s : State) (i : List ℕ) (low : s .pending < 16) where
           still = λ _ _. refl;
           bounds = stay;
           figures = refl;
-          refused = λ G m h. test-number 5 m (isRefused (stepOf g k v s i)) (refuses 5) (λ _. refl) h;
-          done = λ G h. clash (ap isRefused (step-refused e G)) (test-none 4 (isRefused (stepOf g k v s i)) h);
+          refused = λ G m h. test-number 5 m (isRefused (stepOf (geometryIn s) k v s i)) (refuses 5) (λ _. refl) h;
+          done = λ G h. clash (ap isRefused (step-refused e G)) (test-none 4 (isRefused (stepOf (geometryIn s) k v s i)) h);
         }
 
-    pub insert-accepted : r .refused ≡ false → InsertsIn g k v s i (answered Accepted (withUnits s new (r .count) (r .next)))
+    pub insert-accepted : r .refused ≡ false → InsertsIn k v s i (answered Accepted (withUnits s new (r .count) (r .next)))
     unfolding insertion
     insert-accepted e =
         record {
-          bounds = record { blocks = refl; units = omega (arith, a .keeps .room) };
+          bounds = record { nand = refl; blocks = refl; units = omega (arith, a .keeps .room) };
           figures = refl;
           range = refl;
           still = λ n d. not-refused n d;
-          refused = λ G m h. test-number 5 m (isRefused (stepOf g k v s i)) accepted (λ t. clash t (ap isRefused (step-done e G .is))) h;
+          refused = λ G m h. test-number 5 m (isRefused (stepOf (geometryIn s) k v s i)) accepted (λ t. clash t (ap isRefused (step-done e G .is))) h;
           done = λ G h.
-              let t = inserted k v (presentOf g s i) in
+              let t = inserted k v (presentOf (geometryIn s) s i) in
               let d = step-done e G in
-              let q = stays g s i G low new (r .count) (r .next) (insertUnits k v (presentOf g s i)) t (inserted-pushed g k v s i new G low hk hv hl r d) in
-              (refl, subst (λ (u : TreeStep). Stays g (withUnits s new (r .count) (r .next)) i (updated (tableAfter (presentOf g s i) u) (stateOf (index g) s i))) (sym (d .is)) q);
+              let q = stays s i G low new (r .count) (r .next) (insertUnits k v (presentOf (geometryIn s) s i)) t (inserted-pushed (geometryIn s) k v s i new G low hk hv hl r d) in
+              (refl, subst (λ (u : TreeStep). Stays (withUnits s new (r .count) (r .next)) i (updated (tableAfter (presentOf (geometryIn s) s i) u) (stateOf index s i))) (sym (d .is)) q);
         }
 
   -- ---- and of a delete
-  module _ (k : ℕ) (w : Looked) (a : Answers (s .lens) (s .slots) k (shown g (8 * s .blocks) (pagesOf g i) (s .lens) (s .slots) (s .count) (s .buffer)) w) where
-    hit-is : hitOf (w .hit) ≡ find k (presentOf g s i)
+  module _ (k : ℕ) (w : Looked) (a : Answers (s .lens) (s .slots) k (shown (geometryIn s) (8 * s .blocks) (pagesOf (geometryIn s) i) (s .lens) (s .slots) (s .count) (s .buffer)) w) where
+    hit-is : hitOf (w .hit) ≡ find k (presentOf (geometryIn s) s i)
     unfolding presentOf
     hit-is = a .found
 
-    pub delete-absent : w .hit ≡ Nothing → DeletesIn g k s i (answered Absent s)
+    pub delete-absent : w .hit ≡ Nothing → DeletesIn k s i (answered Absent s)
     unfolding deletion
     delete-absent e =
         record {
@@ -327,27 +331,27 @@ module _ (g : Geometry) (s : State) (i : List ℕ) (low : s .pending < 16) where
           still = λ _ _. refl;
           bounds = stay;
           figures = refl;
-          refused = λ G m h. test-number 4 m (isAbsent (find k (presentOf g s i))) (refuses 4) (λ _. refl) h;
-          done = λ G h. clash (ap isAbsent (sym hit-is ∙ ap hitOf e)) (test-none 3 (isAbsent (find k (presentOf g s i))) h);
+          refused = λ G m h. test-number 4 m (isAbsent (find k (presentOf (geometryIn s) s i))) (refuses 4) (λ _. refl) h;
+          done = λ G h. clash (ap isAbsent (sym hit-is ∙ ap hitOf e)) (test-none 3 (isAbsent (find k (presentOf (geometryIn s) s i))) h);
         }
 
     module _ (hk : k < top) (new : List ℕ) (used : ℕ)
-        (d : I.Deletes g i (s .lens) (s .slots) (8 * s .blocks) (w .leaf) k (s .count) (s .buffer) new used) where
-      leaf-gone : Good g s i → I.Gone g i (s .lens) (s .slots) (limitOf s) k (s .count) (unitsOf s) (presentOf g s i) new used
+        (d : I.Deletes (geometryIn s) i (s .lens) (s .slots) (8 * s .blocks) (w .leaf) k (s .count) (s .buffer) new used) where
+      leaf-gone : Good (geometryIn s) s i → I.Gone (geometryIn s) i (s .lens) (s .slots) (limitOf s) k (s .count) (unitsOf s) (presentOf (geometryIn s) s i) new used
       unfolding presentOf
-      leaf-gone G = d .is (s .next) (unitsOf s) (ready g s i G low) (a .leaf)
+      leaf-gone G = d .is (s .next) (unitsOf s) (ready s i G low) (a .leaf)
 
-      pub delete-accepted : (v : ℕ) → w .hit ≡ At v → DeletesIn g k s i (answered Accepted (withUnits s new used (s .next)))
+      pub delete-accepted : (v : ℕ) → w .hit ≡ At v → DeletesIn k s i (answered Accepted (withUnits s new used (s .next)))
       unfolding deletion
       delete-accepted v e =
           record {
             range = refl;
             still = λ n d. not-refused n d;
-            refused = λ G m h. test-number 4 m (isAbsent (find k (presentOf g s i))) accepted (λ t. clash t (ap isAbsent (sym hit-is ∙ ap hitOf e))) h;
-            bounds = record { blocks = refl; units = omega (arith, d .keeps .room) };
+            refused = λ G m h. test-number 4 m (isAbsent (find k (presentOf (geometryIn s) s i))) accepted (λ t. clash t (ap isAbsent (sym hit-is ∙ ap hitOf e))) h;
+            bounds = record { nand = refl; blocks = refl; units = omega (arith, d .keeps .room) };
             figures = refl;
             done = λ G h. (
               refl,
-              stays g s i G low new used (s .next) (deleteUnits k (presentOf g s i)) (delete k (presentOf g s i)) (deleted-pushed g k s i new used G low hk (leaf-gone G)),
+              stays s i G low new used (s .next) (deleteUnits k (presentOf (geometryIn s) s i)) (delete k (presentOf (geometryIn s) s i)) (deleted-pushed (geometryIn s) k s i new used G low hk (leaf-gone G)),
             );
           }

@@ -15,7 +15,7 @@ use Rattle.store.specs.declared.state.State.{State}
 use Rattle.store.specs.declared.state.Updated.{Updated}
 use Rattle.store.specs.AdmitCode.{ChipOf, updateTests, answerFor}
 use Rattle.store.specs.Answers.{answerOf, refusalIn}
-use Rattle.store.specs.State.{presentOf, Good}
+use Rattle.store.specs.State.{presentOf, Good, geometryIn}
 use Rattle.store.specs.Contracts.{index, KeepsBounds, UpdatesBy}
 use Rattle.store.specs.UpdateCode.{Stays, UpdatesIn}
 use Rattle.store.proofs.AdmitLaws.{first-refused, first-passed, admission-chip, not-one}
@@ -42,28 +42,31 @@ own-number : (u : UpdateCall) → ProperUpdate u → (a : Answer) → acceptsOr 
 own-number u w a h n o e = clash (let t : isOneOf n (u .numbers) ≡ true = subst (λ (x : Answer). acceptsOr (u .numbers) x ≡ true) e h in t) (w .own n o)
 
 -- what an accepted update leaves, as three facts
-updated-is : (g : Geometry) {a : Answer} {s' : State} {i : List ℕ} {p : Plain} → (a ≡ accepted) × Stays g s' i p → (a ≡ accepted) × (stateOf (index g) s' i ≡ p) × Good g s' i
-updated-is g d = (d .0, d .1 .is, d .1 .good)
+updated-is : {a : Answer} {s' : State} {i : List ℕ} {p : Plain} → (a ≡ accepted) × Stays s' i p → (a ≡ accepted) × (stateOf index s' i ≡ p) × Good (geometryIn s') s' i
+updated-is d = (d .0, d .1 .is, d .1 .good)
 
 -- 3 to 6 of an update, by the pending count
-later-is : (g : Geometry) (u : UpdateCall) (s : State) (i : List ℕ)
-    → laterRefusal (stateOf (index g) s i) (updates u (length i)) ≡ orElse (when 3 (leb 16 (s .pending))) (u .refusal (s .blocks) (presentOf g s i))
+later-is : (u : UpdateCall) (s : State) (i : List ℕ)
+    → laterRefusal (stateOf index s i) (updates u (length i)) ≡ orElse (when 3 (leb 16 (s .pending))) (u .refusal (s .blocks) (presentOf (geometryIn s) s i))
 unfolding stateOf
-later-is g u s i = refl
+later-is u s i = refl
 
 -- a state that stays keeps its bounds
 same-bounds : (s s' : State) → s' ≡ s → KeepsBounds s s'
-same-bounds s s' w = record { blocks = ap (λ (t : State). t .blocks) w; units = rw w (omega arith) }
+same-bounds s s' w = record { nand = ap (λ (t : State). t .nand) w; blocks = ap (λ (t : State). t .blocks) w; units = rw w (omega arith) }
 
-module _ (g : Geometry) (u : UpdateCall) (s : State) (i : List ℕ) (r : Updated) where
+module _ (u : UpdateCall) (s : State) (i : List ℕ) (r : Updated) where
+  abbrev g : Geometry
+  g = geometryIn s
+
   -- refused with 2 or 1
-  refused-first : (n : ℕ) → answerOf (r .answer) ≡ refuses (suc n) → suc n ≤ 2 → r .state ≡ s → suc n ≡ admission g (s .on) (s .blocks) (length i) → UpdatesBy g u s i r
+  refused-first : (n : ℕ) → answerOf (r .answer) ≡ refuses (suc n) → suc n ≤ 2 → r .state ≡ s → suc n ≡ admission g (s .on) (s .blocks) (length i) → UpdatesBy u s i r
   refused-first n q kind w e =
       record {
         says =
             rw w
             (record {
-              first = first-refused g (updates u (length i)) s i (answerOf (r .answer)) n e q;
+              first = first-refused (updates u (length i)) s i (answerOf (r .answer)) n e q;
               range = range-low n (answerOf (r .answer)) (3 ∷ u .numbers) q kind;
               image = refl;
               still = λ _ _. refl;
@@ -79,14 +82,14 @@ module _ (g : Geometry) (u : UpdateCall) (s : State) (i : List ℕ) (r : Updated
 
   module _ (e : 0 ≡ admission g (s .on) (s .blocks) (length i)) where
     -- refused with 3
-    refused-full : 16 ≤ s .pending → answerOf (r .answer) ≡ refuses 3 → r .state ≡ s → UpdatesBy g u s i r
+    refused-full : 16 ≤ s .pending → answerOf (r .answer) ≡ refuses 3 → r .state ≡ s → UpdatesBy u s i r
     refused-full full q w =
         let b = u .refusal (s .blocks) (presentOf g s i) in
-        let l : laterRefusal (stateOf (index g) s i) (updates u (length i)) ≡ 3 = later-is g u s i ∙ (let o : orElse (when 3 (leb 16 (s .pending))) b ≡ 3 = rw (le-leb 16 (s .pending) full) in o) in
+        let l : laterRefusal (stateOf index s i) (updates u (length i)) ≡ 3 = later-is u s i ∙ (let o : orElse (when 3 (leb 16 (s .pending))) b ≡ 3 = rw (le-leb 16 (s .pending) full) in o) in
         record {
           says =
               record {
-                first = first-passed g (updates u (length i)) s i (answerOf (r .answer)) (r .state) e (λ d. not-one (sym q ∙ d) (λ z. omega arith)) (λ d. not-one (sym q ∙ d) (λ z. omega arith));
+                first = first-passed (updates u (length i)) s i (answerOf (r .answer)) (r .state) e (λ d. not-one (sym q ∙ d) (λ z. omega arith)) (λ d. not-one (sym q ∙ d) (λ z. omega arith));
                 range = rw q;
                 image = refl;
                 still = λ _ _. w;
@@ -101,15 +104,15 @@ module _ (g : Geometry) (u : UpdateCall) (s : State) (i : List ℕ) (r : Updated
         }
 
     -- past them
-    pub updates-done : ProperUpdate u → s .pending < 16 → UpdatesIn g u s i r → UpdatesBy g u s i r
+    pub updates-done : ProperUpdate u → s .pending < 16 → UpdatesIn u s i r → UpdatesBy u s i r
     updates-done w low a =
         let b = u .refusal (s .blocks) (presentOf g s i) in
-        let l : laterRefusal (stateOf (index g) s i) (updates u (length i)) ≡ b = later-is g u s i ∙ (let o : orElse (when 3 (leb 16 (s .pending))) b ≡ b = rw (lt-leb 16 (s .pending) low) in o) in
+        let l : laterRefusal (stateOf index s i) (updates u (length i)) ≡ b = later-is u s i ∙ (let o : orElse (when 3 (leb 16 (s .pending))) b ≡ b = rw (lt-leb 16 (s .pending) low) in o) in
         let own : (n : ℕ) → isOneOf n (1 ∷ 2 ∷ 3 ∷ 10 ∷ []) ≡ true → answerOf (r .answer) ≡ refuses n → ⊥ = own-number u w (answerOf (r .answer)) (a .range) in
         record {
           says =
               record {
-                first = first-passed g (updates u (length i)) s i (answerOf (r .answer)) (r .state) e (own 1 refl) (own 2 refl);
+                first = first-passed (updates u (length i)) s i (answerOf (r .answer)) (r .state) e (own 1 refl) (own 2 refl);
                 range = range-more (answerOf (r .answer)) 2 (1 ∷ 3 ∷ u .numbers) (range-more (answerOf (r .answer)) 1 (3 ∷ u .numbers) (range-more (answerOf (r .answer)) 3 (u .numbers) (a .range)));
                 image = refl;
                 still = a .still;
@@ -117,21 +120,21 @@ module _ (g : Geometry) (u : UpdateCall) (s : State) (i : List ℕ) (r : Updated
                 full = λ _ h. absurd (omega arith);
                 notFull = λ _ _. own 3 refl;
                 then = λ ok _ m h. a .refused ok m (sym l ∙ h);
-                done = λ ok _ h. updated-is g (a .done ok (sym l ∙ h));
+                done = λ ok _ h. updated-is (a .done ok (sym l ∙ h));
               };
           bounds = a .bounds;
           figures = a .figures;
         }
 
   turned-away : (x : ℕ) (b : Bool) → x ≡ admission g (s .on) (s .blocks) (length i) → x ≤ 2 → b ≡ leb 16 (s .pending) → (n : ℕ) → n ≡ orElse x (when 3 b) → 0 < n
-      → answerOf (r .answer) ≡ answerFor n → r .state ≡ s → UpdatesBy g u s i r
+      → answerOf (r .answer) ≡ answerFor n → r .state ≡ s → UpdatesBy u s i r
   turned-away (suc m) b e l q n h p a w = refused-first m (a ∙ ap answerFor h) l w e
   turned-away zero true e l q n h p a w = refused-full e (leb-true 16 (s .pending) (sym q)) (a ∙ ap answerFor h) w
   turned-away zero false e l q n h p a w = absurd (omega arith)
 
   -- refused by these tests
   pub updates-refused : answerOf (r .answer) ≡ answerFor (updateTests g (s .on) (s .blocks) (s .pending) (length i)) → r .state ≡ s
-      → 0 < updateTests g (s .on) (s .blocks) (s .pending) (length i) → UpdatesBy g u s i r
+      → 0 < updateTests g (s .on) (s .blocks) (s .pending) (length i) → UpdatesBy u s i r
   updates-refused a w p =
       turned-away (admission g (s .on) (s .blocks) (length i)) (leb 16 (s .pending)) refl
       (low-first (not (s .on)) (not (isChipSize g (length i) && hasBlocks g (s .blocks) (length i)))) refl

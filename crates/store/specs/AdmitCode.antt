@@ -3,8 +3,8 @@ use mathlib.Core.Path.{_≡_}
 use mathlib.Core.Bool.{Bool, cond}
 use Prim.Native.Nat.{ℕ, zero, suc, _*_, _≤_, _<_}
 use lib.Dec.{leb}
-use Rattle.chip.specs.Geometry.{Geometry, blocksOf, blockSize, pageSize}
-use Rattle.promise.specs.Plain.{Answer, refuses, accepted, orElse, when, admission, commits, firstRefusal, numbersRefusal, isTornSize}
+use Rattle.chip.specs.Geometry.{Geometry, geometryOf, blocksOf, blockSize, pageSize}
+use Rattle.promise.specs.Plain.{Answer, refuses, accepted, orElse, when, admission, commitRefusal, commits, numbersRefusal, isTornSize}
 use Rattle.store.specs.declared.admit.Admission.{Admission}
 use Rattle.store.specs.declared.admit.Admission.the-variants.{Passes, Off, Size}
 use Rattle.store.specs.declared.admit.Beginning.{Beginning}
@@ -39,11 +39,11 @@ updateTests g on B pending len = orElse (admission g on B len) (when 3 (leb 16 p
 
 -- of commit, 2, 1 and 6
 abbrev pub commitTests : Geometry → Bool → (B pending number len torn : ℕ) → ℕ
-commitTests g on B pending number len torn = orElse (firstRefusal g on B (commits 0 len torn)) (numbersRefusal pending number (commits 0 len torn))
+commitTests g on B pending number len torn = orElse (commitRefusal g on B len torn) (numbersRefusal pending number (commits 0 len torn))
 
 -- the same on the numbers of a state
-abbrev pub testsOf : Geometry → Numbers → (len torn : ℕ) → ℕ
-testsOf g n len torn = commitTests g (n .on) (n .blocks) (n .pending) (n .commit) len torn
+abbrev pub testsOf : Numbers → (len torn : ℕ) → ℕ
+testsOf n len torn = commitTests (geometryOf (n .nand)) (n .on) (n .blocks) (n .pending) (n .commit) len torn
 
 -- a refusal's number as an answer, 0 as accepted
 abbrev pub answerFor : ℕ → Answer
@@ -51,11 +51,11 @@ answerFor zero = accepted
 answerFor (suc n) = refuses (suc n)
 
 -- how a commit or a forecast begins: refused, with nothing pending, with more units than the buffer holds, or past all these
-pub data CommitBegins (g : Geometry) (n : Numbers) (len torn : ℕ) : Beginning → Type 0 where
-  denied : (a : A.Answer) → 0 < testsOf g n len torn → answerOf a ≡ answerFor (testsOf g n len torn) → CommitBegins g n len torn (Ends a)
-  idle : testsOf g n len torn ≡ 0 → n .pending ≡ 0 → CommitBegins g n len torn (Ends Accepted)
-  full : testsOf g n len torn ≡ 0 → 0 < n .pending → 960 < n .count → CommitBegins g n len torn (Ends Last)
-  plans : testsOf g n len torn ≡ 0 → 0 < n .pending → n .count ≤ 960 → CommitBegins g n len torn Plans
+pub data CommitBegins (n : Numbers) (len torn : ℕ) : Beginning → Type 0 where
+  denied : (a : A.Answer) → 0 < testsOf n len torn → answerOf a ≡ answerFor (testsOf n len torn) → CommitBegins n len torn (Ends a)
+  idle : testsOf n len torn ≡ 0 → n .pending ≡ 0 → CommitBegins n len torn (Ends Accepted)
+  full : testsOf n len torn ≡ 0 → 0 < n .pending → 960 < n .count → CommitBegins n len torn (Ends Last)
+  plans : testsOf n len torn ≡ 0 → 0 < n .pending → n .count ≤ 960 → CommitBegins n len torn Plans
 
 -- of an image and a torn slice of these lengths
 pub record Sized (g : Geometry) (len slice b : ℕ) : Type 0 where

@@ -6,7 +6,7 @@ use Prim.Native.Nat.{ℕ, _+_, _*_, _<_, _≤_, max}
 use lib.Dec.{leb}
 use lib.ListN.{length, take, getD, replicate}
 use Rattle.lists.specs.Lists.{any, part, count, first}
-use Rattle.chip.specs.Geometry.{Geometry, blocksOf}
+use Rattle.chip.specs.Geometry.{Geometry, Nand, geometryOf, blocksOf}
 use Rattle.chip.specs.Page.{isFree}
 use Rattle.chip.specs.declared.power.Power.the-variants.{Left}
 use Rattle.chip.specs.declared.progress.Counts.{Counts}
@@ -21,8 +21,8 @@ use Rattle.tree.specs.Shown.{pagesRead}
 use Rattle.log.specs.Format.{formatOps, formattedBy}
 use Rattle.log.specs.Mount.{mountOps, mountedBy}
 use Rattle.log.specs.Commit.{groupsOf}
-use Rattle.log.specs.Plan.{Plan, nodeAt, opsOf, isEmpty}
-use Rattle.promise.specs.Plain.{UpdateCall, accepted, insertion, deletion, admission, commits, forecasts, formats, lookedUp, mounts, refuses, firstRefusal, orElse, when}
+use Rattle.log.specs.Plan.{Plan, mostOps, nodeAt, opsOf, isEmpty}
+use Rattle.promise.specs.Plain.{UpdateCall, accepted, insertion, deletion, admission, commits, forecasts, lookedUp, refuses, startRefusal, orElse, when}
 use Rattle.promise.specs.Calls as P
 use Rattle.promise.specs.Calls.{Store, means}
 use Rattle.promise.specs.Image.{imageMeaning}
@@ -33,30 +33,31 @@ use Rattle.store.specs.declared.state.State.{State}
 use Rattle.store.specs.declared.state.Wrote.{Wrote}
 use Rattle.store.specs.declared.state.Updated.{Updated}
 use Rattle.store.specs.Answers.{answerOf, lookOf, pagesTold, reportRefusal, freeTold, firstTold, erasesTold}
-use Rattle.store.specs.State.{turnedOff, limitOf, presentOf, Good, Room, planAt, commitOps}
+use Rattle.store.specs.State.{turnedOff, geometryIn, limitOf, presentOf, Good, Room, planAt, commitOps}
 
 -- the store that the promise is about: the code's state, an image as its bytes
-abbrev pub index : Geometry → Store
-index g =
+abbrev pub index : Store
+index =
     record {
       State = State;
       Image = List ℕ;
       size = λ i. length i;
       on = λ s. s .on;
+      nand = λ s. s .nand;
       blocks = λ s. s .blocks;
       pending = λ s. s .pending;
       number = λ s. s .commit;
       erases = λ s b. getD (s .erases) b 0;
-      present = presentOf g;
-      meaning = imageMeaning g;
-      free = λ i. count isFree (pagesOf g i);
-      mountOps = λ i. mountOps g (pagesOf g i);
-      commitOps = commitOps g;
-      formatOps = formatOps g;
-      most = 389;
-      Good = Good g;
-      Room = Room g;
-      able = λ s i. not (isEmpty (planAt g s i .written));
+      present = λ s. presentOf (geometryIn s) s;
+      meaning = λ n. imageMeaning (geometryOf n);
+      free = λ n i. count isFree (pagesOf (geometryOf n) i);
+      mountOps = λ n i. mountOps (geometryOf n) (pagesOf (geometryOf n) i);
+      commitOps = λ s. commitOps (geometryIn s) s;
+      formatOps = λ n. formatOps (geometryOf n);
+      most = λ n. mostOps (geometryOf n);
+      Good = λ s. Good (geometryIn s) s;
+      Room = λ n. Room (geometryOf n);
+      able = λ s i. not (isEmpty (planAt (geometryIn s) s i .written));
     }
 
 -- of a list of operations, by kind, those that an allowance of n does whole
@@ -65,27 +66,27 @@ toldOf n os = countsOf (take n (kindsOf os))
 
 -- format: the operations told by kind; the image's pages are those of a run of its operations, whatever the image was, and each operation
 -- is one that the chip allows; finished, no block has an erase; with 10 the state is the one given, off
-pub record Formats (g : Geometry) (allowance : ℕ) (torn : List ℕ) (s : State) (i : List ℕ) (r : Wrote) (i' : List ℕ) : Type 0 where
-  pub says : P.Format g (index g) allowance torn s i (answerOf (r .answer)) (total (r .ops)) (r .state) i'
-  pub kinds : firstRefusal g (s .on) (s .blocks) (formats allowance (length i) (length torn)) ≡ 0
-      → r .ops ≡ toldOf allowance (formatOps g (blocksOf g (length i)))
-  pub bytes : firstRefusal g (s .on) (s .blocks) (formats allowance (length i) (length torn)) ≡ 0
-      → pagesOf g i' ≡ formattedBy g torn (blocksOf g (length i)) allowance (pagesOf g i) .pages
-  pub legal : firstRefusal g (s .on) (s .blocks) (formats allowance (length i) (length torn)) ≡ 0 → Legal g (pagesOf g i) (formatOps g (blocksOf g (length i)))
+pub record Formats (nand : Nand) (allowance : ℕ) (torn : List ℕ) (s : State) (i : List ℕ) (r : Wrote) (i' : List ℕ) : Type 0 where
+  pub says : P.Format index nand allowance torn s i (answerOf (r .answer)) (total (r .ops)) (r .state) i'
+  pub kinds : startRefusal (geometryOf nand) (length i) (length torn) ≡ 0
+      → r .ops ≡ toldOf allowance (formatOps (geometryOf nand) (blocksOf (geometryOf nand) (length i)))
+  pub bytes : startRefusal (geometryOf nand) (length i) (length torn) ≡ 0
+      → pagesOf (geometryOf nand) i' ≡ formattedBy (geometryOf nand) torn (blocksOf (geometryOf nand) (length i)) allowance (pagesOf (geometryOf nand) i) .pages
+  pub legal : startRefusal (geometryOf nand) (length i) (length torn) ≡ 0 → Legal (geometryOf nand) (pagesOf (geometryOf nand) i) (formatOps (geometryOf nand) (blocksOf (geometryOf nand) (length i)))
   pub zeros : answerOf (r .answer) ≡ accepted → r .state .erases ≡ replicate 32 0
   pub off : answerOf (r .answer) ≡ refuses 10 → r .state ≡ turnedOff s
 
 -- mount: the operations told by kind; the image's pages are those of a run of its marks where the image has a meaning, and else as they
 -- were; finished, no block has an erase; where it is refused with 7, 8, 9 or 10 the state is the one given, off
-pub record Mounts (g : Geometry) (allowance : ℕ) (torn : List ℕ) (s : State) (i : List ℕ) (r : Wrote) (i' : List ℕ) : Type 0 where
-  pub says : P.Mount g (index g) allowance torn s i (answerOf (r .answer)) (total (r .ops)) (r .state) i'
-  pub kinds : firstRefusal g (s .on) (s .blocks) (mounts allowance (length i) (length torn)) ≡ 0 → (K : Table) (G : ℕ)
-      → imageMeaning g i ≡ means K G → r .ops ≡ toldOf allowance (mountOps g (pagesOf g i))
-  pub bytes : firstRefusal g (s .on) (s .blocks) (mounts allowance (length i) (length torn)) ≡ 0 → (K : Table) (G : ℕ)
-      → imageMeaning g i ≡ means K G → pagesOf g i' ≡ mountedBy g torn allowance (pagesOf g i) .pages
-  pub legal : Legal g (pagesOf g i) (mountOps g (pagesOf g i))
+pub record Mounts (nand : Nand) (allowance : ℕ) (torn : List ℕ) (s : State) (i : List ℕ) (r : Wrote) (i' : List ℕ) : Type 0 where
+  pub says : P.Mount index nand allowance torn s i (answerOf (r .answer)) (total (r .ops)) (r .state) i'
+  pub kinds : startRefusal (geometryOf nand) (length i) (length torn) ≡ 0 → (K : Table) (G : ℕ)
+      → imageMeaning (geometryOf nand) i ≡ means K G → r .ops ≡ toldOf allowance (mountOps (geometryOf nand) (pagesOf (geometryOf nand) i))
+  pub bytes : startRefusal (geometryOf nand) (length i) (length torn) ≡ 0 → (K : Table) (G : ℕ)
+      → imageMeaning (geometryOf nand) i ≡ means K G → pagesOf (geometryOf nand) i' ≡ mountedBy (geometryOf nand) torn allowance (pagesOf (geometryOf nand) i) .pages
+  pub legal : Legal (geometryOf nand) (pagesOf (geometryOf nand) i) (mountOps (geometryOf nand) (pagesOf (geometryOf nand) i))
   pub zeros : answerOf (r .answer) ≡ accepted → r .state .erases ≡ replicate 32 0
-  pub off : firstRefusal g (s .on) (s .blocks) (mounts allowance (length i) (length torn)) ≡ 0 → (n : ℕ) → answerOf (r .answer) ≡ refuses n
+  pub off : startRefusal (geometryOf nand) (length i) (length torn) ≡ 0 → (n : ℕ) → answerOf (r .answer) ≡ refuses n
       → r .state ≡ turnedOff s
 
 -- the sum of the list lengths of these nodes; a node that is not on flash has length 0
@@ -94,45 +95,46 @@ listLengths nodes [] = 0
 listLengths nodes (n ∷ ns) = length (nodeAt nodes n .pages) + listLengths nodes ns
 
 -- look up, on any state and any image: what P says of the key, and the sum of the list lengths on its path, at most 16
-pub record Looks (g : Geometry) (k : ℕ) (s : State) (i : List ℕ) (r : Look) : Type 0 where
-  pub says : P.LookUp g (index g) k s i (lookOf r) s i
-  pub any : admission g (s .on) (s .blocks) (length i) ≡ 0 → lookOf r ≡ lookedUp (find k (presentOf g s i))
-  pub pages : admission g (s .on) (s .blocks) (length i) ≡ 0 → pagesTold r ≡ pagesRead (s .lens) (s .slots) (path k (presentOf g s i))
+pub record Looks (k : ℕ) (s : State) (i : List ℕ) (r : Look) : Type 0 where
+  pub says : P.LookUp index k s i (lookOf r) s i
+  pub any : admission (geometryIn s) (s .on) (s .blocks) (length i) ≡ 0 → lookOf r ≡ lookedUp (find k (presentOf (geometryIn s) s i))
+  pub pages : admission (geometryIn s) (s .on) (s .blocks) (length i) ≡ 0 → pagesTold r ≡ pagesRead (s .lens) (s .slots) (path k (presentOf (geometryIn s) s i))
   -- on a state that calls gave, the lists are those of step 5, as the image gives them
-  pub lists : Good g s i → admission g (s .on) (s .blocks) (length i) ≡ 0 → (nodes : List Node) (G : ℕ)
-      → Views.meaning g (limitOf s) (pagesOf g i) ≡ Views.means nodes G → pagesTold r ≡ listLengths nodes (path k (presentOf g s i))
+  pub lists : Good (geometryIn s) s i → admission (geometryIn s) (s .on) (s .blocks) (length i) ≡ 0 → (nodes : List Node) (G : ℕ)
+      → Views.meaning (geometryIn s) (limitOf s) (pagesOf (geometryIn s) i) ≡ Views.means nodes G → pagesTold r ≡ listLengths nodes (path k (presentOf (geometryIn s) s i))
   pub few : pagesTold r ≤ 16
 
--- on any state: B stays, and the units of the buffer are at most 960, or no more than there were
+-- on any state: the part and B stay, and the units of the buffer are at most 960, or no more than there were
 pub record KeepsBounds (s s' : State) : Type 0 where
+  pub nand : s' .nand ≡ s .nand
   pub blocks : s' .blocks ≡ s .blocks
   pub units : s' .count ≤ max 960 (s .count)
 
 -- insert and delete: what the promise says of an update of their kind; on any state no figure is changed
-pub record UpdatesBy (g : Geometry) (u : UpdateCall) (s : State) (i : List ℕ) (r : Updated) : Type 0 where
-  pub says : P.Updates g (index g) u s i (answerOf (r .answer)) (r .state) i
+pub record UpdatesBy (u : UpdateCall) (s : State) (i : List ℕ) (r : Updated) : Type 0 where
+  pub says : P.Updates index u s i (answerOf (r .answer)) (r .state) i
   pub bounds : KeepsBounds s (r .state)
   pub figures : r .state .erases ≡ s .erases
 
-abbrev pub Inserts : (g : Geometry) (k v : ℕ) → State → List ℕ → Updated → Type 0
-Inserts g k v = UpdatesBy g (insertion k v)
+abbrev pub Inserts : (k v : ℕ) → State → List ℕ → Updated → Type 0
+Inserts k v = UpdatesBy (insertion k v)
 
-abbrev pub Deletes : (g : Geometry) (k : ℕ) → State → List ℕ → Updated → Type 0
-Deletes g k = UpdatesBy g (deletion k)
+abbrev pub Deletes : (k : ℕ) → State → List ℕ → Updated → Type 0
+Deletes k = UpdatesBy (deletion k)
 
 -- the refusal of a block report: 2, 1, 4 for a block not on the chip
-abbrev pub reportNumber : Geometry → State → ℕ → ℕ → ℕ
-reportNumber g s len b = orElse (admission g (s .on) (s .blocks) len) (when 4 (leb (s .blocks) b))
+abbrev pub reportNumber : State → ℕ → ℕ → ℕ
+reportNumber s len b = orElse (admission (geometryIn s) (s .on) (s .blocks) len) (when 4 (leb (s .blocks) b))
 
 -- the pages of block b
 abbrev pub blockPages : Geometry → ℕ → List ℕ → List (List ℕ)
 blockPages g b image = part (b * g .pages) (g .pages) (pagesOf g image)
 
 -- block report: on any state and any image
-pub record Reports (g : Geometry) (b : ℕ) (s : State) (i : List ℕ) (r : Report) : Type 0 where
-  pub refusal : reportRefusal r ≡ reportNumber g s (length i) b
-  pub free : reportRefusal r ≡ 0 → freeTold r ≡ count isFree (blockPages g b i)
-  pub first : reportRefusal r ≡ 0 → firstTold r ≡ first isFree (blockPages g b i)
+pub record Reports (b : ℕ) (s : State) (i : List ℕ) (r : Report) : Type 0 where
+  pub refusal : reportRefusal r ≡ reportNumber s (length i) b
+  pub free : reportRefusal r ≡ 0 → freeTold r ≡ count isFree (blockPages (geometryIn s) b i)
+  pub first : reportRefusal r ≡ 0 → firstTold r ≡ first isFree (blockPages (geometryIn s) b i)
   pub erases : reportRefusal r ≡ 0 → erasesTold r ≡ getD (s .erases) b 0
 
 -- ---- commit and forecast
@@ -144,29 +146,29 @@ abbrev pub theOps : Geometry → State → List ℕ → List Op
 theOps g s i = opsOf g (s .commit) (thePlan g s i)
 
 -- a commit that its tests pass, with updates pending, on any state and any image
-abbrev pub Proceeds : Geometry → ℕ → List ℕ → State → List ℕ → Type 0
-Proceeds g allowance torn s i = P.Proceeding g (index g) (commits allowance (length i) (length torn)) s
+abbrev pub Proceeds : ℕ → List ℕ → State → List ℕ → Type 0
+Proceeds allowance torn s i = P.Proceeding index (commits allowance (length i) (length torn)) s
 
 -- commit: the records of the promise
-pub record Commits (g : Geometry) (allowance : ℕ) (torn : List ℕ) (s : State) (i : List ℕ) (r : Wrote) (i' : List ℕ) : Type 0 where
-  pub says : P.Commit g (index g) allowance torn s i (answerOf (r .answer)) (total (r .ops)) (r .state) i'
+pub record Commits (allowance : ℕ) (torn : List ℕ) (s : State) (i : List ℕ) (r : Wrote) (i' : List ℕ) : Type 0 where
+  pub says : P.Commit index allowance torn s i (answerOf (r .answer)) (total (r .ops)) (r .state) i'
   -- on any state and any image: the operations told by kind are the first of the plan's
-  pub kinds : Proceeds g allowance torn s i → r .ops ≡ toldOf allowance (theOps g s i)
+  pub kinds : Proceeds allowance torn s i → r .ops ≡ toldOf allowance (theOps (geometryIn s) s i)
   -- the image's pages are those of a run of the plan's operations
-  pub bytes : Proceeds g allowance torn s i → pagesOf g i' ≡ run g torn (record { power = Left allowance; pages = pagesOf g i }) (theOps g s i) .pages
+  pub bytes : Proceeds allowance torn s i → pagesOf (geometryIn s) i' ≡ run (geometryIn s) torn (record { power = Left allowance; pages = pagesOf (geometryIn s) i }) (theOps (geometryIn s) s i) .pages
   -- finished, each figure has grown by the erases of its block among them
-  pub figures : Proceeds g allowance torn s i → answerOf (r .answer) ≡ accepted → r .state .erases ≡ figuresAfter (theOps g s i) (s .erases)
+  pub figures : Proceeds allowance torn s i → answerOf (r .answer) ≡ accepted → r .state .erases ≡ figuresAfter (theOps (geometryIn s) s i) (s .erases)
   -- on a good state, with room or without: a program only where the data is all 255
-  pub legal : P.Committing g (index g) allowance torn s i → Legal g (pagesOf g i) (theOps g s i)
+  pub legal : P.Committing index allowance torn s i → Legal (geometryIn s) (pagesOf (geometryIn s) i) (theOps (geometryIn s) s i)
   -- the units of one node stand in one page
-  pub once : P.Committing g (index g) allowance torn s i → Distinct (groupsOf (thePlan g s i .written))
+  pub once : P.Committing index allowance torn s i → Distinct (groupsOf (thePlan (geometryIn s) s i .written))
   pub off : answerOf (r .answer) ≡ refuses 10 → r .state ≡ turnedOff s
   pub bounds : KeepsBounds s (r .state)
 
 -- forecast: the record of the promise; by kind, all operations of the plan; on any state and any image
-pub record Forecasts (g : Geometry) (s : State) (i : List ℕ) (r : Forecast) : Type 0 where
-  pub says : P.Forecast g (index g) s i (answerOf (r .answer)) (total (r .ops)) s i
-  pub kinds : P.Proceeding g (index g) (forecasts (length i)) s → r .ops ≡ countsOf (kindsOf (theOps g s i))
+pub record Forecasts (s : State) (i : List ℕ) (r : Forecast) : Type 0 where
+  pub says : P.Forecast index s i (answerOf (r .answer)) (total (r .ops)) s i
+  pub kinds : P.Proceeding index (forecasts (length i)) s → r .ops ≡ countsOf (kindsOf (theOps (geometryIn s) s i))
 
 -- what a forecast r says of a commit w with an allowance of n on the same state and image: with the sum of its counts, or more, the commit answers as the forecast did
 -- and tells the same counts; with less it is cut and tells the allowance

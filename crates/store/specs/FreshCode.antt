@@ -4,22 +4,24 @@ use mathlib.Core.Bool.{true}
 use mathlib.Core.List.{List, _∷_}
 use Prim.Native.Nat.{ℕ, suc, _+_, _≤_, _<_}
 use lib.ListN.{getD, replicate}
+use Rattle.chip.specs.Geometry.{Nand}
 use Rattle.store.specs.declared.state.State.{State}
 
 -- with nothing pending, the node table read from the image, and no erase of any block
-abbrev pub mountedState : ℕ → ℕ → ℕ → List ℕ → List ℕ → List ℕ → State
-mountedState b commit next buffer lens slots =
-    record { on = true; blocks = b; commit = commit; pending = 0; next = next; count = 0; buffer = buffer; lens = lens; slots = slots; erases = replicate 32 0 }
+abbrev pub mountedState : Nand → ℕ → ℕ → ℕ → List ℕ → List ℕ → List ℕ → State
+mountedState n b commit next buffer lens slots =
+    record { on = true; nand = n; blocks = b; commit = commit; pending = 0; next = next; count = 0; buffer = buffer; lens = lens; slots = slots; erases = replicate 32 0 }
 
 -- node 0 has a list of one page, page 0; all other lists are empty
-abbrev pub freshState : ℕ → List ℕ → State
-freshState b buffer = mountedState b 1 1 buffer (1 ∷ replicate 255 0) (replicate 1024 0)
+abbrev pub freshState : Nand → ℕ → List ℕ → State
+freshState n b buffer = mountedState n b 1 1 buffer (1 ∷ replicate 255 0) (replicate 1024 0)
 
 -- the next commit number, nothing pending, the node table with the pages of the commit, the figures with its erases
 abbrev pub committedState : State → List ℕ → List ℕ → List ℕ → State
 committedState s lens slots erases =
     record {
       on = s .on;
+      nand = s .nand;
       blocks = s .blocks;
       commit = s .commit + 1;
       pending = 0;

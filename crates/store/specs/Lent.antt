@@ -4,7 +4,6 @@ use mathlib.Core.Bool.{false}
 use mathlib.Core.List.{List, [], _∷_}
 use Prim.Native.Nat.{ℕ}
 use Rattle.chip.specs.declared.progress.Counts.{Counts}
-use Rattle.chip.specs.Geometry.{Geometry}
 use Rattle.chip.specs.Counts.{total}
 use Rattle.promise.specs.Steps.{Step, Lends, Hands, boots}
 use Rattle.store.specs.declared.answer.Answer.{Answer}
@@ -41,12 +40,12 @@ pub record LentStep : Type 0 where
   pub image : List ℕ
 
 -- what happened meets the contract of the call
-abbrev pub Meets : Geometry → Call → LentStep → Type 0
-Meets g c x = StepsBy g c (x .torn) (stateFrom (x .given)) (x .lent) (record { answer = x .answer; ops = x .ops; state = stateFrom (x .after) }) (x .left)
+abbrev pub Meets : Call → LentStep → Type 0
+Meets c x = StepsBy c (x .torn) (stateFrom (x .given)) (x .lent) (record { answer = x .answer; ops = x .ops; state = stateFrom (x .after) }) (x .left)
 
 -- the same as a step of the promise
-abbrev pub lentStep : (g : Geometry) → LentStep → Step (index g)
-lentStep g x =
+abbrev pub lentStep : LentStep → Step index
+lentStep x =
     record {
       act = actOf (x .call) (x .torn);
       given = stateFrom (x .given);
@@ -59,12 +58,12 @@ lentStep g x =
     }
 
 -- a call from the one image i, where H are the states at hand
-pub record TakesLent (g : Geometry) (H : State → Type 0) (i : List ℕ) (x : LentStep) : Type 0 where
-  pub meets : Meets g (x .call) x
-  pub lends : Lends (index g) i (lentStep g x)
+pub record TakesLent (H : State → Type 0) (i : List ℕ) (x : LentStep) : Type 0 where
+  pub meets : Meets (x .call) x
+  pub lends : Lends index i (lentStep x)
   pub handed : boots (actOf (x .call) (x .torn)) ≡ false → H (stateFrom (x .given))
 
 -- each call gets the parts that the last one left, a mount or a format any parts, and nothing else writes parts or image in between
-abbrev pub RunsLent : Geometry → (State → Type 0) → List ℕ → List LentStep → Type 0
-RunsLent g H i [] = Unit {0}
-RunsLent g H i (x ∷ xs) = TakesLent g H i x × RunsLent g (Hands (index g) H (lentStep g x)) (x .image) xs
+abbrev pub RunsLent : (State → Type 0) → List ℕ → List LentStep → Type 0
+RunsLent H i [] = Unit {0}
+RunsLent H i (x ∷ xs) = TakesLent H i x × RunsLent (Hands index H (lentStep x)) (x .image) xs

@@ -2,8 +2,9 @@
 use mathlib.Core.Bool.{false}
 use mathlib.Core.List.{List}
 use Prim.Native.Nat.{ℕ, _*_}
-use Rattle.chip.specs.Geometry.{Geometry}
+use Rattle.chip.specs.Geometry.{geometryOf}
 use Rattle.views.specs.declared.view.Scope.{Scope}
+use Rattle.plan.specs.declared.make.Basis.{Basis}
 use Rattle.store.specs.declared.state.Numbers.{Numbers}
 use Rattle.store.specs.declared.state.State.{State}
 use Rattle.store.specs.declared.state.Updated.{Updated}
@@ -16,6 +17,7 @@ abbrev pub joined : Numbers → List ℕ → List ℕ → List ℕ → List ℕ 
 joined n buffer lens slots erases =
     record {
       on = n .on;
+      nand = n .nand;
       blocks = n .blocks;
       commit = n .commit;
       pending = n .pending;
@@ -29,15 +31,19 @@ joined n buffer lens slots erases =
 
 -- the numbers of a state
 abbrev pub numbersOf : State → Numbers
-numbersOf s = record { on = s .on; blocks = s .blocks; commit = s .commit; pending = s .pending; next = s .next; count = s .count }
+numbersOf s = record { on = s .on; nand = s .nand; blocks = s .blocks; commit = s .commit; pending = s .pending; next = s .next; count = s .count }
 
 -- what its nodes are read with: node numbers are below 8 × B
-abbrev pub scopeOf : Geometry → Numbers → Scope
-scopeOf g n = record { geometry = g; count = n .count; limit = 8 * n .blocks }
+abbrev pub scopeOf : Numbers → Scope
+scopeOf n = record { geometry = geometryOf (n .nand); count = n .count; limit = 8 * n .blocks }
+
+-- what the plan of a commit is made from
+abbrev pub basisOf : Numbers → Basis
+basisOf n = record { geometry = geometryOf (n .nand); count = n .count; blocks = n .blocks; commit = n .commit }
 
 -- the same numbers, off
 abbrev pub numbersOff : Numbers → Numbers
-numbersOff n = record { on = false; blocks = n .blocks; commit = n .commit; pending = n .pending; next = n .next; count = n .count }
+numbersOff n = record { on = false; nand = n .nand; blocks = n .blocks; commit = n .commit; pending = n .pending; next = n .next; count = n .count }
 
 -- what an insert or a delete gives back, with the arrays that it leaves
 abbrev pub updatedWith : UpdatedParts → List ℕ → List ℕ → List ℕ → List ℕ → Updated

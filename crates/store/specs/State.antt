@@ -6,7 +6,8 @@ use Prim.Native.Nat.{ℕ, _*_, _≤_, _<_}
 use lib.Dec.{eqb, leb}
 use lib.ListN.{length, getD, replicate}
 use Rattle.lists.specs.Lists.{All, all, tab}
-use Rattle.chip.specs.Geometry.{Geometry, blocksOf}
+use Rattle.chip.specs.declared.geometry.Nand.the-variants.{Small}
+use Rattle.chip.specs.Geometry.{Geometry, geometryOf, blocksOf}
 use Rattle.chip.specs.Chip.{Op, pagesOf}
 use Rattle.pages.specs.declared.unit.Unit as U
 use Rattle.pages.specs.declared.unit.Decoded.{Decoded}
@@ -33,6 +34,7 @@ abbrev pub initial : State
 initial =
     record {
       on = false;
+      nand = Small;
       blocks = 0;
       commit = 0;
       pending = 0;
@@ -49,6 +51,7 @@ abbrev pub turnedOff : State → State
 turnedOff s =
     record {
       on = false;
+      nand = s .nand;
       blocks = s .blocks;
       commit = s .commit;
       pending = s .pending;
@@ -59,6 +62,10 @@ turnedOff s =
       slots = s .slots;
       erases = s .erases;
     }
+
+-- the geometry of its part
+abbrev pub geometryIn : State → Geometry
+geometryIn s = geometryOf (s .nand)
 
 -- node numbers are below 8 × B
 abbrev pub limitOf : State → ℕ

@@ -2,7 +2,6 @@
 use mathlib.Core.Path.{_≡_}
 use mathlib.Core.List.{List}
 use Prim.Native.Nat.{ℕ, _<_}
-use Rattle.chip.specs.Geometry.{Geometry}
 use Rattle.chip.specs.Counts.{nothing}
 use Rattle.tree.specs.Step6.{top}
 use Rattle.promise.specs.Steps as P
@@ -22,23 +21,23 @@ use Rattle.store.specs.Contracts.{Formats, Mounts, Commits, Forecasts, L
 
 -- a call with its numbers and its torn slice
 abbrev pub actOf : Call → List ℕ → Act
-actOf (Format n) torn = P.format n torn
+actOf (Format m n) torn = P.format m n torn
 actOf (Insert k v) torn = P.insert k v
 actOf (Delete k) torn = P.delete k
 actOf (LookUp k) torn = P.lookUp k
 actOf Forecast torn = P.forecast
 actOf (Commit n) torn = P.commit n torn
-actOf (Mount n) torn = P.mount n torn
+actOf (Mount m n) torn = P.mount m n torn
 
 -- the key of a call has 32 bits, as the code takes it
 abbrev pub KeyBits : Call → Type 0
-KeyBits (Format n) = Unit {0}
+KeyBits (Format m n) = Unit {0}
 KeyBits (Insert k v) = k < top
 KeyBits (Delete k) = k < top
 KeyBits (LookUp k) = k < top
 KeyBits Forecast = Unit {0}
 KeyBits (Commit n) = Unit {0}
-KeyBits (Mount n) = Unit {0}
+KeyBits (Mount m n) = Unit {0}
 
 -- what the calls give back, in one form; insert, delete and look up do no operation, and look up and forecast give the state back
 abbrev pub ofWrote : Wrote → Stepped
@@ -70,23 +69,23 @@ pub record UpdateSteps (A : Updated → Type 0) (i : List ℕ) (r : Stepped) (i'
   pub image : i' ≡ i
 
 -- a look up gives the state and the image back
-pub record LookSteps (g : Geometry) (k : ℕ) (s : State) (i : List ℕ) (r : Stepped) (i' : List ℕ) : Type 0 where
+pub record LookSteps (k : ℕ) (s : State) (i : List ℕ) (r : Stepped) (i' : List ℕ) : Type 0 where
   pub look : Look
-  pub says : Looks g k s i look
+  pub says : Looks k s i look
   pub is : r ≡ ofLook look s
   pub image : i' ≡ i
 
 -- and so does a forecast
-pub record ForecastSteps (g : Geometry) (s : State) (i : List ℕ) (r : Stepped) (i' : List ℕ) : Type 0 where
-  pub says : Forecasts g s i (record { answer = r .answer; ops = r .ops })
+pub record ForecastSteps (s : State) (i : List ℕ) (r : Stepped) (i' : List ℕ) : Type 0 where
+  pub says : Forecasts s i (record { answer = r .answer; ops = r .ops })
   pub state : r .state ≡ s
   pub image : i' ≡ i
 
-abbrev pub StepsBy : Geometry → Call → (torn : List ℕ) → State → (image : List ℕ) → Stepped → (left : List ℕ) → Type 0
-StepsBy g (Format n) torn s i r i' = Formats g n torn s i (wroteIn r) i'
-StepsBy g (Insert k v) torn s i r i' = UpdateSteps (Inserts g k v s i) i r i'
-StepsBy g (Delete k) torn s i r i' = UpdateSteps (Deletes g k s i) i r i'
-StepsBy g (LookUp k) torn s i r i' = LookSteps g k s i r i'
-StepsBy g Forecast torn s i r i' = ForecastSteps g s i r i'
-StepsBy g (Commit n) torn s i r i' = Commits g n torn s i (wroteIn r) i'
-StepsBy g (Mount n) torn s i r i' = Mounts g n torn s i (wroteIn r) i'
+abbrev pub StepsBy : Call → (torn : List ℕ) → State → (image : List ℕ) → Stepped → (left : List ℕ) → Type 0
+StepsBy (Format m n) torn s i r i' = Formats m n torn s i (wroteIn r) i'
+StepsBy (Insert k v) torn s i r i' = UpdateSteps (Inserts k v s i) i r i'
+StepsBy (Delete k) torn s i r i' = UpdateSteps (Deletes k s i) i r i'
+StepsBy (LookUp k) torn s i r i' = LookSteps k s i r i'
+StepsBy Forecast torn s i r i' = ForecastSteps s i r i'
+StepsBy (Commit n) torn s i r i' = Commits n torn s i (wroteIn r) i'
+StepsBy (Mount m n) torn s i r i' = Mounts m n torn s i (wroteIn r) i'

@@ -1,7 +1,7 @@
 // The tests that come first in every call: 2 off, and 1 size.
 ghost use mathlib.Core.Path.{_≡_};
-ghost use Rattle.chip.specs.Geometry.{Fits};
-ghost use Rattle.store.specs.AdmitCode.{Admitted, Sized, updateTests, commitTests, answerFor, CommitBegins};
+ghost use Rattle.chip.specs.Geometry.{Fits, geometryOf, pageSize};
+ghost use Rattle.store.specs.AdmitCode.{Admitted, Sized, updateTests, testsOf, answerFor, CommitBegins};
 ghost use Rattle.store.specs.Answers.{answerOf};
 use crate::answer;
 use crate::answer::Answer;
@@ -9,6 +9,7 @@ use crate::state::Numbers;
 use crate::state::UNITS;
 use chip::geometry;
 use chip::geometry::Geometry;
+use chip::geometry::Nand;
 
 // The most updates that may be pending.
 const PENDING: u32 = 16;
@@ -29,19 +30,28 @@ pub enum Beginning {
     Plans,
 }
 
-// The tests 2 and 1 of a call that is lent an image alone, on the state's `on` and `blocks` and the image's length.
-pub fn admit(geometry: Geometry, on: bool, blocks: usize, len: usize) -> Admission
-    requires { ⌜ Fits geometry ⌝ }
-    ensures { λ r. ⌜ Admitted geometry on blocks len r ⌝ }
+// Bytes of a page of a part, and of a torn slice.
+pub fn page_size(nand: Nand) -> usize
+    ensures { λ r. ⌜ r ≡ pageSize (geometryOf nand) ⌝ }
 {
-    if !on {
+    let geometry = geometry::geometry_of(nand);
+    geometry.area + geometry.spare
+}
+
+// The tests 2 and 1 of a call that is lent an image alone, on the state's numbers and the image's length.
+pub fn admit(numbers: Numbers, len: usize) -> Admission
+    ensures { λ r. ⌜ Admitted (geometryOf (numbers .nand)) (numbers .on) (numbers .blocks) len r ⌝ }
+{
+    if !numbers.on {
         return Admission::Off;
     }
+    let nand = numbers.nand;
+    let geometry = geometry::geometry_of(nand);
     let found = geometry::blocks_of(geometry, len);
     if found == 0 {
         return Admission::Size;
     }
-    if found == blocks {
+    if found == numbers.blocks {
         Admission::Passes
     } else {
         Admission::Size
@@ -49,11 +59,10 @@ pub fn admit(geometry: Geometry, on: bool, blocks: usize, len: usize) -> Admissi
 }
 
 // The tests 2, 1 and 3 of an insert or a delete: accepted where all pass.
-pub fn update_tests(geometry: Geometry, numbers: Numbers, len: usize) -> Answer
-    requires { ⌜ Fits geometry ⌝ }
-    ensures { λ r. ⌜ answerOf r ≡ answerFor (updateTests geometry (numbers .on) (numbers .blocks) (numbers .pending) len) ⌝ }
+pub fn update_tests(numbers: Numbers, len: usize) -> Answer
+    ensures { λ r. ⌜ answerOf r ≡ answerFor (updateTests (geometryOf (numbers .nand)) (numbers .on) (numbers .blocks) (numbers .pending) len) ⌝ }
 {
-    match admit(geometry, numbers.on, numbers.blocks, len) {
+    match admit(numbers, len) {
         Admission::Off => Answer::Off,
         Admission::Size => Answer::Size,
         Admission::Passes => {
@@ -67,15 +76,15 @@ pub fn update_tests(geometry: Geometry, numbers: Numbers, len: usize) -> Answer
 }
 
 // The tests 2, 1 and 6 of a commit: accepted where all pass.
-fn commit_tests(geometry: Geometry, numbers: Numbers, len: usize, torn: usize) -> Answer
-    requires { ⌜ Fits geometry ⌝ }
-    ensures { λ r. ⌜ answerOf r ≡ answerFor (commitTests geometry (numbers .on) (numbers .blocks) (numbers .pending) (numbers .commit) len torn) ⌝ }
+fn commit_tests(numbers: Numbers, len: usize, torn: usize) -> Answer
+    ensures { λ r. ⌜ answerOf r ≡ answerFor (testsOf numbers len torn) ⌝ }
 {
-    match admit(geometry, numbers.on, numbers.blocks, len) {
+    match admit(numbers, len) {
         Admission::Off => Answer::Off,
         Admission::Size => Answer::Size,
         Admission::Passes => {
-            if torn != geometry.area + geometry.spare {
+            let nand = numbers.nand;
+            if torn != page_size(nand) {
                 return Answer::Size;
             }
             if numbers.pending == 0 {
@@ -91,11 +100,10 @@ fn commit_tests(geometry: Geometry, numbers: Numbers, len: usize, torn: usize) -
 }
 
 // A commit, or a forecast of one, goes on to its plan where its tests pass, updates are pending and the buffer holds its units.
-pub fn commit_begins(geometry: Geometry, numbers: Numbers, len: usize, torn: usize) -> Beginning
-    requires { ⌜ Fits geometry ⌝ }
-    ensures { λ r. ⌜ CommitBegins geometry numbers len torn r ⌝ }
+pub fn commit_begins(numbers: Numbers, len: usize, torn: usize) -> Beginning
+    ensures { λ r. ⌜ CommitBegins numbers len torn r ⌝ }
 {
-    let answer = commit_tests(geometry, numbers, len, torn);
+    let answer = commit_tests(numbers, len, torn);
     if answer::number(answer) > 0 {
         return Beginning::Ends(answer);
     }

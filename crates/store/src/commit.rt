@@ -1,6 +1,5 @@
 // Commit: the pending updates written as commit G + 1. 2; 1; 6 when updates are pending and G is the last number; 10.
 ghost use lib.ListN.{length};
-ghost use Rattle.chip.specs.Geometry.{Fits, small};
 ghost use Rattle.store.specs.declared.admit.Beginning.the-variants.{Plans};
 ghost use Rattle.store.specs.AdmitCode.{CommitBegins};
 ghost use Rattle.store.specs.Contracts.{Commits};
@@ -9,21 +8,18 @@ use crate::admit;
 use crate::admit::Beginning;
 use crate::answer::Answer;
 use crate::ending;
+use crate::scope;
 use crate::state;
 use crate::state::Numbers;
 use crate::state::State;
 use crate::state::Wrote;
 use crate::state::WroteParts;
-use chip::geometry::Geometry;
-use chip::geometry::SMALL;
 use chip::progress;
 use commits::execute;
-use plan::make::Basis;
 
 // A commit on a state that the tests pass: its plan executed, with power for `allowance` operations. The node table and the erases
 // are changed where the commit is finished. `all` and `each` show the proof that the slots are 1024 and the figures 32.
 fn commit_pending(
-    geometry: Geometry,
     numbers: Numbers,
     lens: &mut [u32; 256],
     slots: &mut [u32; 1024],
@@ -33,16 +29,11 @@ fn commit_pending(
     torn: &[u8],
     allowance: u32,
 ) -> WroteParts
-    requires { ⌜ CommitBegins geometry numbers (length (now image)) (length (now torn)) Plans × Fits geometry ⌝ }
-    ensures { λ r. ⌜ Commits geometry allowance (now (torn .entry)) (joined numbers (now (buffer .entry)) (now (lens .entry)) (now (slots .entry)) (now (erases .entry)))
+    requires { ⌜ CommitBegins numbers (length (now image)) (length (now torn)) Plans ⌝ }
+    ensures { λ r. ⌜ Commits allowance (now (torn .entry)) (joined numbers (now (buffer .entry)) (now (lens .entry)) (now (slots .entry)) (now (erases .entry)))
         (now (image .entry)) (wroteWith r (now (buffer .entry)) (now (lens .exit)) (now (slots .exit)) (now (erases .exit))) (now (image .exit)) ⌝ }
 {
-    let basis = Basis {
-        geometry,
-        count: numbers.count,
-        blocks: numbers.blocks,
-        commit: numbers.commit,
-    };
+    let basis = scope::basis_of(numbers);
     let start = progress::begin(allowance);
     let mut l = *lens;
     let mut s = *slots;
@@ -83,13 +74,12 @@ pub fn commit_lent(
     torn: &[u8],
     allowance: u32,
 ) -> WroteParts
-    ensures { λ r. ⌜ Commits small allowance (now (torn .entry)) (joined numbers (now (buffer .entry)) (now (lens .entry)) (now (slots .entry)) (now (erases .entry)))
+    ensures { λ r. ⌜ Commits allowance (now (torn .entry)) (joined numbers (now (buffer .entry)) (now (lens .entry)) (now (slots .entry)) (now (erases .entry)))
         (now (image .entry)) (wroteWith r (now (buffer .entry)) (now (lens .exit)) (now (slots .exit)) (now (erases .exit))) (now (image .exit)) ⌝ }
 {
-    match admit::commit_begins(SMALL, numbers, image.len(), torn.len()) {
+    match admit::commit_begins(numbers, image.len(), torn.len()) {
         Beginning::Ends(answer) => ending::quiet(numbers, answer),
         Beginning::Plans => commit_pending(
-            SMALL,
             numbers,
             lens,
             slots,
@@ -104,7 +94,7 @@ pub fn commit_lent(
 
 // Commit on a state by value.
 pub fn commit(state: State, image: &mut [u8], torn: &[u8], allowance: u32) -> Wrote
-    ensures { λ r. ⌜ Commits small allowance (now (torn .entry)) state (now (image .entry)) r (now (image .exit)) ⌝ }
+    ensures { λ r. ⌜ Commits allowance (now (torn .entry)) state (now (image .entry)) r (now (image .exit)) ⌝ }
 {
     let numbers = state::numbers_of(state);
     let mut lens = state.lens;

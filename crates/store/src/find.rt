@@ -1,7 +1,6 @@
 // Look up: the value of a key in P, and the pages read for it.
 ghost use mathlib.Core.List.{List};
 ghost use Prim.Native.Nat.{ℕ};
-ghost use Rattle.chip.specs.Geometry.{small};
 ghost use Rattle.store.specs.Contracts.{Looks};
 ghost use Rattle.store.specs.Parts.{joined};
 use crate::admit;
@@ -11,7 +10,6 @@ use crate::scope;
 use crate::state;
 use crate::state::Numbers;
 use crate::state::State;
-use chip::geometry::SMALL;
 use tree::find;
 use tree::find::Hit;
 
@@ -24,13 +22,13 @@ pub fn look_up_lent<'a>(
     image: &[u8],
     key: u32,
 ) -> Look
-    ensures { λ r. ⌜ ((erases : List ℕ) → Looks small key (joined numbers (now (buffer .entry)) (now (lens .entry)) (now (slots .entry)) erases) (now (image .entry)) r) ⌝ }
+    ensures { λ r. ⌜ ((erases : List ℕ) → Looks key (joined numbers (now (buffer .entry)) (now (lens .entry)) (now (slots .entry)) erases) (now (image .entry)) r) ⌝ }
 {
-    match admit::admit(SMALL, numbers.on, numbers.blocks, image.len()) {
+    match admit::admit(numbers, image.len()) {
         Admission::Off => Look::Off,
         Admission::Size => Look::Size,
         Admission::Passes => {
-            let scope = scope::scope_of(SMALL, numbers);
+            let scope = scope::scope_of(numbers);
             let looked = find::find(image, lens, slots, buffer, scope, key);
             let pages = looked.pages;
             let hit = looked.hit;
@@ -44,7 +42,7 @@ pub fn look_up_lent<'a>(
 
 // Look up on a state by value.
 pub fn look_up(state: State, image: &[u8], key: u32) -> Look
-    ensures { λ r. ⌜ Looks small key state (now (image .entry)) r ⌝ }
+    ensures { λ r. ⌜ Looks key state (now (image .entry)) r ⌝ }
 {
     let numbers = state::numbers_of(state);
     look_up_lent(

@@ -3,7 +3,7 @@ ghost use mathlib.Core.Path.{_≡_};
 ghost use mathlib.Core.List.{List};
 ghost use Prim.Native.Nat.{ℕ};
 ghost use lib.ListN.{length};
-ghost use Rattle.chip.specs.Geometry.{Fits, pageSize, small};
+ghost use Rattle.chip.specs.Geometry.{geometryOf, pageSize};
 ghost use Rattle.chip.specs.Counts.{nothing};
 ghost use Rattle.store.specs.declared.admit.Beginning.the-variants.{Plans};
 ghost use Rattle.store.specs.AdmitCode.{CommitBegins};
@@ -13,17 +13,12 @@ use crate::admit;
 use crate::admit::Beginning;
 use crate::answer::Answer;
 use crate::answer::Forecast;
+use crate::scope;
 use crate::state;
 use crate::state::Numbers;
 use crate::state::State;
-use chip::geometry::Geometry;
-use chip::geometry::SMALL;
 use chip::progress;
 use commits::forecast;
-use plan::make::Basis;
-
-// Bytes of a page, and of a torn slice.
-const PAGE: usize = SMALL.area + SMALL.spare;
 
 // This answer, and no operation.
 fn quiet(answer: Answer) -> Forecast
@@ -35,23 +30,17 @@ fn quiet(answer: Answer) -> Forecast
 
 // What a commit on a state that the tests pass would cost.
 fn forecast_pending<'a>(
-    geometry: Geometry,
     numbers: Numbers,
     lens: &'a [u32; 256],
     slots: &'a [u32; 1024],
     buffer: &'a [u8; 11520],
     image: &[u8],
 ) -> Forecast
-    requires { ⌜ CommitBegins geometry numbers (length (now image)) (pageSize geometry) Plans × Fits geometry ⌝ }
+    requires { ⌜ CommitBegins numbers (length (now image)) (pageSize (geometryOf (numbers .nand))) Plans ⌝ }
     ensures { λ r. ⌜ ((erases : List ℕ)
-        → Forecasts geometry (joined numbers (now (buffer .entry)) (now (lens .entry)) (now (slots .entry)) erases) (now (image .entry)) r) ⌝ }
+        → Forecasts (joined numbers (now (buffer .entry)) (now (lens .entry)) (now (slots .entry)) erases) (now (image .entry)) r) ⌝ }
 {
-    let basis = Basis {
-        geometry,
-        count: numbers.count,
-        blocks: numbers.blocks,
-        commit: numbers.commit,
-    };
+    let basis = scope::basis_of(numbers);
     let cost = forecast::forecast(image, lens, slots, buffer, basis);
     if cost.stuck {
         return quiet(Answer::Last);
@@ -70,17 +59,19 @@ pub fn forecast_lent<'a>(
     image: &[u8],
 ) -> Forecast
     ensures { λ r. ⌜ ((erases : List ℕ)
-        → Forecasts small (joined numbers (now (buffer .entry)) (now (lens .entry)) (now (slots .entry)) erases) (now (image .entry)) r) ⌝ }
+        → Forecasts (joined numbers (now (buffer .entry)) (now (lens .entry)) (now (slots .entry)) erases) (now (image .entry)) r) ⌝ }
 {
-    match admit::commit_begins(SMALL, numbers, image.len(), PAGE) {
+    let nand = numbers.nand;
+    let torn = admit::page_size(nand);
+    match admit::commit_begins(numbers, image.len(), torn) {
         Beginning::Ends(answer) => quiet(answer),
-        Beginning::Plans => forecast_pending(SMALL, numbers, lens, slots, buffer, image),
+        Beginning::Plans => forecast_pending(numbers, lens, slots, buffer, image),
     }
 }
 
 // Forecast on a state by value.
 pub fn forecast(state: State, image: &[u8]) -> Forecast
-    ensures { λ r. ⌜ Forecasts small state (now (image .entry)) r ⌝ }
+    ensures { λ r. ⌜ Forecasts state (now (image .entry)) r ⌝ }
 {
     let numbers = state::numbers_of(state);
     forecast_lent(numbers, &state.lens, &state.slots, &state.buffer, image)

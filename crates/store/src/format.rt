@@ -1,7 +1,6 @@
 // Format: all blocks erased, lowest first, and commit 1 written into the first page of block 0.
 ghost use mathlib.Core.List.{List};
 ghost use Prim.Native.Nat.{ℕ};
-ghost use Rattle.chip.specs.Geometry.{small};
 ghost use Rattle.store.specs.Contracts.{Formats};
 ghost use Rattle.store.specs.Parts.{joined, wroteWith};
 use crate::admit;
@@ -12,14 +11,16 @@ use crate::state::Numbers;
 use crate::state::State;
 use crate::state::Wrote;
 use crate::state::WroteParts;
-use chip::geometry::SMALL;
+use chip::geometry;
+use chip::geometry::Nand;
 use chip::progress;
 use log;
 
-// Format on a lent node table and lent erases, with power for `allowance` operations: after it the node table has one empty leaf, node 0, on
+// Format as the part named, on a lent node table and lent erases, with power for `allowance` operations: after it the node table has one empty leaf, node 0, on
 // page 0, and no block has an erase. The buffer's bytes stay, whatever they are.
 pub fn format_lent(
     numbers: Numbers,
+    nand: Nand,
     lens: &mut [u32; 256],
     slots: &mut [u32; 1024],
     erases: &mut [u64; 32],
@@ -27,17 +28,19 @@ pub fn format_lent(
     torn: &[u8],
     allowance: u32,
 ) -> WroteParts
-    ensures { λ r. ⌜ ((buffer : List ℕ) → Formats small allowance (now (torn .entry)) (joined numbers buffer (now (lens .entry)) (now (slots .entry)) (now (erases .entry)))
+    ensures { λ r. ⌜ ((buffer : List ℕ) → Formats nand allowance (now (torn .entry)) (joined numbers buffer (now (lens .entry)) (now (slots .entry)) (now (erases .entry)))
         (now (image .entry)) (wroteWith r buffer (now (lens .exit)) (now (slots .exit)) (now (erases .exit))) (now (image .exit))) ⌝ }
 {
-    let blocks = admit::sized(SMALL, image.len(), torn.len());
+    let geometry = geometry::geometry_of(nand);
+    let blocks = admit::sized(geometry, image.len(), torn.len());
     if blocks == 0 {
         return ending::quiet(numbers, Answer::Size);
     }
     let start = progress::begin(allowance);
-    let reached = log::format::format(SMALL, image, blocks, torn, start);
+    let reached = log::format::format(geometry, image, blocks, torn, start);
     let fresh = Numbers {
         on: true,
+        nand,
         blocks,
         commit: 1,
         pending: 0,
@@ -52,8 +55,8 @@ pub fn format_lent(
 }
 
 // Format on a state by value.
-pub fn format(state: State, image: &mut [u8], torn: &[u8], allowance: u32) -> Wrote
-    ensures { λ r. ⌜ Formats small allowance (now (torn .entry)) state (now (image .entry)) r (now (image .exit)) ⌝ }
+pub fn format(state: State, nand: Nand, image: &mut [u8], torn: &[u8], allowance: u32) -> Wrote
+    ensures { λ r. ⌜ Formats nand allowance (now (torn .entry)) state (now (image .entry)) r (now (image .exit)) ⌝ }
 {
     let numbers = state::numbers_of(state);
     let mut lens = state.lens;
@@ -61,6 +64,7 @@ pub fn format(state: State, image: &mut [u8], torn: &[u8], allowance: u32) -> Wr
     let mut erases = state.erases;
     let parts = format_lent(
         numbers,
+        nand,
         &mut lens,
         &mut slots,
         &mut erases,

@@ -3,7 +3,7 @@ ghost use mathlib.Core.Path.{_≡_};
 ghost use mathlib.Core.List.{List};
 ghost use Prim.Native.Nat.{ℕ, _%_, _≤_};
 ghost use lib.ListN.{length};
-ghost use Rattle.chip.specs.Geometry.{Fits, pageSize, small};
+ghost use Rattle.chip.specs.Geometry.{Fits, pageSize};
 ghost use Rattle.chip.specs.Chip.{pagesOf};
 ghost use Rattle.chip.specs.RunCode.{Ran};
 ghost use Rattle.store.specs.CheckCode.{marksOf};
@@ -20,8 +20,9 @@ use crate::state::Numbers;
 use crate::state::State;
 use crate::state::Wrote;
 use crate::state::WroteParts;
+use chip::geometry;
 use chip::geometry::Geometry;
-use chip::geometry::SMALL;
+use chip::geometry::Nand;
 use chip::progress;
 use chip::progress::Progress;
 use log;
@@ -66,9 +67,10 @@ fn retire(
     log::mount::retire(geometry, image, void, torn, progress)
 }
 
-// Mount on a lent node table and lent erases, with power for `allowance` operations. The buffer's bytes stay, whatever they are.
+// Mount as the part named, on a lent node table and lent erases, with power for `allowance` operations. The buffer's bytes stay, whatever they are.
 pub fn mount_lent(
     numbers: Numbers,
+    nand: Nand,
     lens: &mut [u32; 256],
     slots: &mut [u32; 1024],
     erases: &mut [u64; 32],
@@ -76,17 +78,18 @@ pub fn mount_lent(
     torn: &[u8],
     allowance: u32,
 ) -> WroteParts
-    ensures { λ r. ⌜ ((buffer : List ℕ) → Mounts small allowance (now (torn .entry)) (joined numbers buffer (now (lens .entry)) (now (slots .entry)) (now (erases .entry)))
+    ensures { λ r. ⌜ ((buffer : List ℕ) → Mounts nand allowance (now (torn .entry)) (joined numbers buffer (now (lens .entry)) (now (slots .entry)) (now (erases .entry)))
         (now (image .entry)) (wroteWith r buffer (now (lens .exit)) (now (slots .exit)) (now (erases .exit))) (now (image .exit))) ⌝ }
 {
-    let blocks = admit::sized(SMALL, image.len(), torn.len());
+    let geometry = geometry::geometry_of(nand);
+    let blocks = admit::sized(geometry, image.len(), torn.len());
     if blocks == 0 {
         return ending::quiet(numbers, Answer::Size);
     }
     let mut l = [0; 256];
     let mut s = [0; 1024];
     let e = [0; 32];
-    match check::check(SMALL, image, blocks, &mut l, &mut s) {
+    match check::check(geometry, image, blocks, &mut l, &mut s) {
         Checked::Blank => ending::refused(numbers, Answer::Blank),
         Checked::Layout => ending::refused(numbers, Answer::Layout),
         Checked::Shape => ending::refused(numbers, Answer::Shape),
@@ -95,6 +98,7 @@ pub fn mount_lent(
             let next = next_number(&l, limit);
             let mounted = Numbers {
                 on: true,
+                nand,
                 blocks,
                 commit,
                 pending: 0,
@@ -102,15 +106,15 @@ pub fn mount_lent(
                 count: 0,
             };
             let start = progress::begin(allowance);
-            let reached = retire(SMALL, image, void, torn, start);
+            let reached = retire(geometry, image, void, torn, start);
             ending::ended(numbers, lens, slots, erases, mounted, &l, &s, &e, reached)
         }
     }
 }
 
 // Mount on a state by value.
-pub fn mount(state: State, image: &mut [u8], torn: &[u8], allowance: u32) -> Wrote
-    ensures { λ r. ⌜ Mounts small allowance (now (torn .entry)) state (now (image .entry)) r (now (image .exit)) ⌝ }
+pub fn mount(state: State, nand: Nand, image: &mut [u8], torn: &[u8], allowance: u32) -> Wrote
+    ensures { λ r. ⌜ Mounts nand allowance (now (torn .entry)) state (now (image .entry)) r (now (image .exit)) ⌝ }
 {
     let numbers = state::numbers_of(state);
     let mut lens = state.lens;
@@ -118,6 +122,7 @@ pub fn mount(state: State, image: &mut [u8], torn: &[u8], allowance: u32) -> Wro
     let mut erases = state.erases;
     let parts = mount_lent(
         numbers,
+        nand,
         &mut lens,
         &mut slots,
         &mut erases,

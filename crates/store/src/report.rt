@@ -1,7 +1,6 @@
 // Block report: how many pages of a block are free, the first free one, and the erases of the block.
 ghost use mathlib.Core.List.{List};
 ghost use Prim.Native.Nat.{ℕ};
-ghost use Rattle.chip.specs.Geometry.{small};
 ghost use Rattle.store.specs.Contracts.{Reports};
 ghost use Rattle.store.specs.Parts.{joined};
 use crate::admit;
@@ -11,27 +10,26 @@ use crate::state;
 use crate::state::Numbers;
 use crate::state::State;
 use chip::block;
-use chip::geometry::SMALL;
-
-// Bytes of a block.
-const BLOCK: usize = SMALL.pages * (SMALL.area + SMALL.spare);
+use chip::geometry;
 
 // The free pages and the erases of block `at`, whatever the buffer and the node table; 4 where it is not on the chip.
 pub fn block_report_lent(numbers: Numbers, erases: &[u64; 32], image: &[u8], at: u32) -> Report
-    ensures { λ r. ⌜ ((buffer lens slots : List ℕ) → Reports small at (joined numbers buffer lens slots (now (erases .entry))) (now (image .entry)) r) ⌝ }
+    ensures { λ r. ⌜ ((buffer lens slots : List ℕ) → Reports at (joined numbers buffer lens slots (now (erases .entry))) (now (image .entry)) r) ⌝ }
 {
-    let blocks = numbers.blocks;
-    match admit::admit(SMALL, numbers.on, blocks, image.len()) {
+    match admit::admit(numbers, image.len()) {
         Admission::Off => Report::Off,
         Admission::Size => Report::Size,
         Admission::Passes => {
             let b = at as usize;
-            if b >= blocks {
+            if b >= numbers.blocks {
                 return Report::Absent;
             }
-            let a = b * BLOCK;
-            let e = a + BLOCK;
-            let free = block::free_pages(SMALL, &image[a..e]);
+            let nand = numbers.nand;
+            let geometry = geometry::geometry_of(nand);
+            let size = geometry.pages * (geometry.area + geometry.spare);
+            let a = b * size;
+            let e = a + size;
+            let free = block::free_pages(geometry, &image[a..e]);
             let count = free.count;
             let first = free.first;
             let figure = erases[b];
@@ -42,7 +40,7 @@ pub fn block_report_lent(numbers: Numbers, erases: &[u64; 32], image: &[u8], at:
 
 // Block report on a state by value.
 pub fn block_report(state: State, image: &[u8], at: u32) -> Report
-    ensures { λ r. ⌜ Reports small at state (now (image .entry)) r ⌝ }
+    ensures { λ r. ⌜ Reports at state (now (image .entry)) r ⌝ }
 {
     let numbers = state::numbers_of(state);
     block_report_lent(numbers, &state.erases, image, at)

@@ -3,16 +3,18 @@ ghost use mathlib.Core.Path.{_≡_};
 ghost use Rattle.store.specs.State.{initial};
 ghost use Rattle.store.specs.Parts.{numbersOf, numbersOff, joined, updatedWith, wroteWith};
 use crate::answer::Answer;
+use chip::geometry::Nand;
 use chip::progress::Counts;
 
 // The most units that the buffer holds.
 pub const UNITS: usize = 960;
 
-// On or off, the number of blocks (B), the greatest commit number (G), the pending updates, the next node number, the units of the
+// On or off, the part, the number of blocks (B), the greatest commit number (G), the pending updates, the next node number, the units of the
 // reservation buffer with their count, the node table: for each node the length of its list and its pages, and for each block its erases
 // since the last finished mount or format.
 pub struct State {
     pub on: bool,
+    pub nand: Nand,
     pub blocks: usize,
     pub commit: u32,
     pub pending: u32,
@@ -27,6 +29,7 @@ pub struct State {
 // A state but for its arrays, for a caller that lends those.
 pub struct Numbers {
     pub on: bool,
+    pub nand: Nand,
     pub blocks: usize,
     pub commit: u32,
     pub pending: u32,
@@ -66,6 +69,7 @@ pub fn initial() -> State
 {
     State {
         on: false,
+        nand: Nand::Small,
         blocks: 0,
         commit: 0,
         pending: 0,
@@ -91,8 +95,10 @@ pub fn turned_off(numbers: Numbers) -> Numbers
 pub fn numbers_of(state: State) -> Numbers
     ensures { λ r. ⌜ r ≡ numbersOf state ⌝ }
 {
+    let nand = state.nand;
     Numbers {
         on: state.on,
+        nand,
         blocks: state.blocks,
         commit: state.commit,
         pending: state.pending,
@@ -101,18 +107,30 @@ pub fn numbers_of(state: State) -> Numbers
     }
 }
 
-// The state of these numbers with the arrays of the state.
-pub fn with_numbers(state: State, numbers: Numbers) -> State
-    ensures { λ r. ⌜ r ≡ joined numbers (state .buffer) (state .lens) (state .slots) (state .erases) ⌝ }
+// The state of these numbers and these arrays.
+fn join(
+    numbers: Numbers,
+    buffer: [u8; 11520],
+    lens: [u32; 256],
+    slots: [u32; 1024],
+    erases: [u64; 32],
+) -> State
+    ensures { λ r. ⌜ r ≡ joined numbers buffer lens slots erases ⌝ }
 {
-    let mut s = state;
-    s.on = numbers.on;
-    s.blocks = numbers.blocks;
-    s.commit = numbers.commit;
-    s.pending = numbers.pending;
-    s.next = numbers.next;
-    s.count = numbers.count;
-    s
+    let nand = numbers.nand;
+    State {
+        on: numbers.on,
+        nand,
+        blocks: numbers.blocks,
+        commit: numbers.commit,
+        pending: numbers.pending,
+        next: numbers.next,
+        count: numbers.count,
+        buffer,
+        lens,
+        slots,
+        erases,
+    }
 }
 
 // What an update gives back for the state, with the buffer that it leaves.
@@ -121,8 +139,10 @@ pub fn with_buffer(state: State, buffer: [u8; 11520], parts: UpdatedParts) -> Up
 {
     let answer = parts.answer;
     let numbers = parts.numbers;
-    let mut s = with_numbers(state, numbers);
-    s.buffer = buffer;
+    let lens = state.lens;
+    let slots = state.slots;
+    let erases = state.erases;
+    let s = join(numbers, buffer, lens, slots, erases);
     Updated { answer, state: s }
 }
 
@@ -139,10 +159,8 @@ pub fn with_table(
     let answer = parts.answer;
     let ops = parts.ops;
     let numbers = parts.numbers;
-    let mut s = with_numbers(state, numbers);
-    s.lens = lens;
-    s.slots = slots;
-    s.erases = erases;
+    let buffer = state.buffer;
+    let s = join(numbers, buffer, lens, slots, erases);
     Wrote {
         answer,
         ops,

@@ -1,6 +1,5 @@
 // One call of any kind: what a list of calls is made of.
 ghost use mathlib.Core.Path.{_≡_};
-ghost use Rattle.chip.specs.Geometry.{small};
 ghost use Rattle.store.specs.Step.{ofWrote, ofUpdated, ofLook, ofForecast, StepsBy};
 use crate::answer::Answer;
 use crate::answer::Forecast;
@@ -14,18 +13,19 @@ use crate::state::State;
 use crate::state::Updated;
 use crate::state::Wrote;
 use crate::update;
+use chip::geometry::Nand;
 use chip::progress;
 use chip::progress::Counts;
 
-// A call with its numbers: an allowance; a key and a value; a key.
+// A call with its numbers: an allowance; a key and a value; a key. A format and a mount name the part.
 pub enum Call {
-    Format(u32),
+    Format(Nand, u32),
     Insert(u32, u32),
     Delete(u32),
     LookUp(u32),
     Forecast,
     Commit(u32),
-    Mount(u32),
+    Mount(Nand, u32),
 }
 
 // What a call gives back: the answer, the operations told (by a forecast: foretold), the state.
@@ -80,15 +80,15 @@ fn foreseen(forecast: Forecast, state: State) -> Stepped
 
 // A call on a lent image: what it ensures is its whole contract.
 pub fn step(state: State, image: &mut [u8], torn: &[u8], call: Call) -> Stepped
-    ensures { λ r. ⌜ StepsBy small call (now (torn .entry)) state (now (image .entry)) r (now (image .exit)) ⌝ }
+    ensures { λ r. ⌜ StepsBy call (now (torn .entry)) state (now (image .entry)) r (now (image .exit)) ⌝ }
 {
     match call {
-        Call::Format(allowance) => wrote(format::format(state, image, torn, allowance)),
+        Call::Format(nand, allowance) => wrote(format::format(state, nand, image, torn, allowance)),
         Call::Insert(key, value) => updated(update::insert(state, image, key, value)),
         Call::Delete(key) => updated(update::delete(state, image, key)),
         Call::LookUp(key) => looked(find::look_up(state, image, key), state),
         Call::Forecast => foreseen(forecast::forecast(state, image), state),
         Call::Commit(allowance) => wrote(commit::commit(state, image, torn, allowance)),
-        Call::Mount(allowance) => wrote(mount::mount(state, image, torn, allowance)),
+        Call::Mount(nand, allowance) => wrote(mount::mount(state, nand, image, torn, allowance)),
     }
 }

@@ -2,7 +2,7 @@
 ghost use mathlib.Core.List.{List};
 ghost use Prim.Native.Nat.{ℕ, _<_};
 ghost use lib.ListN.{length};
-ghost use Rattle.chip.specs.Geometry.{Fits, small};
+ghost use Rattle.chip.specs.Geometry.{geometryOf};
 ghost use Rattle.store.specs.AdmitCode.{ChipOf};
 ghost use Rattle.store.specs.Contracts.{Inserts, Deletes};
 ghost use Rattle.store.specs.Parts.{joined, updatedWith};
@@ -16,8 +16,6 @@ use crate::state::Numbers;
 use crate::state::State;
 use crate::state::Updated;
 use crate::state::UpdatedParts;
-use chip::geometry::Geometry;
-use chip::geometry::SMALL;
 use tree::delete;
 use tree::find;
 use tree::find::Hit;
@@ -28,7 +26,6 @@ const UNITS: usize = 900;
 
 // (key, value) inserted into P: 5 where the tree step needs a number or a level too many.
 fn insert_admitted<'a>(
-    geometry: Geometry,
     numbers: Numbers,
     lens: &'a [u32; 256],
     slots: &'a [u32; 1024],
@@ -37,8 +34,8 @@ fn insert_admitted<'a>(
     key: u32,
     value: u32,
 ) -> UpdatedParts
-    requires { ⌜ ChipOf geometry (numbers .blocks) (length (now image)) × (numbers .pending < 16) × Fits geometry ⌝ }
-    ensures { λ r. ⌜ ((erases : List ℕ) → InsertsIn geometry key value (joined numbers (now (buffer .entry)) (now (lens .entry)) (now (slots .entry)) erases)
+    requires { ⌜ ChipOf (geometryOf (numbers .nand)) (numbers .blocks) (length (now image)) × (numbers .pending < 16) ⌝ }
+    ensures { λ r. ⌜ ((erases : List ℕ) → InsertsIn key value (joined numbers (now (buffer .entry)) (now (lens .entry)) (now (slots .entry)) erases)
         (now (image .entry)) (updatedWith r (now (buffer .exit)) (now (lens .entry)) (now (slots .entry)) erases)) ⌝ }
 {
     if numbers.count > UNITS {
@@ -47,7 +44,7 @@ fn insert_admitted<'a>(
             numbers,
         };
     }
-    let scope = scope::scope_of(geometry, numbers);
+    let scope = scope::scope_of(numbers);
     let next = numbers.next;
     let r = insert::insert(image, lens, slots, buffer, scope, next, key, value);
     if r.refused {
@@ -68,7 +65,6 @@ fn insert_admitted<'a>(
 
 // The entry of `key` taken out of P: 4 where it is absent.
 fn delete_admitted<'a>(
-    geometry: Geometry,
     numbers: Numbers,
     lens: &'a [u32; 256],
     slots: &'a [u32; 1024],
@@ -76,8 +72,8 @@ fn delete_admitted<'a>(
     image: &[u8],
     key: u32,
 ) -> UpdatedParts
-    requires { ⌜ ChipOf geometry (numbers .blocks) (length (now image)) × (numbers .pending < 16) × Fits geometry ⌝ }
-    ensures { λ r. ⌜ ((erases : List ℕ) → DeletesIn geometry key (joined numbers (now (buffer .entry)) (now (lens .entry)) (now (slots .entry)) erases)
+    requires { ⌜ ChipOf (geometryOf (numbers .nand)) (numbers .blocks) (length (now image)) × (numbers .pending < 16) ⌝ }
+    ensures { λ r. ⌜ ((erases : List ℕ) → DeletesIn key (joined numbers (now (buffer .entry)) (now (lens .entry)) (now (slots .entry)) erases)
         (now (image .entry)) (updatedWith r (now (buffer .exit)) (now (lens .entry)) (now (slots .entry)) erases)) ⌝ }
 {
     if numbers.count > UNITS {
@@ -86,7 +82,7 @@ fn delete_admitted<'a>(
             numbers,
         };
     }
-    let scope = scope::scope_of(geometry, numbers);
+    let scope = scope::scope_of(numbers);
     let looked = find::find(image, lens, slots, buffer, scope, key);
     let hit = looked.hit;
     match hit {
@@ -117,14 +113,14 @@ pub fn insert_lent<'a>(
     key: u32,
     value: u32,
 ) -> UpdatedParts
-    ensures { λ r. ⌜ ((erases : List ℕ) → Inserts small key value (joined numbers (now (buffer .entry)) (now (lens .entry)) (now (slots .entry)) erases)
+    ensures { λ r. ⌜ ((erases : List ℕ) → Inserts key value (joined numbers (now (buffer .entry)) (now (lens .entry)) (now (slots .entry)) erases)
         (now (image .entry)) (updatedWith r (now (buffer .exit)) (now (lens .entry)) (now (slots .entry)) erases)) ⌝ }
 {
-    let answer = admit::update_tests(SMALL, numbers, image.len());
+    let answer = admit::update_tests(numbers, image.len());
     if answer::number(answer) > 0 {
         return UpdatedParts { answer, numbers };
     }
-    insert_admitted(SMALL, numbers, lens, slots, buffer, image, key, value)
+    insert_admitted(numbers, lens, slots, buffer, image, key, value)
 }
 
 // Delete on lent arrays: 2, 1, 3, 4. A refusal leaves every byte of the buffer.
@@ -136,19 +132,19 @@ pub fn delete_lent<'a>(
     image: &[u8],
     key: u32,
 ) -> UpdatedParts
-    ensures { λ r. ⌜ ((erases : List ℕ) → Deletes small key (joined numbers (now (buffer .entry)) (now (lens .entry)) (now (slots .entry)) erases)
+    ensures { λ r. ⌜ ((erases : List ℕ) → Deletes key (joined numbers (now (buffer .entry)) (now (lens .entry)) (now (slots .entry)) erases)
         (now (image .entry)) (updatedWith r (now (buffer .exit)) (now (lens .entry)) (now (slots .entry)) erases)) ⌝ }
 {
-    let answer = admit::update_tests(SMALL, numbers, image.len());
+    let answer = admit::update_tests(numbers, image.len());
     if answer::number(answer) > 0 {
         return UpdatedParts { answer, numbers };
     }
-    delete_admitted(SMALL, numbers, lens, slots, buffer, image, key)
+    delete_admitted(numbers, lens, slots, buffer, image, key)
 }
 
 // Insert on a state by value.
 pub fn insert(state: State, image: &[u8], key: u32, value: u32) -> Updated
-    ensures { λ r. ⌜ Inserts small key value state (now (image .entry)) r ⌝ }
+    ensures { λ r. ⌜ Inserts key value state (now (image .entry)) r ⌝ }
 {
     let numbers = state::numbers_of(state);
     let mut buffer = state.buffer;
@@ -166,7 +162,7 @@ pub fn insert(state: State, image: &[u8], key: u32, value: u32) -> Updated
 
 // Delete on a state by value.
 pub fn delete(state: State, image: &[u8], key: u32) -> Updated
-    ensures { λ r. ⌜ Deletes small key state (now (image .entry)) r ⌝ }
+    ensures { λ r. ⌜ Deletes key state (now (image .entry)) r ⌝ }
 {
     let numbers = state::numbers_of(state);
     let mut buffer = state.buffer;

@@ -19,6 +19,7 @@ pub enum Frame {
     TornLength(u32),
     Sum,
     Noise(u32),
+    Name(u8),
 }
 
 /// The number of hexadecimal capitals; none when a byte is no digit.
@@ -42,6 +43,7 @@ pub fn parse(line: &[u8]) -> Option<Frame> {
     match (kind, rest.len()) {
         (0x09, 0) => Some(Frame::Forecast),
         (0x15, 0) => Some(Frame::Sum),
+        (0x17, 2) => Some(Frame::Name(hexadecimal(rest)? as u8)),
         (0x01, 16) => Some(Frame::Insert(hexadecimal(&rest[..8])?, hexadecimal(&rest[8..])?)),
         (0x12, 10) => Some(Frame::SetImage(hexadecimal(&rest[..8])?, hexadecimal(&rest[8..])? as u8)),
         (0x13, 10) => Some(Frame::SetTorn(hexadecimal(&rest[..8])?, hexadecimal(&rest[8..])? as u8)),
@@ -87,5 +89,6 @@ pub fn line(frame: &Frame) -> String {
         Frame::TornLength(n) => format!("14{n:08X}"),
         Frame::Sum => "15".to_string(),
         Frame::Noise(n) => format!("16{n:08X}"),
+        Frame::Name(part) => format!("17{part:02X}"),
     }
 }

@@ -18,10 +18,10 @@ use forecast::Forecasts;
 use std::rc::Rc;
 pub use writes::{format, spend};
 
-/// Blocks of the probe's image buffer.
-const BUFFER: usize = 40;
-/// Torn bytes of the probe above the right number.
-const TORN_MORE: usize = 72;
+/// Bytes of the probe's image buffer: 33 large blocks.
+const BUFFER: usize = 33 * Geometry::LARGE.block();
+/// Bytes of the probe's torn buffer.
+const TORN: usize = 2200;
 /// Image bytes compared after a line that writes nothing.
 const GLANCE: usize = 4096;
 /// Image bytes compared after an update.
@@ -72,17 +72,17 @@ impl Default for Judge {
 }
 
 impl Judge {
-    /// The probe's start: off, a chip of 3 blocks of 255, torn bytes 5A; its frames name the small part.
+    /// The probe's start: off, a chip of 3 small blocks of 255, torn bytes 5A; the small part is named.
     pub fn new() -> Judge {
         Judge::naming(Geometry::SMALL)
     }
 
-    /// The start of a probe whose frames name a geometry.
+    /// The same with a chip and torn bytes of a geometry, which is named.
     pub fn naming(geometry: Geometry) -> Judge {
         Judge {
-            buffer: vec![255; BUFFER * geometry.block()],
+            buffer: vec![255; BUFFER],
             lent: 3 * geometry.block(),
-            torn: vec![0x5A; geometry.torn + TORN_MORE],
+            torn: vec![0x5A; TORN],
             torn_lent: geometry.torn,
             named: geometry,
             plain: Plain::new(),
@@ -109,11 +109,6 @@ impl Judge {
     /// Whether the judge's chip was begun by a format, and its state given by a call whose image is lent: all is fixed.
     pub fn all_fixed(&mut self) -> bool {
         self.begun && self.fixed()
-    }
-
-    /// Names a geometry from now on; what is lent stays.
-    pub fn name(&mut self, geometry: Geometry) {
-        self.named = geometry;
     }
 
     /// The judge's plain store: K, P, pending, G, on or off; of a wild state only on or off and B are right.

@@ -1,6 +1,8 @@
 //! Lists of calls on chips of several sizes, with cuts at random operations and torn bytes of several kinds.
 
+use super::blocks;
 use super::torn::tear;
+use super::wide::Wide;
 use super::writer::Writer;
 use crate::model::geometry::Geometry;
 use crate::random::Random;
@@ -8,18 +10,49 @@ use crate::random::Random;
 /// The sizes of chips, the small ones more often.
 const SIZES: [u32; 12] = [3, 3, 3, 3, 4, 4, 5, 8, 8, 16, 31, 32];
 
-/// Which keys a script uses: a range, and those picked from it so far.
+/// Which keys a script uses: a range, and those picked from it so far; its updates may be spread over the leaves instead.
 pub struct Keys {
     range: u64,
     step: u64,
     used: Vec<u32>,
+    wide: Option<Wide>,
 }
 
 impl Keys {
-    /// Few keys, some, or any.
-    pub fn any(random: &mut Random) -> Keys {
+    /// Few keys, some, or any. Updates are spread once in two times on the large part, where commits have one page else, and once in
+    /// eight on the small one.
+    pub fn any(random: &mut Random, geometry: Geometry) -> Keys {
         let (range, step) = [(24, 1), (160, 1), (700, 6_000_000), (1 << 32, 1)][random.index(4)];
-        Keys { range, step, used: vec![0, u32::MAX] }
+        let wide = random.once_in(if geometry == Geometry::LARGE { 2 } else { 8 }).then(Wide::default);
+        Keys { range, step, used: vec![0, u32::MAX], wide }
+    }
+
+    /// One of several numbers of blocks; where updates are spread over the leaves of a large chip, mostly one with many node numbers.
+    pub fn blocks(&self, random: &mut Random, geometry: Geometry, sizes: &[u32]) -> u32 {
+        match geometry == Geometry::LARGE && self.wide.is_some() && random.below(4) > 0 {
+            true => 5 + random.below(4) as u32,
+            false => blocks(random, geometry, sizes),
+        }
+    }
+
+    /// What a script begins with: where updates are spread, commits that fill leaves.
+    pub fn begin(&mut self, random: &mut Random, writer: &mut Writer) {
+        if let Some(wide) = &mut self.wide {
+            wide.grow(random, writer);
+        }
+    }
+
+    /// How many updates a commit has: one of the numbers given, or mostly 16 where they are spread.
+    pub fn many(&self, random: &mut Random, numbers: &[u32]) -> u32 {
+        match self.wide.is_some() && random.below(8) > 0 {
+            true => 16,
+            false => numbers[random.index(numbers.len())],
+        }
+    }
+
+    /// Whether a commit with so many updates pending is to wait, so that it has many where they are spread.
+    fn waits(&self, random: &mut Random, pending: u32) -> bool {
+        self.wide.is_some() && pending < 16 && random.below(8) > 0
     }
 
     /// One of the range, in one of two cases one that was picked before, seldom the least or the greatest of all.
@@ -53,6 +86,11 @@ pub fn read(random: &mut Random, writer: &mut Writer, keys: &mut Keys) {
 
 /// An insert or a delete.
 pub fn update(random: &mut Random, writer: &mut Writer, keys: &mut Keys) -> u32 {
+    if let Some(wide) = &mut keys.wide {
+        let key = wide.pick(random, writer);
+        keys.used.push(key);
+        return if random.once_in(20) { writer.delete(key) } else { writer.insert(key, random.next() as u32) };
+    }
     let key = keys.pick(random);
     match random.below(7) {
         0 | 1 => writer.delete(key),
@@ -124,7 +162,7 @@ pub fn step(random: &mut Random, writer: &mut Writer, keys: &mut Keys) {
     match random.below(120) {
         0 => mount(random, writer),
         1 if random.once_in(6) => format(random, writer),
-        2..=11 => commit(random, writer),
+        2..=11 if !keys.waits(random, pending) => commit(random, writer),
         12..=31 => read(random, writer, keys),
         _ if pending >= 16 && random.below(3) > 0 => commit(random, writer),
         _ => drop(update(random, writer, keys)),
@@ -134,12 +172,11 @@ pub fn step(random: &mut Random, writer: &mut Writer, keys: &mut Keys) {
 /// A list of calls from a format on.
 pub fn make(random: &mut Random, geometry: Geometry) -> Vec<Vec<u8>> {
     let mut writer = Writer::new(geometry);
-    let blocks = SIZES[random.index(SIZES.len())];
-    let mut keys = Keys::any(random);
-    writer.lend(blocks);
+    let mut keys = Keys::any(random, geometry);
+    writer.lend(keys.blocks(random, geometry, &SIZES));
     writer.format(writer.enough());
-    let lines = 150 + random.index(1500);
-    while writer.len() < lines {
+    keys.begin(random, &mut writer);
+    for _ in 0..100 + random.below(1000) {
         step(random, &mut writer, &mut keys);
     }
     writer.mount(255);

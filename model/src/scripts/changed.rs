@@ -1,5 +1,6 @@
 //! A store that is on while its image is changed: at single bytes, at whole pages, throughout, and at times set back.
 
+use super::blocks;
 use super::calls::{read, update, Keys};
 use super::torn::tear;
 use super::writer::Writer;
@@ -134,6 +135,7 @@ fn is_far(writer: &Writer, before: &[u8]) -> bool {
 
 /// Updates and commits, up to a number of updates or, behind half of them, to where the next commit erases a block or has 3 pages.
 fn grow(random: &mut Random, writer: &mut Writer, keys: &mut Keys) {
+    keys.begin(random, writer);
     let updates = 20 + random.below(300);
     let early = random.once_in(2);
     for n in 0..updates {
@@ -153,9 +155,9 @@ fn grow(random: &mut Random, writer: &mut Writer, keys: &mut Keys) {
 /// A store with a tree of several nodes whose image is changed while it is on.
 pub fn make(random: &mut Random, geometry: Geometry) -> Vec<Vec<u8>> {
     let mut writer = Writer::new(geometry);
-    writer.lend([3, 3, 3, 3, 4, 5, 8, 32][random.index(8)]);
+    writer.lend(blocks(random, geometry, &[3, 3, 3, 3, 4, 5, 8, 32]));
     for _ in 0..3 {
-        let mut keys = Keys::any(random);
+        let mut keys = Keys::any(random, geometry);
         writer.format(writer.enough());
         grow(random, &mut writer, &mut keys);
         if random.once_in(4) {

@@ -1,6 +1,8 @@
 //! Full trees, the least and the greatest key, and 17 pending updates.
 
+use super::blocks;
 use super::calls::{step, Keys};
+use super::wide::Wide;
 use super::writer::Writer;
 use crate::model::geometry::Geometry;
 use crate::random::Random;
@@ -16,18 +18,27 @@ fn order(random: &mut Random, i: u32, way: u64) -> u32 {
     }
 }
 
-/// Inserts until the tree step is refused with 5, with commits between them, then updates of the full tree.
+/// The next key: spread over the leaves, or in order.
+fn next(random: &mut Random, writer: &Writer, i: u32, way: u64, wide: &mut Option<Wide>) -> u32 {
+    match wide {
+        Some(wide) => wide.pick(random, writer),
+        None => order(random, i, way),
+    }
+}
+
+/// Inserts until the tree step is refused with 5, in an order or spread over the leaves, with commits between them, then updates of the
+/// full tree.
 pub fn full(random: &mut Random, geometry: Geometry) -> Vec<Vec<u8>> {
     let mut writer = Writer::new(geometry);
-    let blocks = [3, 3, 3, 3, 4, 5, 8][random.index(7)];
-    writer.lend(blocks);
+    writer.lend([3, 3, 3, 3, 4, 5, 8][random.index(7)]);
     writer.format(writer.enough());
     let way = random.below(4);
-    let mut keys = Keys::any(random);
+    let mut wide = random.once_in(3).then(Wide::default);
+    let mut keys = Keys::any(random, geometry);
     let mut i = 0;
-    while writer.insert(order(random, i, way), i) != 5 {
+    while writer.insert(next(random, &writer, i, way, &mut wide), i) != 5 {
         i += 1;
-        if random.once_in(14) || writer.probe().state().pending == 16 {
+        if random.once_in(14) && wide.is_none() || writer.probe().state().pending == 16 {
             writer.insert(0, i);
             writer.delete(u32::MAX);
             writer.commit(writer.enough());
@@ -51,7 +62,7 @@ pub fn full(random: &mut Random, geometry: Geometry) -> Vec<Vec<u8>> {
 /// 17 pending updates and more, of few keys with 0 and the greatest among them, then a forecast and a commit or a mount.
 pub fn pending(random: &mut Random, geometry: Geometry) -> Vec<Vec<u8>> {
     let mut writer = Writer::new(geometry);
-    writer.lend([3, 4, 8, 32][random.index(4)]);
+    writer.lend(blocks(random, geometry, &[3, 4, 8, 32]));
     writer.format(writer.enough());
     for _ in 0..12 {
         for _ in 0..16 + random.below(20) {

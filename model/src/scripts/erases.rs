@@ -56,12 +56,13 @@ fn between(random: &mut Random, writer: &mut Writer) {
 /// Commits of few updates each; the figures of the blocks are asked for whenever one has changed.
 pub fn make(random: &mut Random, geometry: Geometry) -> Vec<Vec<u8>> {
     let mut writer = Writer::new(geometry);
-    let mut keys = Keys::any(random);
+    let mut keys = Keys::any(random, geometry);
     writer.lend([3, 3, 3, 3, 4, 5][random.index(6)]);
     writer.format(writer.enough());
     writer.reports();
+    keys.begin(random, &mut writer);
     for _ in 0..300 + random.below(600) {
-        for _ in 0..[1, 1, 1, 1, 2, 8][random.index(6)] {
+        for _ in 0..keys.many(random, &[1, 1, 1, 1, 2, 8]) {
             update(random, &mut writer, &mut keys);
         }
         between(random, &mut writer);

@@ -3,7 +3,7 @@
 
 use super::calls::{read, update, Keys};
 use super::changed::change;
-use super::images::{renumber, spent_image, valid_image};
+use super::images::{any_image, renumber};
 use super::torn::tear;
 use super::writer::Writer;
 use crate::model::geometry::Geometry;
@@ -12,7 +12,7 @@ use crate::random::Random;
 /// Forecasts with the image lent at other lengths, and at its own again.
 fn sizes(random: &mut Random, writer: &mut Writer) {
     let (len, block) = (writer.probe().image().len(), writer.geometry().block());
-    for other in [len - 1, len + 1, len + block, len - block, random.index(40 * block)] {
+    for other in [len - 1, len + 1, len + block, len - block, random.index(33 * block)] {
         writer.lend_bytes(other as u32);
         writer.forecast();
     }
@@ -97,7 +97,7 @@ fn mount(random: &mut Random, writer: &mut Writer) {
 
 /// Updates, up to 16 accepted and more refused, with forecasts between; a commit; a mount where it was cut, and at times else.
 fn round(random: &mut Random, writer: &mut Writer, keys: &mut Keys) {
-    for _ in 0..[0, 1, 1, 2, 3, 8, 18][random.index(7)] {
+    for _ in 0..keys.many(random, &[0, 1, 1, 2, 3, 8, 18]) {
         update(random, writer, keys);
         if random.once_in(6) {
             writer.forecast();
@@ -130,8 +130,7 @@ fn worn(random: &mut Random, writer: &mut Writer, keys: &mut Keys) {
 
 /// A chip that no format began, mounted.
 fn foreign(random: &mut Random, writer: &mut Writer, keys: &mut Keys) {
-    let geometry = writer.geometry();
-    let image = if random.once_in(3) { spent_image(random, geometry) } else { valid_image(random, geometry) };
+    let image = any_image(random, writer.geometry());
     writer.bring(&image);
     writer.forecast();
     mount(random, writer);
@@ -177,15 +176,16 @@ fn changed(random: &mut Random, writer: &mut Writer, keys: &mut Keys) {
 /// A list of calls with forecasts, and behind it in three of four cases one of the other chips and images.
 pub fn make(random: &mut Random, geometry: Geometry) -> Vec<Vec<u8>> {
     let mut writer = Writer::new(geometry);
-    let mut keys = Keys::any(random);
+    let mut keys = Keys::any(random, geometry);
     writer.forecast();
-    writer.lend([3, 3, 3, 4, 5, 8, 32][random.index(7)]);
+    writer.lend(keys.blocks(random, geometry, &[3, 3, 3, 4, 5, 8, 32]));
     sizes(random, &mut writer);
     let allowance = writer.allowance(random, 0);
     writer.format(allowance);
     writer.forecast();
     writer.format(writer.enough());
     sizes(random, &mut writer);
+    keys.begin(random, &mut writer);
     for _ in 0..random.below(60) {
         round(random, &mut writer, &mut keys);
     }

@@ -1,6 +1,8 @@
 //! Images set byte by byte: valid ones that no format began, damaged ones, noise, and commit numbers near the last.
 
+use super::blocks;
 use super::calls::{read, step, update, Keys};
+use super::spread;
 use super::torn::tear;
 use super::writer::Writer;
 use crate::model::chip::{USED, VALID};
@@ -9,11 +11,6 @@ use crate::model::geometry::Geometry;
 use crate::model::image::live;
 use crate::model::unit::{self, encode, page_data, Deed, Unit, HEAD, UNIT};
 use crate::random::Random;
-
-/// A number of blocks, mostly small.
-fn blocks(random: &mut Random) -> usize {
-    [3, 3, 3, 4, 4, 5, 8, 16, 31, 32][random.index(10)]
-}
 
 /// The most bytes of an image other than 255 that a script uploads.
 const UPLOAD: usize = 120_000;
@@ -24,21 +21,30 @@ fn weight(image: &[u8]) -> usize {
 }
 
 /// The lightest of several images, of 3 to 5 blocks mostly; none where all are too long to upload.
-fn short(random: &mut Random, tries: usize, make: &dyn Fn(&mut Random, usize) -> Option<Vec<u8>>) -> Option<Vec<u8>> {
+fn short(random: &mut Random, geometry: Geometry, tries: usize, make: &dyn Fn(&mut Random, usize) -> Option<Vec<u8>>) -> Option<Vec<u8>> {
     let mut images = Vec::new();
     for _ in 0..tries {
-        let n = [3, 3, 3, 3, 3, 4, 4, 5, 5, 8, 16, 32][random.index(12)];
-        images.extend(make(random, n).filter(|image| weight(image) <= UPLOAD));
+        let n = blocks(random, geometry, &[3, 3, 3, 3, 3, 4, 4, 5, 5, 8, 16, 32]);
+        images.extend(make(random, n as usize).filter(|image| weight(image) <= UPLOAD));
     }
     images.into_iter().min_by_key(|image| weight(image))
 }
 
 /// A valid image that no format began.
-pub fn valid_image(random: &mut Random, geometry: Geometry) -> Vec<u8> {
+fn valid_image(random: &mut Random, geometry: Geometry) -> Vec<u8> {
     loop {
-        if let Some(image) = short(random, 2, &|random, n| Some(foreign::valid(random, geometry, n))) {
+        if let Some(image) = short(random, geometry, 2, &|random, n| Some(foreign::valid(random, geometry, n))) {
             return image;
         }
+    }
+}
+
+/// An image of one of three kinds that no format began: valid, with pages that no list names, with nodes in all blocks but the spare ones.
+pub fn any_image(random: &mut Random, geometry: Geometry) -> Vec<u8> {
+    match random.below(4) {
+        0 => spent_image(random, geometry),
+        1 => spread::image(random, geometry),
+        _ => valid_image(random, geometry),
     }
 }
 
@@ -48,7 +54,7 @@ fn damaged_image(random: &mut Random, geometry: Geometry) -> Vec<u8> {
     loop {
         let fault = &faults[random.index(faults.len())];
         let make = |random: &mut Random, n| foreign::damaged_by(random, geometry, n, fault).map(|damaged| damaged.image);
-        if let Some(image) = short(random, 4, &make) {
+        if let Some(image) = short(random, geometry, 4, &make) {
             return image;
         }
     }
@@ -56,7 +62,7 @@ fn damaged_image(random: &mut Random, geometry: Geometry) -> Vec<u8> {
 
 /// An image of one leaf whose newest commit has pages that no list names, since a later page of it resets the leaf again;
 /// other pages are free or have a used mark alone.
-pub fn spent_image(random: &mut Random, geometry: Geometry) -> Vec<u8> {
+fn spent_image(random: &mut Random, geometry: Geometry) -> Vec<u8> {
     let blocks = 3 + random.index(4);
     let mut image = vec![255; blocks * geometry.block()];
     let mut places: Vec<usize> = (0..blocks * geometry.pages).collect();
@@ -79,7 +85,7 @@ pub fn spent_image(random: &mut Random, geometry: Geometry) -> Vec<u8> {
 }
 
 /// A reset of node 0 as a leaf, and up to 15 inserts.
-fn leaf_units(random: &mut Random) -> Vec<[u8; UNIT]> {
+pub fn leaf_units(random: &mut Random) -> Vec<[u8; UNIT]> {
     let unit = |deed| encode(&Unit { node: 0, deed });
     let inserts = random.index(16);
     let mut units = vec![unit(Deed::Reset(0))];
@@ -129,8 +135,8 @@ fn work(random: &mut Random, writer: &mut Writer, keys: &mut Keys, steps: u64) {
 /// A valid image that no format began, mounted, read back, updated and committed.
 pub fn valid(random: &mut Random, geometry: Geometry) -> Vec<Vec<u8>> {
     let mut writer = Writer::new(geometry);
-    let image = if random.once_in(4) { spent_image(random, geometry) } else { valid_image(random, geometry) };
-    let mut keys = Keys::any(random);
+    let image = any_image(random, geometry);
+    let mut keys = Keys::any(random, geometry);
     writer.bring(&image);
     writer.check();
     if random.once_in(2) {
@@ -158,13 +164,13 @@ pub fn valid(random: &mut Random, geometry: Geometry) -> Vec<Vec<u8>> {
 pub fn steep(random: &mut Random, geometry: Geometry) -> Vec<Vec<u8>> {
     let mut writer = Writer::new(geometry);
     let (image, key) = loop {
-        let n = [3, 3, 4, 5, 8, 16][random.index(6)];
-        let (image, key) = foreign::full_path(random, geometry, n);
+        let n = blocks(random, geometry, &[3, 3, 4, 5, 8, 16]);
+        let (image, key) = foreign::full_path(random, geometry, n as usize);
         if weight(&image) <= UPLOAD / 2 {
             break (image, key);
         }
     };
-    let mut keys = Keys::any(random);
+    let mut keys = Keys::any(random, geometry);
     writer.bring(&image);
     writer.mount(255);
     for i in 0..20 {
@@ -191,7 +197,7 @@ pub fn damaged(random: &mut Random, geometry: Geometry) -> Vec<Vec<u8>> {
     let mut writer = Writer::new(geometry);
     for _ in 0..1 + random.below(3) {
         let image = damaged_image(random, geometry);
-        let mut keys = Keys::any(random);
+        let mut keys = Keys::any(random, geometry);
         if random.once_in(3) {
             writer.lend((image.len() / geometry.block()) as u32);
             writer.format(writer.enough());
@@ -210,12 +216,13 @@ pub fn damaged(random: &mut Random, geometry: Geometry) -> Vec<Vec<u8>> {
 /// An image of noise, here and there with marks that make its pages live.
 pub fn noise(random: &mut Random, geometry: Geometry) -> Vec<Vec<u8>> {
     let mut writer = Writer::new(geometry);
-    let mut keys = Keys::any(random);
+    let mut keys = Keys::any(random, geometry);
     for _ in 0..4 {
-        let n = random.below(41) as u32;
-        writer.lend(n);
+        let most = writer.probe().most_blocks();
+        let n = random.below(most as u64 + 1) as u32;
+        writer.lend(blocks(random, geometry, &[n]));
         if random.once_in(4) {
-            writer.lend_bytes(random.index(40 * geometry.block() + 1) as u32);
+            writer.lend_bytes(random.index(most * geometry.block() + 1) as u32);
         }
         writer.noise(random.next() as u32);
         writer.check();
@@ -239,8 +246,8 @@ pub fn noise(random: &mut Random, geometry: Geometry) -> Vec<Vec<u8>> {
 /// Commits up to the last commit number, which refuses with 6.
 pub fn last(random: &mut Random, geometry: Geometry) -> Vec<Vec<u8>> {
     let mut writer = Writer::new(geometry);
-    let mut keys = Keys::any(random);
-    writer.lend(blocks(random) as u32);
+    let mut keys = Keys::any(random, geometry);
+    writer.lend(blocks(random, geometry, &[3, 3, 3, 4, 4, 5, 8, 16, 31, 32]));
     writer.format(writer.enough());
     for _ in 0..random.below(6) {
         for _ in 0..1 + random.below(16) {

@@ -7,12 +7,13 @@ use crate::random::Random;
 
 /// A frame, which the changes below take apart.
 fn frame(random: &mut Random) -> Vec<u8> {
-    let kind = [0, 1, 2, 3, 4, 5, 6, 7, 9, 0x10, 0x11, 0x12, 0x13, 0x14, 0x15, 0x16][random.index(16)];
+    let kind = [0, 1, 2, 3, 4, 5, 6, 7, 9, 0x10, 0x11, 0x12, 0x13, 0x14, 0x15, 0x16, 0x17][random.index(17)];
     let number = random.below(60) as u32;
     match kind {
         1 => format!("01{number:08X}{:08X}", random.next() as u32),
         0x12 | 0x13 => format!("{kind:02X}{number:08X}{:02X}", random.byte()),
         0x09 | 0x15 => format!("{kind:02X}"),
+        0x17 => format!("17{:02X}", random.below(3)),
         _ => format!("{kind:02X}{number:08X}"),
     }
     .into_bytes()
@@ -40,7 +41,7 @@ fn broken(random: &mut Random) -> Vec<u8> {
 /// A list of calls with lines between them that are no frames.
 pub fn make(random: &mut Random, geometry: Geometry) -> Vec<Vec<u8>> {
     let mut writer = Writer::new(geometry);
-    let mut keys = Keys::any(random);
+    let mut keys = Keys::any(random, geometry);
     for _ in 0..10 {
         writer.say(broken(random));
     }

@@ -15,11 +15,11 @@ enum Updates {
 
 impl Updates {
     /// One of the three.
-    fn pick(random: &mut Random) -> Updates {
+    fn pick(random: &mut Random, geometry: Geometry) -> Updates {
         match random.below(4) {
             0 => Updates::Few,
             1 => Updates::Rising(0),
-            _ => Updates::Any(Keys::any(random)),
+            _ => Updates::Any(Keys::any(random, geometry)),
         }
     }
 
@@ -54,7 +54,7 @@ fn between(random: &mut Random, writer: &mut Writer, erased: bool) {
 /// Commits of few updates each, with power enough; the figures of the blocks are asked for whenever one has changed.
 pub fn make(random: &mut Random, geometry: Geometry) -> Vec<Vec<u8>> {
     let mut writer = Writer::new(geometry);
-    let mut updates = Updates::pick(random);
+    let mut updates = Updates::pick(random, geometry);
     writer.lend([3, 3, 3, 3, 4, 6][random.index(6)]);
     writer.format(writer.enough());
     for _ in 0..600 + random.below(600) {

@@ -27,9 +27,9 @@ fn all_calls(random: &mut Random, writer: &mut Writer) {
 
 /// Lengths of the image around a whole number of blocks, and back.
 fn lengths(random: &mut Random, writer: &mut Writer) {
-    let block = writer.geometry().block();
-    let whole = random.index(41) * block;
-    for length in [whole, whole.saturating_sub(1), whole + 1, random.index(40 * block)] {
+    let (block, most) = (writer.geometry().block(), writer.probe().most_blocks());
+    let whole = random.index(most + 1) * block;
+    for length in [whole, whole.saturating_sub(1), whole + 1, random.index(most * block)] {
         writer.lend_bytes(length as u32);
         all_calls(random, writer);
     }
@@ -39,7 +39,7 @@ fn lengths(random: &mut Random, writer: &mut Writer) {
 /// Lengths of the torn slice, and back to the right one.
 fn torn_lengths(random: &mut Random, writer: &mut Writer) {
     let torn = writer.geometry().torn as u32;
-    for length in [0, 1, torn - 1, torn + 1, torn + 72, torn + 73, random.below(torn as u64 + 92) as u32, torn] {
+    for length in [0, 1, torn - 1, torn + 1, 528, 2112, 2200, 2201, random.below(torn as u64 + 92) as u32, torn] {
         writer.lend_torn(length);
         writer.format(writer.enough());
         writer.mount(255);
@@ -51,14 +51,15 @@ fn torn_lengths(random: &mut Random, writer: &mut Writer) {
     }
 }
 
-/// Images of 0 to 40 blocks, each with every call.
+/// Images of 0 to 40 small or 33 large blocks, each with every call.
 pub fn make(random: &mut Random, geometry: Geometry) -> Vec<Vec<u8>> {
     let mut writer = Writer::new(geometry);
     all_calls(random, &mut writer);
     writer.format(writer.enough());
-    let mut sizes: Vec<u32> = (0..=41).collect();
+    let most = writer.probe().most_blocks() as u32;
+    let mut sizes: Vec<u32> = (0..=most + 1).collect();
     random.shuffle(&mut sizes);
-    for blocks in sizes.into_iter().take(14) {
+    for blocks in sizes.into_iter().take(if geometry == Geometry::LARGE { 6 } else { 14 }) {
         if random.once_in(2) {
             let on = 3 + random.below(3) as u32;
             writer.lend(on);
@@ -75,7 +76,7 @@ pub fn make(random: &mut Random, geometry: Geometry) -> Vec<Vec<u8>> {
         writer.set(random.index(writer.probe().image().len() + 2), random.byte());
         writer.check();
     }
-    let longest = 40 * geometry.block() as u32;
+    let longest = 33 * Geometry::LARGE.block() as u32;
     for number in [longest, longest + 1, u32::MAX] {
         writer.lend_bytes(number);
         writer.lend(number);

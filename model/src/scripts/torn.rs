@@ -62,9 +62,9 @@ pub fn bytes(random: &mut Random, writer: &Writer, kind: u64) -> Vec<u8> {
     }
 }
 
-/// The torn bytes made those of a random kind, or byte 0 alone changed.
+/// The torn bytes made those of a random kind, the seldomer the more they are, or byte 0 alone changed.
 pub fn tear(random: &mut Random, writer: &mut Writer) {
-    if random.once_in(3) {
+    if random.once_in(if writer.geometry() == Geometry::LARGE { 9 } else { 3 }) {
         let kind = random.below(KINDS);
         let bytes = bytes(random, writer, kind);
         writer.tear(&bytes);

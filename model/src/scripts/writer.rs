@@ -4,42 +4,51 @@ use crate::model::geometry::Geometry;
 use crate::probe::Probe;
 use crate::random::Random;
 
-/// The lines so far, the twin behind them, and the geometry that they name.
+/// The lines so far and the twin behind them.
 pub struct Writer {
     lines: Vec<Vec<u8>>,
     probe: Probe,
-    geometry: Geometry,
 }
 
 impl Writer {
-    /// A script without lines, on chips of a geometry.
+    /// A script on chips of a geometry. On the large part it begins with its name, its torn bytes and a chip of 3 blocks.
     pub fn new(geometry: Geometry) -> Writer {
-        Writer { lines: Vec::new(), probe: Probe::new(), geometry }
+        let mut writer = Writer { lines: Vec::new(), probe: Probe::new() };
+        if geometry == Geometry::LARGE {
+            writer.choose(geometry);
+            writer.lend(3);
+        }
+        writer
     }
 
-    /// The geometry.
+    /// The geometry named.
     pub fn geometry(&self) -> Geometry {
-        self.geometry
+        if self.probe.names_large() {
+            Geometry::LARGE
+        } else {
+            Geometry::SMALL
+        }
+    }
+
+    /// A geometry named.
+    pub fn name(&mut self, geometry: Geometry) {
+        self.say(format!("17{:02X}", u8::from(geometry == Geometry::LARGE)).into_bytes());
+    }
+
+    /// A geometry named, and torn bytes of its length lent.
+    pub fn choose(&mut self, geometry: Geometry) {
+        self.name(geometry);
+        self.lend_torn(geometry.torn as u32);
     }
 
     /// An allowance with which no format or commit is cut.
     pub fn enough(&self) -> u32 {
-        self.geometry.never_cut
+        self.geometry().never_cut
     }
 
     /// The script.
     pub fn lines(self) -> Vec<Vec<u8>> {
         self.lines
-    }
-
-    /// How many lines there are.
-    pub fn len(&self) -> usize {
-        self.lines.len()
-    }
-
-    /// Whether there is no line yet.
-    pub fn is_empty(&self) -> bool {
-        self.lines.is_empty()
     }
 
     /// The twin after the lines so far.
@@ -106,9 +115,10 @@ impl Writer {
         self.single(6, block)
     }
 
-    /// The reports of all blocks lent and of one past the last.
+    /// The reports of all blocks lent and of one past the last: blocks of the store's geometry, of the one named where it is off.
     pub fn reports(&mut self) {
-        for block in 0..=(self.probe.image().len() / self.geometry.block()) as u32 {
+        let block = if self.is_on() { self.probe.state().geometry.block() } else { self.geometry().block() };
+        for block in 0..=(self.probe.image().len() / block) as u32 {
             self.report(block);
         }
     }
@@ -173,7 +183,7 @@ impl Writer {
 
     /// An image lent and uploaded.
     pub fn bring(&mut self, image: &[u8]) {
-        self.lend((image.len() / self.geometry.block()) as u32);
+        self.lend((image.len() / self.geometry().block()) as u32);
         self.upload(image);
     }
 

@@ -4,6 +4,7 @@ mod foreign;
 mod lists;
 mod named;
 mod other;
+mod parts;
 mod sizes;
 #[allow(dead_code)]
 #[path = "../tiny/mod.rs"]

@@ -1,6 +1,7 @@
 //! A tiny store behind the probe's protocol, for tests of the judge: a commit writes all nodes into one erased block.
 mod erases;
 mod forecast;
+mod parts;
 
 use model::model::chip::{self, Operation, Power, OBSOLETE, VALID};
 use model::model::counts::Counts;
@@ -89,6 +90,22 @@ pub enum Bug {
     CommitOtherwise,
     CommitWithLess,
     CutWithSum,
+    MountKeepsPart,
+    FormatKeepsPart,
+    ShowKeepsPart,
+    NameChangesStore,
+    NameTurnsOff,
+    NameLendsTorn,
+    NameWrites,
+    NameTakesTwo,
+    NameRefusedNames,
+    BlocksOfStore,
+    FortyLargeBlocks,
+    CommitTakesNamedTorn,
+    CommitTakesSmallTorn,
+    CallsTakeNamedSize,
+    ReportNone32,
+    ReportOf32,
 }
 
 impl Bug {
@@ -170,6 +187,28 @@ impl Bug {
     ];
 }
 
+impl Bug {
+    /// The faults of a store that is told parts by frame 17.
+    pub const PARTS: [Bug; 16] = [
+        Bug::MountKeepsPart,
+        Bug::FormatKeepsPart,
+        Bug::ShowKeepsPart,
+        Bug::NameChangesStore,
+        Bug::NameTurnsOff,
+        Bug::NameLendsTorn,
+        Bug::NameWrites,
+        Bug::NameTakesTwo,
+        Bug::NameRefusedNames,
+        Bug::BlocksOfStore,
+        Bug::FortyLargeBlocks,
+        Bug::CommitTakesNamedTorn,
+        Bug::CommitTakesSmallTorn,
+        Bug::CallsTakeNamedSize,
+        Bug::ReportNone32,
+        Bug::ReportOf32,
+    ];
+}
+
 /// The store's state while it is on.
 #[derive(Clone)]
 struct State {
@@ -192,6 +231,8 @@ fn all_erases(counts: Counts) -> Counts {
 /// The tiny probe.
 #[derive(Clone)]
 pub struct Tiny {
+    /// The geometry that format, mount and show name, and the store's.
+    named: Geometry,
     geometry: Geometry,
     buffer: Vec<u8>,
     lent: usize,
@@ -211,8 +252,9 @@ pub struct Tiny {
 impl Tiny {
     /// The start of a probe whose frames name a geometry, with a fault.
     pub fn new(geometry: Geometry, bug: Bug) -> Tiny {
-        let (buffer, torn) = (vec![255; 40 * geometry.block()], vec![0x5A; geometry.torn + 72]);
+        let (buffer, torn) = (vec![255; 33 * Geometry::LARGE.block()], vec![0x5A; 2200]);
         Tiny {
+            named: geometry,
             geometry,
             buffer,
             lent: 3 * geometry.block(),
@@ -256,7 +298,9 @@ impl Tiny {
 
     /// Format.
     fn format(&mut self, allowance: u32) -> String {
-        let Some(blocks) = self.whole() else { return reply(1, Counts::NONE) };
+        let named = self.part(Bug::FormatKeepsPart);
+        let Some(blocks) = self.whole(named) else { return reply(1, Counts::NONE) };
+        self.geometry = named;
         let torn = self.torn.clone();
         let mut power = Power::new(self.geometry, allowance, &torn);
         let image = &mut self.buffer[..self.lent];
@@ -276,14 +320,14 @@ impl Tiny {
         reply(if finished { 0 } else { 10 }, told)
     }
 
-    /// The blocks of a right image and torn length.
-    fn whole(&self) -> Option<usize> {
-        self.geometry.blocks_of(self.lent).filter(|_| self.torn_lent == self.geometry.torn)
+    /// The blocks of a right image and torn length of a geometry.
+    fn whole(&self, geometry: Geometry) -> Option<usize> {
+        geometry.blocks_of(self.lent).filter(|_| self.torn_lent == geometry.torn)
     }
 
     /// Refusals 2 and 1.
     fn refused(&self, torn: bool) -> Option<u32> {
-        let blocks = self.geometry.blocks_of(self.lent).filter(|_| !torn || self.torn_lent == self.geometry.torn);
+        let blocks = self.sized().blocks_of(self.lent).filter(|_| !torn || self.torn_fits());
         match &self.state {
             None if self.is(Bug::SizeBeforeOff) && blocks.is_none() => Some(1),
             None => Some(2),
@@ -360,7 +404,7 @@ impl Tiny {
         if block as usize >= self.state.as_ref().unwrap().blocks {
             return "04".to_string();
         }
-        let (count, first) = chip::free_pages(self.geometry, self.image(), block as usize);
+        let (count, first) = self.free_pages(block as usize);
         if self.is(Bug::WritesOnReport) {
             self.buffer[3000] ^= 4;
         }
@@ -370,12 +414,13 @@ impl Tiny {
 
     /// Show.
     fn show(&mut self, page: u32) -> String {
-        let Some(blocks) = self.geometry.blocks_of(self.lent) else { return "01".to_string() };
-        if page as usize >= blocks * self.geometry.pages {
+        let geometry = self.part(Bug::ShowKeepsPart);
+        let Some(blocks) = geometry.blocks_of(self.lent) else { return "01".to_string() };
+        if page as usize >= blocks * geometry.pages {
             return "04".to_string();
         }
-        let page = chip::page(self.geometry, self.image(), page as usize);
-        let head = image::own_rules(self.geometry, page, 0).filter(|_| image::live(self.geometry, page));
+        let page = chip::page(geometry, self.image(), page as usize);
+        let head = image::own_rules(geometry, page, 0).filter(|_| image::live(geometry, page));
         let length = head.map_or(0, |head| head.units * UNIT) + (self.is(Bug::ShowTooLong) && head.is_some()) as usize;
         let digits: String = page[HEAD..HEAD + length].iter().map(|byte| format!("{byte:02X}")).collect();
         format!("00{digits}")
@@ -383,7 +428,9 @@ impl Tiny {
 
     /// Mount.
     fn mount(&mut self, allowance: u32) -> String {
-        let Some(blocks) = self.whole() else { return reply(1, Counts::NONE) };
+        let named = self.part(Bug::MountKeepsPart);
+        let Some(blocks) = self.whole(named) else { return reply(1, Counts::NONE) };
+        self.geometry = named;
         if self.is(Bug::MountSeven) {
             return reply(7, Counts::NONE);
         }
@@ -572,11 +619,11 @@ impl Tiny {
         }
     }
 
-    /// Frames 10 to 16.
+    /// Frames 10 to 17.
     fn lend(&mut self, frame: Frame) -> String {
         let bug = self.bug;
         let fits = match frame {
-            Frame::Blocks(blocks) => blocks <= 40,
+            Frame::Blocks(blocks) => blocks as usize <= self.most_blocks(),
             Frame::Length(length) => length as usize <= self.buffer.len(),
             Frame::SetImage(at, _) => (at as usize) < self.lent,
             Frame::SetTorn(at, _) => (at as usize) < self.torn_lent,
@@ -587,9 +634,10 @@ impl Tiny {
             return "FF".to_string();
         }
         match frame {
+            Frame::Name(part) => return self.name(part),
             Frame::Blocks(blocks) => {
                 self.buffer.fill(255);
-                self.lent = blocks as usize * self.geometry.block();
+                self.lent = (blocks as usize * self.part(Bug::BlocksOfStore).block()).min(self.buffer.len());
             }
             Frame::Length(length) => self.lent = length as usize,
             Frame::SetImage(at, byte) => self.buffer[at as usize] = byte,

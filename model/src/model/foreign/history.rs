@@ -202,12 +202,12 @@ fn any_unit(random: &mut Random, blocks: usize) -> [u8; UNIT] {
     unit::encode(&Unit { node: random.below(8 * blocks as u64) as u16, deed })
 }
 
-/// Pages that are not live, at some of the places: rubbish, or the looks of a page of a commit.
+/// Pages that are not live, at some of the places, the fewer the longer they are: rubbish, or the looks of a page of a commit.
 fn rubbish(random: &mut Random, geometry: Geometry, places: &[usize], blocks: usize) -> Vec<(usize, Vec<u8>)> {
     let mut others = Vec::new();
-    let most = 1 + random.below(4);
+    let (most, of) = (1 + random.below(4), 5 * (geometry.data / 512) as u64);
     for place in places {
-        if random.below(5) < most {
+        if random.below(of) < most {
             others.push((*place, dead_page(random, geometry, blocks)));
         }
     }

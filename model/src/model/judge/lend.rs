@@ -1,10 +1,11 @@
-//! Frames 10 to 16 of the probe: what they lend, set and sum.
+//! Frames 10 to 17 of the probe: what they lend, set, sum and name.
 use super::Judge;
 use crate::model::crc;
 use crate::model::frame::Frame;
+use crate::model::geometry::Geometry;
 
 impl Judge {
-    /// Does a frame of 10 to 16 on the judge's own slices and answers the reply.
+    /// Does a frame of 10 to 17 on the judge's own slices and answers the reply.
     pub(super) fn lend(&mut self, frame: Frame) -> String {
         let done = match frame {
             Frame::Blocks(blocks) => self.lend_blocks(blocks as usize),
@@ -13,6 +14,7 @@ impl Judge {
             Frame::SetTorn(at, byte) => self.set_torn(at as usize, byte),
             Frame::TornLength(length) => self.lend_torn(length as usize),
             Frame::Noise(seed) => self.noise(seed),
+            Frame::Name(part) => self.name_part(part),
             _ => return self.image_sum(),
         };
         if done { "00" } else { "FF" }.to_string()
@@ -20,7 +22,7 @@ impl Judge {
 
     /// Frame 10: an image of that many blocks of the geometry named, all bytes 255.
     fn lend_blocks(&mut self, blocks: usize) -> bool {
-        if blocks > self.buffer.len() / self.named.block() {
+        if blocks > most_blocks(self.named) {
             return false;
         }
         self.touch();
@@ -93,5 +95,23 @@ impl Judge {
             *byte = (x >> 16) as u8;
         }
         true
+    }
+    /// Frame 17: the geometry that format, mount and show name, and whose blocks frame 10 lends; 0 is the small part, 1 the large one.
+    fn name_part(&mut self, part: u8) -> bool {
+        match part {
+            0 => self.named = Geometry::SMALL,
+            1 => self.named = Geometry::LARGE,
+            _ => return false,
+        }
+        true
+    }
+}
+
+/// The most blocks that frame 10 lends: 40 small ones or 33 large ones.
+fn most_blocks(geometry: Geometry) -> usize {
+    if geometry == Geometry::SMALL {
+        40
+    } else {
+        33
     }
 }

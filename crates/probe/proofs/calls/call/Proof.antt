@@ -136,7 +136,7 @@ returns c =
     let f = t .before .before .before .before in
     let k = f .before .before .before in
     let a = k .before .before .before .before .before .args in
-    makes-format (a .call) (a .torn .now) (a .state) (a .image .now) _ _ (k .call .given .1) _ _ (t .tell-wrote .ensures) (f .format .ensures)
+    makes-format (a .nand) (a .call) (a .torn .now) (a .state) (a .image .now) _ _ (k .call .given .1) _ _ (t .tell-wrote .ensures) (f .format .ensures)
 
 -- src/calls.rt:84:1
 same-length-3 : tie.Need-same-length-3
@@ -153,7 +153,7 @@ returns-2 c =
     let f = t .before .before in
     let k = f .before .before .before in
     let a = k .before .before .before .before .before .args in
-    makes-insert (a .call) (a .torn .now) (a .state) (a .image .now) _ _ _ (k .call2 .given .1) _ (t .tell-updated .ensures) (f .insert .ensures)
+    makes-insert (a .nand) (a .call) (a .torn .now) (a .state) (a .image .now) _ _ _ (k .call2 .given .1) _ (t .tell-updated .ensures) (f .insert .ensures)
 
 -- src/calls.rt:84:1
 same-length-5 : tie.Need-same-length-5
@@ -170,7 +170,7 @@ returns-3 c =
     let f = t .before .before in
     let k = f .before .before .before in
     let a = k .before .before .before .before .before .args in
-    makes-delete (a .call) (a .torn .now) (a .state) (a .image .now) _ _ (k .call3 .given .1) _ (t .tell-updated2 .ensures) (f .delete .ensures)
+    makes-delete (a .nand) (a .call) (a .torn .now) (a .state) (a .image .now) _ _ (k .call3 .given .1) _ (t .tell-updated2 .ensures) (f .delete .ensures)
 
 -- src/calls.rt:84:1
 same-length-7 : tie.Need-same-length-7
@@ -187,7 +187,7 @@ returns-4 c =
     let f = t .before .before in
     let k = f .before .before .before in
     let a = k .before .before .before .before .before .args in
-    makes-look (a .call) (a .torn .now) (a .state) (a .image .now) _ _ (k .call4 .given .1) _ (t .tell-look .ensures) (f .look-up .ensures)
+    makes-look (a .nand) (a .call) (a .torn .now) (a .state) (a .image .now) _ _ (k .call4 .given .1) _ (t .tell-look .ensures) (f .look-up .ensures)
 
 -- src/calls.rt:84:1
 same-length-9 : tie.Need-same-length-9
@@ -204,7 +204,7 @@ returns-5 c =
     let f = t .before .before .before .before in
     let k = f .before .before .before in
     let a = k .before .before .before .before .before .args in
-    makes-commit (a .call) (a .torn .now) (a .state) (a .image .now) _ _ (k .call5 .given .1) _ _ (t .tell-wrote2 .ensures) (f .commit .ensures)
+    makes-commit (a .nand) (a .call) (a .torn .now) (a .state) (a .image .now) _ _ (k .call5 .given .1) _ _ (t .tell-wrote2 .ensures) (f .commit .ensures)
 
 -- src/calls.rt:84:1
 same-length-11 : tie.Need-same-length-11
@@ -221,7 +221,7 @@ returns-6 c =
     let f = t .before .before .before .before in
     let k = f .before .before .before in
     let a = k .before .before .before .before .before .args in
-    makes-mount (a .call) (a .torn .now) (a .state) (a .image .now) _ _ (k .call6 .given .1) _ _ (t .tell-wrote3 .ensures) (f .mount .ensures)
+    makes-mount (a .nand) (a .call) (a .torn .now) (a .state) (a .image .now) _ _ (k .call6 .given .1) _ _ (t .tell-wrote3 .ensures) (f .mount .ensures)
 
 -- src/calls.rt:84:1
 same-length-13 : tie.Need-same-length-13
@@ -237,7 +237,7 @@ returns-7 c =
     let t = c .before .before in
     let k = t .before .before .before .before .before in
     let a = k .before .before .before .before .before .args in
-    makes-report (a .call) (a .torn .now) (a .state) (a .image .now) _ _ (k .call7 .given .1) (t .tell-report .ensures)
+    makes-report (a .nand) (a .call) (a .torn .now) (a .state) (a .image .now) _ _ (k .call7 .given .1) (t .tell-report .ensures)
 
 -- src/calls.rt:84:1
 same-length-15 : tie.Need-same-length-15
@@ -252,7 +252,7 @@ returns-8 : tie.Need-returns-8
 returns-8 c =
     let k = c .before .before .before .before .before .before in
     let a = k .before .before .before .before .before .args in
-    makes-show (a .call) (a .torn .now) (a .state) (a .image .now) _ _ (k .call8 .given .1) refl
+    makes-show (a .nand) (a .call) (a .torn .now) (a .state) (a .image .now) _ _ (k .call8 .given .1) refl
 
 same-length-17 : tie.Need-same-length-17
 same-length-17 c = search needs
@@ -266,7 +266,7 @@ returns-9 c =
     let f = t .before .before in
     let k = f .before .before in
     let a = k .before .before .before .before .before .args in
-    makes-forecast (a .call) (a .torn .now) (a .state) (a .image .now) _ (k .enum-told .given .1) _ (t .tell-forecast .ensures) (f .forecast .ensures)
+    makes-forecast (a .nand) (a .call) (a .torn .now) (a .state) (a .image .now) _ (k .enum-told .given .1) _ (t .tell-forecast .ensures) (f .forecast .ensures)
 
 pub call-spec : {M : Type 1} → statement M
 call-spec =

@@ -32,7 +32,7 @@ put-shown-requires : tie.Need-put-shown-requires
 put-shown-requires c κs =
     let s = c .before .before in
     let e = s .before .before .before .before in
-    let h : length (s .show .result .now) ≤ 504 = shown-few (e .args .image .now) _ (e .args .page) (s .show .ensures .0) in
+    let h : length (s .show .result .now) ≤ 2040 = shown-few (e .args .nand) (e .args .image .now) _ (e .args .page) (s .show .ensures .0) in
     omega (arith, h, e .pre)
 
 -- src/calls.rt:66:1

@@ -12,15 +12,15 @@ use Rattle.store.proofs.admit.commit_tests.Reads as commit-tests-reads
 use Rattle.store.proofs.answer.number.Reads as number-reads
 
 -- the number of the refusal is what the tests give
-told : (n : tie.After-number) → (let a = n .before .before .args in n .number .result ≡ testsOf (a .geometry) (a .numbers) (a .len) (a .torn))
+told : (n : tie.After-number) → (let a = n .before .before .args in n .number .result ≡ testsOf (a .numbers) (a .len) (a .torn))
 told n = n .number .ensures ∙ ap refusalIn (n .before .commit-tests .ensures) ∙ number-for _
 
 -- they pass
-past : (e : tie.Else1) → (let a = e .before .before .before .args in testsOf (a .geometry) (a .numbers) (a .len) (a .torn) ≡ 0)
+past : (e : tie.Else1) → (let a = e .before .before .before .args in testsOf (a .numbers) (a .len) (a .torn) ≡ 0)
 past e = omega (arith, e .if1 .left, told (e .before))
 
 commit-tests-requires : tie.Need-commit-tests-requires
-commit-tests-requires c κs = c .pre
+commit-tests-requires c κs = search needs
 
 number-requires : tie.Need-number-requires
 number-requires c κs = search needs

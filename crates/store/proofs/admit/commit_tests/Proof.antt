@@ -1,6 +1,7 @@
 use Prim.Native.Nat.{_<_}
 use mathlib.Core.Path.{refl, sym, ap, _∙_}
 use native.Mathlib.Omega.{arith}
+use Rattle.chip.specs.Geometry.{geometryOf}
 use Rattle.store.specs.AdmitCode.{admitNumber}
 use Rattle.store.proofs.CommitTests.{commit-first, commit-torn, commit-idles, commit-last, commit-passes}
 use borrow.Author.Needs.{needs}
@@ -14,57 +15,48 @@ use Rattle.store.proofs.admit.admit.Reads as admit-reads
 low : (t : tie.Start) → t .args .numbers .commit < 4294967296
 low t = search needs
 
--- src/admit.rt:66:11
 admit-requires : tie.Need-admit-requires
-admit-requires c κs = c .pre
+admit-requires c κs = search needs
 
--- src/admit.rt:67:27
 enum-told : tie.Need-enum-told
 enum-told c = search needs
 
--- src/admit.rt:68:28
 enum-told-2 : tie.Need-enum-told-2
 enum-told-2 c = search needs
 
--- src/admit.rt:70:16
 enum-told-3 : tie.Need-enum-told-3
 enum-told-3 c = search needs
 
-add-if1 : tie.Need-add-if1
-add-if1 c = search needs
+page-size-requires : tie.Need-page-size-requires
+page-size-requires c κs = search needs
 
--- src/admit.rt:71:17
 returns : tie.Need-returns
 returns c =
     let k = c .before .before in
     let m = k .before .before in
     let a = m .before .args in
-    commit-torn (a .geometry) (a .numbers .on) (a .numbers .blocks) (a .numbers .pending) (a .numbers .commit) (a .len) (a .torn) 0 (sym (ap admitNumber (k .enum-told3 .given .1)) ∙ m .admit .ensures .number) refl (c .if1 .taken)
+    commit-torn (geometryOf (a .numbers .nand)) (a .numbers .on) (a .numbers .blocks) (a .numbers .pending) (a .numbers .commit) (a .len) (a .torn) 0 (sym (ap admitNumber (k .enum-told3 .given .1)) ∙ m .admit .ensures .number) refl (λ q. c .if1 .taken (q ∙ sym (c .before .page-size .ensures)))
 
--- src/admit.rt:74:17
 returns-2 : tie.Need-returns-2
 returns-2 c =
     let o = c .before .before in
     let k = o .before .before in
     let m = k .before .before in
     let a = m .before .args in
-    commit-idles (a .geometry) (a .numbers .on) (a .numbers .blocks) (a .numbers .pending) (a .numbers .commit) (a .len) (a .torn) 0 (sym (ap admitNumber (k .enum-told3 .given .1)) ∙ m .admit .ensures .number) refl (omega (arith, o .if1 .left)) (omega (arith, c .if2 .taken))
+    commit-idles (geometryOf (a .numbers .nand)) (a .numbers .on) (a .numbers .blocks) (a .numbers .pending) (a .numbers .commit) (a .len) (a .torn) 0 (sym (ap admitNumber (k .enum-told3 .given .1)) ∙ m .admit .ensures .number) refl (omega (arith, o .if1 .left)) (omega (arith, c .if2 .taken))
 
--- src/admit.rt:63:1
 returns-3 : tie.Need-returns-3
 returns-3 c =
     let m = c .before .before in
     let a = m .before .args in
-    commit-first (a .geometry) (a .numbers .on) (a .numbers .blocks) (a .numbers .pending) (a .numbers .commit) (a .len) (a .torn) 2 (sym (ap admitNumber (c .enum-told .given .1)) ∙ m .admit .ensures .number) (omega arith)
+    commit-first (geometryOf (a .numbers .nand)) (a .numbers .on) (a .numbers .blocks) (a .numbers .pending) (a .numbers .commit) (a .len) (a .torn) 2 (sym (ap admitNumber (c .enum-told .given .1)) ∙ m .admit .ensures .number) (omega arith)
 
--- src/admit.rt:63:1
 returns-4 : tie.Need-returns-4
 returns-4 c =
     let m = c .before .before in
     let a = m .before .args in
-    commit-first (a .geometry) (a .numbers .on) (a .numbers .blocks) (a .numbers .pending) (a .numbers .commit) (a .len) (a .torn) 1 (sym (ap admitNumber (c .enum-told2 .given .1)) ∙ m .admit .ensures .number) (omega arith)
+    commit-first (geometryOf (a .numbers .nand)) (a .numbers .on) (a .numbers .blocks) (a .numbers .pending) (a .numbers .commit) (a .len) (a .torn) 1 (sym (ap admitNumber (c .enum-told2 .given .1)) ∙ m .admit .ensures .number) (omega arith)
 
--- src/admit.rt:63:1
 returns-5 : tie.Need-returns-5
 returns-5 c =
     let j = c .before .before in
@@ -72,9 +64,8 @@ returns-5 c =
     let k = o .before .before in
     let m = k .before .before in
     let a = m .before .args in
-    commit-last (a .geometry) (a .numbers .on) (a .numbers .blocks) (a .numbers .pending) (a .numbers .commit) (a .len) (a .torn) 0 (sym (ap admitNumber (k .enum-told3 .given .1)) ∙ m .admit .ensures .number) refl (omega (arith, o .if1 .left)) (omega (arith, j .if2 .left)) (omega (arith, c .if3 .taken)) (low (m .before))
+    commit-last (geometryOf (a .numbers .nand)) (a .numbers .on) (a .numbers .blocks) (a .numbers .pending) (a .numbers .commit) (a .len) (a .torn) 0 (sym (ap admitNumber (k .enum-told3 .given .1)) ∙ m .admit .ensures .number) refl (omega (arith, o .if1 .left)) (omega (arith, j .if2 .left)) (omega (arith, c .if3 .taken)) (low (m .before))
 
--- src/admit.rt:63:1
 returns-6 : tie.Need-returns-6
 returns-6 c =
     let j = c .before .before in
@@ -82,7 +73,7 @@ returns-6 c =
     let k = o .before .before in
     let m = k .before .before in
     let a = m .before .args in
-    commit-passes (a .geometry) (a .numbers .on) (a .numbers .blocks) (a .numbers .pending) (a .numbers .commit) (a .len) (a .torn) 0 (sym (ap admitNumber (k .enum-told3 .given .1)) ∙ m .admit .ensures .number) refl (omega (arith, o .if1 .left)) (omega (arith, j .if2 .left)) (omega (arith, c .if3 .left))
+    commit-passes (geometryOf (a .numbers .nand)) (a .numbers .on) (a .numbers .blocks) (a .numbers .pending) (a .numbers .commit) (a .len) (a .torn) 0 (sym (ap admitNumber (k .enum-told3 .given .1)) ∙ m .admit .ensures .number) refl (omega (arith, o .if1 .left)) (omega (arith, j .if2 .left)) (omega (arith, c .if3 .left))
 
 pub commit-tests-spec : {M : Type 1} → statement M
 commit-tests-spec =
@@ -92,7 +83,7 @@ commit-tests-spec =
     enum-told
     enum-told-2
     enum-told-3
-    add-if1
+    page-size-requires
     returns
     returns-2
     returns-3

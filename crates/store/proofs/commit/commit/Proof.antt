@@ -1,4 +1,3 @@
-use Rattle.chip.specs.Geometry.{small}
 use Rattle.store.specs.declared.state.State.{State}
 use Rattle.store.specs.declared.state.Wrote.{Wrote}
 use Rattle.store.specs.Contracts.{Commits}
@@ -29,7 +28,7 @@ returns c =
     let l = c .before .before .before in
     let n = l .before .before .before .before .before .before .before .before .before .before in
     let a = n .before .before .before .args in
-    of-parts (a .t1) (n .numbers-of .result) (n .numbers-of .ensures) (λ (s : State) (r : Wrote). Commits small (a .allowance) (a .torn .now) s (a .image .now) r (l .commit-lent .last .1 .1 .1 .1 .1 .0)) _ _
+    of-parts (a .t1) (n .numbers-of .result) (n .numbers-of .ensures) (λ (s : State) (r : Wrote). Commits (a .allowance) (a .torn .now) s (a .image .now) r (l .commit-lent .last .1 .1 .1 .1 .1 .0)) _ _
     (c .with-table .ensures) (l .commit-lent .ensures)
 
 pub commit-spec : {M : Type 1} → statement M

@@ -1,8 +1,6 @@
 use mathlib.Core.Path.{subst}
 use Prim.Native.Nat.{_<_}
 use lib.ListN.{length}
-use Rattle.chip.proofs.Sizes.{small-fits}
-use Rattle.chip.specs.Geometry.{small}
 use Rattle.store.specs.declared.admit.Beginning.{Beginning}
 use Rattle.store.specs.AdmitCode.{CommitBegins}
 use Rattle.store.proofs.CommitState.{commit-ends}
@@ -20,7 +18,7 @@ low : (t : tie.Start) → t .args .numbers .commit < 4294967296
 low t = search needs
 
 commit-begins-requires : tie.Need-commit-begins-requires
-commit-begins-requires c κs = small-fits
+commit-begins-requires c κs = search needs
 
 enum-known-answer : tie.Need-enum-known-answer
 enum-known-answer c = search needs
@@ -36,7 +34,7 @@ commit-pending-requires c κs =
     let k = c .before .before .before .before in
     let b = k .before .before in
     let a = b .before .before .before .args in
-    (subst (λ (r : Beginning). CommitBegins small (a .numbers) (length (a .image .now)) (length (a .torn .now)) r) (k .enum-told .given .1) (b .commit-begins .ensures), small-fits)
+    subst (λ (r : Beginning). CommitBegins (a .numbers) (length (a .image .now)) (length (a .torn .now)) r) (k .enum-told .given .1) (b .commit-begins .ensures)
 
 returns : tie.Need-returns
 returns c =
@@ -44,8 +42,8 @@ returns c =
     let b = k .before .before in
     let a = b .before .before .before .args in
     rw (c .quiet .ensures)
-    (commit-ends small (a .numbers) (a .buffer .now) (a .lens .now) (a .slots .now) (a .erases .now) (a .allowance) (a .torn .now) (a .image .now) _ (low (b .before .before .before))
-    (subst (λ (r : Beginning). CommitBegins small (a .numbers) (length (a .image .now)) (length (a .torn .now)) r) (k .answer .given .1) (b .commit-begins .ensures)))
+    (commit-ends (a .numbers) (a .buffer .now) (a .lens .now) (a .slots .now) (a .erases .now) (a .allowance) (a .torn .now) (a .image .now) _ (low (b .before .before .before))
+    (subst (λ (r : Beginning). CommitBegins (a .numbers) (length (a .image .now)) (length (a .torn .now)) r) (k .answer .given .1) (b .commit-begins .ensures)))
 
 same-length : tie.Need-same-length
 same-length c = search needs

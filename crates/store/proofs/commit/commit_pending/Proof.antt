@@ -2,6 +2,8 @@ use mathlib.Core.Path.{_≡_}
 use Prim.Native.Nat.{ℕ, _<_}
 use native.Mathlib.Omega.{arith}
 use lib.ListN.{length, getD}
+use Rattle.chip.specs.Geometry.{geometryOf}
+use Rattle.chip.proofs.Sizes.{nand-fits}
 use Rattle.store.specs.Parts.{joined}
 use Rattle.store.proofs.CommitTests.{Planning, planning}
 use Rattle.store.proofs.CommitState.{commit-stuck, commit-ended}
@@ -25,28 +27,31 @@ low w = search needs
 
 -- the tests pass
 past : (w : tie.After-slice-known)
-    → (let a = w .before .args in Planning (a .geometry) (a .numbers) (a .allowance) (length (a .image .now)) (length (a .torn .now)))
+    → (let a = w .before .args in Planning (a .numbers) (length (a .image .now)) (length (a .torn .now)))
 past w =
     let a = w .before .args in
     let h : a .numbers .commit < 4294967296 = search needs in
-    planning (a .geometry) (a .numbers) (a .allowance) (length (a .image .now)) (length (a .torn .now)) h (w .before .pre .0)
+    planning (a .numbers) (length (a .image .now)) (length (a .torn .now)) h (w .before .pre)
 
 -- the length of the slots
-slots : (w : tie.After-all2) → length (w .before .before .before .before .before .before .before .before .args .slots .now) ≡ 1024
+slots : (w : tie.After-all2) → length (w .before .before .before .before .before .before .before .before .before .args .slots .now) ≡ 1024
 slots w = search needs
 
 -- and of the figures
-figured : (w : tie.After-each2) → length (w .before .before .before .before .before .before .before .before .before .before .args .erases .now) ≡ 32
+figured : (w : tie.After-each2) → length (w .before .before .before .before .before .before .before .before .before .before .before .args .erases .now) ≡ 32
 figured w = search needs
+
+basis-of-requires : tie.Need-basis-of-requires
+basis-of-requires c κs = search needs
 
 begin-requires : tie.Need-begin-requires
 begin-requires c κs = search needs
 
 execute-requires : tie.Need-execute-requires
 execute-requires c κs =
-    let w = c .before .before .before .before .before .before .before .before .before .before .before .before .before .before .before in
-    let p = past w in
-    (p .chip .size, p .chip .least, p .chip .most, p .fits, p .slice, p .number, w .before .pre .1)
+    let o = c .before .before .before .before .before .before .before .before .before .before .before .before .before .before in
+    let p = past (o .before .before) in
+    rw (o .basis-of .ensures) (p .chip .size, p .chip .least, p .chip .most, p .fits, p .slice, p .number, nand-fits (o .before .before .before .args .numbers .nand))
 
 quiet-requires : tie.Need-quiet-requires
 quiet-requires c κs = search needs
@@ -61,19 +66,21 @@ returns c =
     let f = x .before .before .before .before .before .before .before in
     let q = f .before .before in
     let b = q .before .before .before .before .before in
-    let w = b .before .before in
+    let o = b .before in
+    let w = o .before .before in
+    let y = x .execute .ensures in
     let g = past w in
     let a = w .before .args in
     let s = joined (a .numbers) (a .buffer .now) (a .lens .now) (a .slots .now) (a .erases .now) in
     rw (c .quiet .ensures)
-    (commit-stuck (a .geometry) (a .allowance) (a .torn .now) s (a .image .now) (g .first) (w .before .pre .1) (g .pending) (g .number) (g .slice) (g .fits) (slots q) (figured f) (bytes w) _ _ _ _
-    (x .execute .result) (low w) (b .begin .result) (b .begin .ensures) (x .execute .ensures) (c .before .if1 .taken))
+    (commit-stuck (a .allowance) (a .torn .now) s (a .image .now) (g .first) (g .pending) (g .number) (g .slice) (g .fits) (slots q) (figured f) (bytes w) _ _ _ _
+    (x .execute .result) (low w) (b .begin .result) (b .begin .ensures) (rw (o .basis-of .ensures) at y) (c .before .if1 .taken))
 
 add-n : tie.Need-add-n
 add-n c =
     let x = c .before .before .before .before .before in
     let q = x .before .before .before .before .before .before .before .before .before in
-    let g = past (q .before .before .before .before .before .before .before) in
+    let g = past (q .before .before .before .before .before .before .before .before) in
     record { fits = omega (arith, g .number) }
 
 ended-requires : tie.Need-ended-requires
@@ -90,17 +97,20 @@ returns-2 c =
     let f = x .before .before .before .before .before .before .before in
     let q = f .before .before in
     let b = q .before .before .before .before .before in
-    let w = b .before .before in
+    let o = b .before in
+    let w = o .before .before in
+    let y = x .execute .ensures in
     let g = past w in
     let a = w .before .args in
     let s = joined (a .numbers) (a .buffer .now) (a .lens .now) (a .slots .now) (a .erases .now) in
-    commit-ended (a .geometry) (a .allowance) (a .torn .now) s (a .image .now) (g .first) (w .before .pre .1) (g .pending) (g .number) (g .slice) (g .fits) (slots q) (figured f) (bytes w) _ _ _ _
-    (x .execute .result) (low w) (b .begin .result) (b .begin .ensures) (x .execute .ensures) (l .if1 .left) (λ j. omega (arith, k .slice-known2 .given j)) _ (c .ended .ensures (a .buffer .now))
+    commit-ended (a .allowance) (a .torn .now) s (a .image .now) (g .first) (g .pending) (g .number) (g .slice) (g .fits) (slots q) (figured f) (bytes w) _ _ _ _
+    (x .execute .result) (low w) (b .begin .result) (b .begin .ensures) (rw (o .basis-of .ensures) at y) (l .if1 .left) (λ j. omega (arith, k .slice-known2 .given j)) _ (c .ended .ensures (a .buffer .now))
 
 pub commit-pending-spec : {M : Type 1} → statement M
 commit-pending-spec =
     tie.close
     (tie.spec
+    basis-of-requires
     begin-requires
     execute-requires
     quiet-requires

@@ -1,5 +1,4 @@
 use mathlib.Core.Path.{refl}
-use Rattle.chip.specs.Geometry.{small}
 use Rattle.store.specs.declared.answer.Forecast.{Forecast}
 use Rattle.store.specs.declared.state.State.{State}
 use Rattle.store.specs.Contracts.{Forecasts}
@@ -22,7 +21,7 @@ returns : tie.Need-returns
 returns c =
     let n = c .before .before .before .before .before in
     let a = n .before .before .args in
-    of-parts (a .t1) (n .numbers-of .result) (n .numbers-of .ensures) (λ (s : State) (r : Forecast). Forecasts small s (a .image .now) r) _ _ refl
+    of-parts (a .t1) (n .numbers-of .result) (n .numbers-of .ensures) (λ (s : State) (r : Forecast). Forecasts s (a .image .now) r) _ _ refl
     (c .forecast-lent .ensures (a .t1 .erases))
 
 pub forecast-spec : {M : Type 1} → statement M

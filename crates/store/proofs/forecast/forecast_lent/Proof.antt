@@ -1,8 +1,7 @@
 use mathlib.Core.Path.{subst}
 use Prim.Native.Nat.{_<_}
 use lib.ListN.{length}
-use Rattle.chip.proofs.Sizes.{small-fits}
-use Rattle.chip.specs.Geometry.{small, pageSize}
+use Rattle.chip.specs.Geometry.{geometryOf, pageSize}
 use Rattle.store.specs.declared.admit.Beginning.{Beginning}
 use Rattle.store.specs.AdmitCode.{CommitBegins}
 use Rattle.store.proofs.ForecastState.{forecast-ends}
@@ -19,8 +18,16 @@ use Rattle.store.proofs.forecast.quiet.Reads as quiet-reads
 low : (t : tie.Start) → t .args .numbers .commit < 4294967296
 low t = search needs
 
+page-size-requires : tie.Need-page-size-requires
+page-size-requires c κs = search needs
+
+-- how it begins, with a torn slice of the right length
+begins : (b : tie.After-commit-begins)
+    → (let a = b .before .before .before .args in CommitBegins (a .numbers) (length (a .image .now)) (pageSize (geometryOf (a .numbers .nand))) (b .commit-begins .result))
+begins b = let h = b .commit-begins .ensures in (rw (b .before .page-size .ensures) at h)
+
 commit-begins-requires : tie.Need-commit-begins-requires
-commit-begins-requires c κs = small-fits
+commit-begins-requires c κs = search needs
 
 enum-known-answer : tie.Need-enum-known-answer
 enum-known-answer c = search needs
@@ -34,17 +41,17 @@ enum-told c = search needs
 forecast-pending-requires : tie.Need-forecast-pending-requires
 forecast-pending-requires c κs =
     let b = c .before .before in
-    let a = b .before .before .args in
-    (subst (λ (r : Beginning). CommitBegins small (a .numbers) (length (a .image .now)) (pageSize small) r) (c .enum-told .given .1) (b .commit-begins .ensures), small-fits)
+    let a = b .before .before .before .args in
+    subst (λ (r : Beginning). CommitBegins (a .numbers) (length (a .image .now)) (pageSize (geometryOf (a .numbers .nand))) r) (c .enum-told .given .1) (begins b)
 
 returns : tie.Need-returns
 returns c erases =
     let k = c .before .before in
     let b = k .before .before in
-    let a = b .before .before .args in
+    let a = b .before .before .before .args in
     rw (c .quiet .ensures)
-    (forecast-ends small (a .numbers) (a .buffer .now) (a .lens .now) (a .slots .now) erases (a .image .now) _ (low (b .before .before))
-    (subst (λ (r : Beginning). CommitBegins small (a .numbers) (length (a .image .now)) (pageSize small) r) (k .answer .given .1) (b .commit-begins .ensures)))
+    (forecast-ends (a .numbers) (a .buffer .now) (a .lens .now) (a .slots .now) erases (a .image .now) _ (low (b .before .before .before))
+    (subst (λ (r : Beginning). CommitBegins (a .numbers) (length (a .image .now)) (pageSize (geometryOf (a .numbers .nand))) r) (k .answer .given .1) (begins b)))
 
 returns-2 : tie.Need-returns-2
 returns-2 c = search needs
@@ -53,6 +60,7 @@ pub forecast-lent-spec : {M : Type 1} → statement M
 forecast-lent-spec =
     tie.close
     (tie.spec
+    page-size-requires
     commit-begins-requires
     enum-known-answer
     quiet-requires

@@ -2,7 +2,8 @@ use mathlib.Core.Path.{refl}
 use Prim.Native.Nat.{ℕ, _<_}
 use native.Mathlib.Omega.{arith}
 use lib.ListN.{length, getD}
-use Rattle.chip.specs.Geometry.{pageSize}
+use Rattle.chip.specs.Geometry.{geometryOf, pageSize}
+use Rattle.chip.proofs.Sizes.{nand-fits}
 use Rattle.store.specs.Parts.{joined}
 use Rattle.store.proofs.CommitTests.{Planning, planning}
 use Rattle.store.proofs.ForecastState.{forecast-stuck, forecast-done}
@@ -15,18 +16,22 @@ use Rattle.commits.proofs.forecast.forecast.Reads as forecast-reads
 use Rattle.store.proofs.forecast.quiet.Reads as quiet-reads
 
 -- the tests pass
-past : (t : tie.Start) → (let a = t .args in Planning (a .geometry) (a .numbers) 0 (length (a .image .now)) (pageSize (a .geometry)))
+past : (t : tie.Start) → (let a = t .args in Planning (a .numbers) (length (a .image .now)) (pageSize (geometryOf (a .numbers .nand))))
 past t =
     let a = t .args in
     let h : a .numbers .commit < 4294967296 = search needs in
-    planning (a .geometry) (a .numbers) 0 (length (a .image .now)) (pageSize (a .geometry)) h (t .pre .0)
+    planning (a .numbers) (length (a .image .now)) (pageSize (geometryOf (a .numbers .nand))) h (t .pre)
 
 -- the image holds bytes
 bytes : (w : tie.After-shared-slice-known) → (j : ℕ) → getD (w .before .args .image .now) j 0 < 256
 bytes w j = omega (arith, w .shared-slice-known .given j)
 
+basis-of-requires : tie.Need-basis-of-requires
+basis-of-requires c κs = search needs
+
 forecast-requires : tie.Need-forecast-requires
-forecast-requires c κs = let g = past (c .before) in (g .chip .size, g .chip .least, g .chip .most, g .fits, c .before .pre .1)
+forecast-requires c κs =
+    let g = past (c .before .before) in rw (c .basis-of .ensures) (g .chip .size, g .chip .least, g .chip .most, g .fits, nand-fits (c .before .before .args .numbers .nand))
 
 quiet-requires : tie.Need-quiet-requires
 quiet-requires c κs = search needs
@@ -34,22 +39,26 @@ quiet-requires c κs = search needs
 returns : tie.Need-returns
 returns c erases =
     let f = c .before .before in
-    let w = f .before in
+    let o = f .before in
+    let w = o .before in
+    let x = f .forecast .ensures in
     let g = past (w .before) in
     let a = w .before .args in
     let s = joined (a .numbers) (a .buffer .now) (a .lens .now) (a .slots .now) erases in
     rw (c .quiet .ensures)
-    (forecast-stuck (a .geometry) s (a .image .now) (g .first) (g .pending) (g .number) (g .fits) (bytes w) (f .forecast .result) (f .forecast .ensures) (w .before .pre .1) (c .before .if1 .taken))
+    (forecast-stuck s (a .image .now) (g .first) (g .pending) (g .number) (g .fits) (bytes w) (f .forecast .result) (rw (o .basis-of .ensures) at x) (c .before .if1 .taken))
 
 returns-2 : tie.Need-returns-2
 returns-2 c erases =
     let l = c .before in
     let f = l .before in
-    let w = f .before in
+    let o = f .before in
+    let w = o .before in
+    let x = f .forecast .ensures in
     let g = past (w .before) in
     let a = w .before .args in
     let s = joined (a .numbers) (a .buffer .now) (a .lens .now) (a .slots .now) erases in
-    forecast-done (a .geometry) s (a .image .now) (g .first) (g .pending) (g .number) (g .fits) (bytes w) (f .forecast .result) (f .forecast .ensures) (l .if1 .left) _ refl
+    forecast-done s (a .image .now) (g .first) (g .pending) (g .number) (g .fits) (bytes w) (f .forecast .result) (rw (o .basis-of .ensures) at x) (l .if1 .left) _ refl
 
 pub forecast-pending-spec : {M : Type 1} → statement M
-forecast-pending-spec = tie.close (tie.spec forecast-requires quiet-requires returns returns-2)
+forecast-pending-spec = tie.close (tie.spec basis-of-requires forecast-requires quiet-requires returns returns-2)

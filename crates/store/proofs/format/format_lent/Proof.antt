@@ -1,7 +1,8 @@
 use Prim.Native.Nat.{_<_}
 use native.Mathlib.Omega.{arith}
-use Rattle.chip.specs.Geometry.{small}
-use Rattle.chip.proofs.Sizes.{small-fits}
+use lib.ListN.{length}
+use Rattle.chip.specs.Geometry.{geometryOf}
+use Rattle.store.specs.AdmitCode.{Sized}
 use Rattle.store.specs.Parts.{joined}
 use Rattle.store.proofs.FormatState.{format-size, format-ended}
 use borrow.Author.Needs.{needs}
@@ -19,8 +20,15 @@ use Rattle.store.proofs.ending.quiet.Reads as quiet-reads
 low : (w : tie.After-shared-slice-known) → w .before .before .args .allowance < 4294967296
 low w = search needs
 
+-- the sizes, as the part named has them
+sizes : (z : tie.After-sized) → (let a = z .before .before .before .before .args in Sized (geometryOf (a .nand)) (length (a .image .now)) (length (a .torn .now)) (z .sized .result))
+sizes z = let h = z .sized .ensures in (rw (z .before .geometry-of .ensures .0) at h)
+
+geometry-of-requires : tie.Need-geometry-of-requires
+geometry-of-requires c κs = search needs
+
 sized-requires : tie.Need-sized-requires
-sized-requires c κs = small-fits
+sized-requires c κs = c .geometry-of .ensures .1
 
 quiet-requires : tie.Need-quiet-requires
 quiet-requires c κs = search needs
@@ -29,9 +37,9 @@ returns : tie.Need-returns
 returns c buffer =
     let h = c .before in
     let z = h .before in
-    let a = z .before .before .before .args in
+    let a = z .before .before .before .before .args in
     let s = joined (a .numbers) buffer (a .lens .now) (a .slots .now) (a .erases .now) in
-    rw (c .quiet .ensures) (format-size small (a .allowance) (a .torn .now) s (a .image .now) (z .sized .result) (z .sized .ensures) (omega (arith, h .if1 .taken)))
+    rw (c .quiet .ensures) (format-size (a .nand) (a .allowance) (a .torn .now) s (a .image .now) (z .sized .result) (sizes z) (omega (arith, h .if1 .taken)))
 
 begin-requires : tie.Need-begin-requires
 begin-requires c κs = search needs
@@ -41,7 +49,7 @@ format-requires c κs =
     let l = c .before .before in
     let z = l .before .sized in
     let p : 0 < z .result = omega (arith, l .if1 .left) in
-    (z .ensures .chip p .size, p, z .ensures .torn p, small-fits)
+    (z .ensures .chip p .size, p, z .ensures .torn p, l .before .before .geometry-of .ensures .1)
 
 same-length : tie.Need-same-length
 same-length c = search needs
@@ -58,14 +66,15 @@ returns-2 c buffer =
     let f = k .before .before in
     let g = f .before .before in
     let l = g .before in
-    let z = l .before .sized in
-    let a = l .before .before .before .before .args in
+    let z = l .before in
+    let a = z .before .before .before .before .args in
+    let y = f .format .ensures in
     let s = joined (a .numbers) buffer (a .lens .now) (a .slots .now) (a .erases .now) in
-    format-ended small small-fits (a .allowance) (a .torn .now) s (a .image .now) _ (z .result) (z .ensures) (omega (arith, l .if1 .left)) (low (l .before .before)) (g .begin .result) (f .format .result)
-    (g .begin .ensures) (f .format .ensures)
+    format-ended (a .nand) (a .allowance) (a .torn .now) s (a .image .now) _ (z .sized .result) (sizes z) (omega (arith, l .if1 .left)) (low (z .before .before)) (g .begin .result) (f .format .result)
+    (g .begin .ensures) (rw (z .before .geometry-of .ensures .0) at y)
     (λ j. omega (arith, k .slice-known2 .given j)) buffer _ (c .ended .ensures buffer)
 
 pub format-lent-spec : {M : Type 1} → statement M
 format-lent-spec =
     tie.close
-    (tie.spec sized-requires quiet-requires returns begin-requires format-requires array-write-l ended-requires same-length returns-2)
+    (tie.spec geometry-of-requires sized-requires quiet-requires returns begin-requires format-requires array-write-l ended-requires same-length returns-2)

@@ -2,10 +2,10 @@ use mathlib.Core.Path.{_≡_, refl}
 use Prim.Native.Nat.{ℕ, _<_}
 use native.Mathlib.Omega.{arith}
 use lib.ListN.{length, getD}
-use Rattle.chip.proofs.Sizes.{small-fits}
-use Rattle.chip.specs.Geometry.{small, pageSize}
+use Rattle.chip.proofs.Sizes.{blocks-whole, nand-fits}
+use Rattle.chip.specs.Geometry.{geometryOf, pageSize}
 use Rattle.store.specs.declared.answer.Answer.the-variants.{Blank, Layout, Shape}
-use Rattle.store.specs.AdmitCode.{ChipOf}
+use Rattle.store.specs.AdmitCode.{ChipOf, Sized}
 use Rattle.store.specs.CheckCode.{Read}
 use Rattle.store.specs.Parts.{joined}
 use Rattle.store.proofs.SizeLaws.{sized-chip}
@@ -24,12 +24,16 @@ use Rattle.store.proofs.mount.next_number.Reads as next-number-reads
 use Rattle.store.proofs.ending.refused.Reads as refused-reads
 use Rattle.store.proofs.mount.retire.Reads as retire-reads
 
--- the sizes are right
+-- the sizes, as the part named has them
+sized-as : (z : tie.After-sized) → (let a = z .before .before .before .before .args in Sized (geometryOf (a .nand)) (length (a .image .now)) (length (a .torn .now)) (z .sized .result))
+sized-as z = let h = z .sized .ensures in (rw (z .before .geometry-of .ensures .0) at h)
+
+-- they are right
 sizes : (e : tie.Else1)
-    → ChipOf small (e .before .sized .result) (length (e .before .before .before .before .args .image .now)) × (length (e .before .before .before .before .args .torn .now) ≡ pageSize small)
+    → (let a = e .before .before .before .before .before .args in ChipOf (geometryOf (a .nand)) (e .before .sized .result) (length (a .image .now)) × (length (a .torn .now) ≡ pageSize (geometryOf (a .nand))))
 sizes e =
-    let a = e .before .before .before .before .args in
-    sized-chip small (length (a .image .now)) (length (a .torn .now)) (e .before .sized .result) (e .before .sized .ensures) (e .if1 .left)
+    let a = e .before .before .before .before .before .args in
+    sized-chip (geometryOf (a .nand)) (length (a .image .now)) (length (a .torn .now)) (e .before .sized .result) (sized-as (e .before)) (e .if1 .left)
 
 -- the image holds bytes
 bytes : (w : tie.After-slice-known) → (j : ℕ) → getD (w .before .args .image .now) j 0 < 256
@@ -41,12 +45,20 @@ low w = search needs
 
 -- what the image means
 meaning : (w : tie.After-commit)
-    → Read small (w .before .before .before .before .before .before .before .before .before .before .args .image .now)
-    (w .before .before .check .last .1 .1 .1 .0) (w .before .before .check .last .1 .1 .1 .1 .0) (w .commit .given .0 .0) (w .commit .given .0 .1 .0)
-meaning w = let k = w .before .before .check .ensures in rw (w .commit .given .1) at k
+    → (let z = w .before .before .before .before .before .before in
+    let a = z .before .before .before .before .before .args in
+    Read (geometryOf (a .nand)) (a .image .now)
+    (w .before .before .check .last .1 .1 .1 .0) (w .before .before .check .last .1 .1 .1 .1 .0) (w .commit .given .0 .0) (w .commit .given .0 .1 .0))
+meaning w =
+    let o = w .before .before .before .before .before .before .before .before in
+    let k = w .before .before .check .ensures in
+    (rw (w .commit .given .1, o .geometry-of .ensures .0) at k)
+
+geometry-of-requires : tie.Need-geometry-of-requires
+geometry-of-requires c κs = search needs
 
 sized-requires : tie.Need-sized-requires
-sized-requires c κs = small-fits
+sized-requires c κs = c .geometry-of .ensures .1
 
 quiet-requires : tie.Need-quiet-requires
 quiet-requires c κs = search needs
@@ -55,14 +67,17 @@ returns : tie.Need-returns
 returns c buffer =
     let h = c .before in
     let z = h .before in
-    let w = z .before .before in
+    let w = z .before .before .before in
     let a = w .before .args in
     let s = joined (a .numbers) buffer (a .lens .now) (a .slots .now) (a .erases .now) in
-    let k = z .sized .ensures in
-    rw (c .quiet .ensures) (size-mounts small small-fits (a .allowance) (a .torn .now) s (a .image .now) (bytes w) (rw (h .if1 .taken) at k))
+    let k = sized-as z in
+    rw (c .quiet .ensures) (size-mounts (a .nand) (a .allowance) (a .torn .now) s (a .image .now) (bytes w) (rw (h .if1 .taken) at k))
 
 check-requires : tie.Need-check-requires
-check-requires c κs = (sizes (c .before .before .before) .0, small-fits)
+check-requires c κs =
+    let e = c .before .before .before in
+    let o = e .before .before in
+    rw (o .geometry-of .ensures .0) (sizes e .0, nand-fits (o .before .before .before .args .nand))
 
 enum-told : tie.Need-enum-told
 enum-told c = search needs
@@ -100,8 +115,11 @@ begin-requires c κs = search needs
 retire-requires : tie.Need-retire-requires
 retire-requires c κs =
     let k = c .before .before .before .before .before .before .before in
-    let z = sizes (k .before .before .before .before) in
-    (omega (arith, z .0 .size), z .1, small-fits)
+    let e = k .before .before .before .before in
+    let z = sizes e in
+    let o = e .before .before in
+    let n = o .before .before .before .args .nand in
+    rw (o .geometry-of .ensures .0) (blocks-whole (geometryOf n) _ _ (z .0 .size), z .1, nand-fits n)
 
 ended-requires : tie.Need-ended-requires
 ended-requires c κs = search needs
@@ -113,13 +131,14 @@ returns-2 : tie.Need-returns-2
 returns-2 c buffer =
     let k = c .before .before .before in
     let e = k .before .before .before .before in
-    let w = e .before .before .before in
+    let o = e .before .before in
+    let w = o .before .before in
     let a = w .before .args in
     let s = joined (a .numbers) buffer (a .lens .now) (a .slots .now) (a .erases .now) in
     let m = k .check .ensures in
     rw (c .refused .ensures)
-    (invalid-mounts small small-fits (a .allowance) (a .torn .now) s (a .image .now) (bytes w) (e .before .sized .result) (sizes e .0) (sizes e .1) Blank 7 refl (omega arith) refl
-    (rw (c .before .enum-told .given .1) at m))
+    (invalid-mounts (a .nand) (a .allowance) (a .torn .now) s (a .image .now) (bytes w) (e .before .sized .result) (sizes e .0) (sizes e .1) Blank 7 refl (omega arith) refl
+    (rw (c .before .enum-told .given .1, o .geometry-of .ensures .0) at m))
 
 same-length-2 : tie.Need-same-length-2
 same-length-2 c = search needs
@@ -128,13 +147,14 @@ returns-3 : tie.Need-returns-3
 returns-3 c buffer =
     let k = c .before .before .before in
     let e = k .before .before .before .before in
-    let w = e .before .before .before in
+    let o = e .before .before in
+    let w = o .before .before in
     let a = w .before .args in
     let s = joined (a .numbers) buffer (a .lens .now) (a .slots .now) (a .erases .now) in
     let m = k .check .ensures in
     rw (c .refused2 .ensures)
-    (invalid-mounts small small-fits (a .allowance) (a .torn .now) s (a .image .now) (bytes w) (e .before .sized .result) (sizes e .0) (sizes e .1) Layout 8 refl (omega arith) refl
-    (rw (c .before .enum-told2 .given .1) at m))
+    (invalid-mounts (a .nand) (a .allowance) (a .torn .now) s (a .image .now) (bytes w) (e .before .sized .result) (sizes e .0) (sizes e .1) Layout 8 refl (omega arith) refl
+    (rw (c .before .enum-told2 .given .1, o .geometry-of .ensures .0) at m))
 
 same-length-3 : tie.Need-same-length-3
 same-length-3 c = search needs
@@ -143,13 +163,14 @@ returns-4 : tie.Need-returns-4
 returns-4 c buffer =
     let k = c .before .before .before in
     let e = k .before .before .before .before in
-    let w = e .before .before .before in
+    let o = e .before .before in
+    let w = o .before .before in
     let a = w .before .args in
     let s = joined (a .numbers) buffer (a .lens .now) (a .slots .now) (a .erases .now) in
     let m = k .check .ensures in
     rw (c .refused3 .ensures)
-    (invalid-mounts small small-fits (a .allowance) (a .torn .now) s (a .image .now) (bytes w) (e .before .sized .result) (sizes e .0) (sizes e .1) Shape 9 refl (omega arith) refl
-    (rw (c .before .enum-told3 .given .1) at m))
+    (invalid-mounts (a .nand) (a .allowance) (a .torn .now) s (a .image .now) (bytes w) (e .before .sized .result) (sizes e .0) (sizes e .1) Shape 9 refl (omega arith) refl
+    (rw (c .before .enum-told3 .given .1, o .geometry-of .ensures .0) at m))
 
 same-length-4 : tie.Need-same-length-4
 same-length-4 c = search needs
@@ -159,23 +180,26 @@ returns-5 c buffer =
     let v = c .before .before .before .before .before .before .before in
     let n = v .before .before in
     let g = n .before .before in
-    let o = g .before in
-    let t = o .before .before .before in
+    let q = g .before in
+    let t = q .before .before .before in
     let k = t .before .before in
     let e = k .before .before .before .before in
-    let w = e .before .before .before in
+    let o = e .before .before in
+    let w = o .before .before in
     let a = w .before .args in
     let s = joined (a .numbers) buffer (a .lens .now) (a .slots .now) (a .erases .now) in
-    marked-mounts small small-fits (a .allowance) (a .torn .now) s (a .image .now) (bytes w) (e .before .sized .result) (sizes e .0) (sizes e .1)
+    let y = n .retire .ensures in
+    marked-mounts (a .nand) (a .allowance) (a .torn .now) s (a .image .now) (bytes w) (e .before .sized .result) (sizes e .0) (sizes e .1)
     (k .check .last .1 .1 .1 .0) (k .check .last .1 .1 .1 .1 .0) (t .commit .given .0 .0) (t .commit .given .0 .1 .0) (meaning t)
     (n .retire .last .1 .0) (low w) (g .begin .result) (n .retire .result)
-    (g .begin .ensures) (n .retire .ensures) (λ j. omega (arith, v .slice-known2 .given j)) (o .next-number .result) (o .next-number .ensures)
+    (g .begin .ensures) (rw (o .geometry-of .ensures .0) at y) (λ j. omega (arith, v .slice-known2 .given j)) (q .next-number .result) (q .next-number .ensures)
     buffer _ (c .ended .ensures buffer)
 
 pub mount-lent-spec : {M : Type 1} → statement M
 mount-lent-spec =
     tie.close
     (tie.spec
+    geometry-of-requires
     sized-requires
     quiet-requires
     returns

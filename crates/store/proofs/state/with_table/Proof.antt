@@ -3,13 +3,13 @@ use Rattle.store.proofs.state.with_table.Statement.{statement}
 use Rattle.store.proofs.state.with_table.Tie as tie
 use Rattle.store.proofs.state.with_table.Reads as reads
 use Rattle.store.proofs.state.with_table.Lts as lts
-use Rattle.store.proofs.state.with_numbers.Reads as with-numbers-reads
+use Rattle.store.proofs.state.join.Reads as join-reads
 
-with-numbers-requires : tie.Need-with-numbers-requires
-with-numbers-requires c κs = search needs
+join-requires : tie.Need-join-requires
+join-requires c κs = search needs
 
 returns : tie.Need-returns
-returns c = rw (c .with-numbers .ensures)
+returns c = rw (c .join .ensures)
 
 pub with-table-spec : {M : Type 1} → statement M
-with-table-spec = tie.close (tie.spec with-numbers-requires returns)
+with-table-spec = tie.close (tie.spec join-requires returns)

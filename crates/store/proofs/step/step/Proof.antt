@@ -1,5 +1,4 @@
 use borrow.Author.Needs.{needs}
-use Rattle.chip.specs.Geometry.{small}
 use Rattle.store.proofs.StepLaws.{step-format, step-insert, step-delete, step-look, step-forecast, step-commit, step-mount}
 use Rattle.store.proofs.step.step.Statement.{statement}
 use Rattle.store.proofs.step.step.Tie as tie
@@ -86,7 +85,7 @@ same-length c = search needs
 returns : tie.Need-returns
 returns c =
     let a = c .before .before .before .before .before .before .before .before .before .before .args in
-    step-format small (a .call) (a .torn .now) (a .state) (a .image .now) _ _ (c .before .before .before .before .before .before .call .given .1) _ _ (c .wrote .ensures) (c .before .before .before .format .ensures)
+    step-format (a .call) (a .torn .now) (a .state) (a .image .now) _ _ _ (c .before .before .before .before .before .before .call .given .1) _ _ (c .wrote .ensures) (c .before .before .before .format .ensures)
 
 same-length-2 : tie.Need-same-length-2
 same-length-2 c = search needs
@@ -94,7 +93,7 @@ same-length-2 c = search needs
 returns-2 : tie.Need-returns-2
 returns-2 c =
     let a = c .before .before .before .before .before .before .before .before .args in
-    step-insert small (a .call) (a .torn .now) (a .state) (a .image .now) _ _ _ (c .before .before .before .before .call2 .given .1) _ (c .updated .ensures) (c .before .insert .ensures)
+    step-insert (a .call) (a .torn .now) (a .state) (a .image .now) _ _ _ (c .before .before .before .before .call2 .given .1) _ (c .updated .ensures) (c .before .insert .ensures)
 
 same-length-3 : tie.Need-same-length-3
 same-length-3 c = search needs
@@ -102,7 +101,7 @@ same-length-3 c = search needs
 returns-3 : tie.Need-returns-3
 returns-3 c =
     let a = c .before .before .before .before .before .before .before .before .args in
-    step-delete small (a .call) (a .torn .now) (a .state) (a .image .now) _ _ (c .before .before .before .before .call3 .given .1) _ (c .updated2 .ensures) (c .before .delete .ensures)
+    step-delete (a .call) (a .torn .now) (a .state) (a .image .now) _ _ (c .before .before .before .before .call3 .given .1) _ (c .updated2 .ensures) (c .before .delete .ensures)
 
 same-length-4 : tie.Need-same-length-4
 same-length-4 c = search needs
@@ -110,7 +109,7 @@ same-length-4 c = search needs
 returns-4 : tie.Need-returns-4
 returns-4 c =
     let a = c .before .before .before .before .before .before .before .before .args in
-    step-look small (a .call) (a .torn .now) (a .state) (a .image .now) _ _ (c .before .before .before .before .call4 .given .1) _ (c .looked .ensures) (c .before .look-up .ensures)
+    step-look (a .call) (a .torn .now) (a .state) (a .image .now) _ _ (c .before .before .before .before .call4 .given .1) _ (c .looked .ensures) (c .before .look-up .ensures)
 
 same-length-5 : tie.Need-same-length-5
 same-length-5 c = search needs
@@ -119,7 +118,7 @@ returns-5 : tie.Need-returns-5
 returns-5 c =
     let m = c .before .before .before in
     let a = m .before .before .before .before .args in
-    step-forecast small (a .call) (a .torn .now) (a .state) (a .image .now) _ (m .enum-told .given .1) _ (c .foreseen .ensures) (c .before .forecast .ensures)
+    step-forecast (a .call) (a .torn .now) (a .state) (a .image .now) _ (m .enum-told .given .1) _ (c .foreseen .ensures) (c .before .forecast .ensures)
 
 same-length-6 : tie.Need-same-length-6
 same-length-6 c = search needs
@@ -127,7 +126,7 @@ same-length-6 c = search needs
 returns-6 : tie.Need-returns-6
 returns-6 c =
     let a = c .before .before .before .before .before .before .before .before .before .before .args in
-    step-commit small (a .call) (a .torn .now) (a .state) (a .image .now) _ _ (c .before .before .before .before .before .before .call5 .given .1) _ _ (c .wrote2 .ensures) (c .before .before .before .commit .ensures)
+    step-commit (a .call) (a .torn .now) (a .state) (a .image .now) _ _ (c .before .before .before .before .before .before .call5 .given .1) _ _ (c .wrote2 .ensures) (c .before .before .before .commit .ensures)
 
 same-length-7 : tie.Need-same-length-7
 same-length-7 c = search needs
@@ -135,7 +134,7 @@ same-length-7 c = search needs
 returns-7 : tie.Need-returns-7
 returns-7 c =
     let a = c .before .before .before .before .before .before .before .before .before .before .args in
-    step-mount small (a .call) (a .torn .now) (a .state) (a .image .now) _ _ (c .before .before .before .before .before .before .call6 .given .1) _ _ (c .wrote3 .ensures) (c .before .before .before .mount .ensures)
+    step-mount (a .call) (a .torn .now) (a .state) (a .image .now) _ _ _ (c .before .before .before .before .before .before .call6 .given .1) _ _ (c .wrote3 .ensures) (c .before .before .before .mount .ensures)
 
 pub step-spec : {M : Type 1} → statement M
 step-spec =

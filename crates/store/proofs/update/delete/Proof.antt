@@ -1,4 +1,3 @@
-use Rattle.chip.specs.Geometry.{small}
 use Rattle.store.specs.declared.state.State.{State}
 use Rattle.store.specs.declared.state.Updated.{Updated}
 use Rattle.store.specs.Contracts.{Deletes}
@@ -26,7 +25,7 @@ returns c =
     let l = c .before in
     let n = l .before .before .before .before .before .before in
     let a = n .before .before .args in
-    of-parts (a .t1) (n .numbers-of .result) (n .numbers-of .ensures) (λ (s : State) (r : Updated). Deletes small (a .key) s (a .image .now) r) _ _ (c .with-buffer .ensures) (l .delete-lent .ensures (a .t1 .erases))
+    of-parts (a .t1) (n .numbers-of .result) (n .numbers-of .ensures) (λ (s : State) (r : Updated). Deletes (a .key) s (a .image .now) r) _ _ (c .with-buffer .ensures) (l .delete-lent .ensures (a .t1 .erases))
 
 pub delete-spec : {M : Type 1} → statement M
 delete-spec =

@@ -1,6 +1,7 @@
 use Prim.Native.Nat.{_<_}
 use native.Mathlib.Omega.{arith}
-use Rattle.chip.proofs.Sizes.{blocks-whole}
+use Rattle.chip.specs.Geometry.{geometryOf}
+use Rattle.chip.proofs.Sizes.{blocks-whole, nand-fits}
 use Rattle.tree.specs.Step6.{top}
 use Rattle.store.specs.Parts.{joined}
 use Rattle.store.proofs.UpdateLaws.{delete-many, delete-absent, delete-accepted}
@@ -13,7 +14,7 @@ returns c erases =
     let t = c .before .before .before in
     let a = t .args in
     let s = joined (a .numbers) (a .buffer .now) (a .lens .now) (a .slots .now) erases in
-    delete-many (a .geometry) s (a .image .now) (t .pre .1) (c .if1 .taken) (a .key)
+    delete-many s (a .image .now) (t .pre .1) (c .if1 .taken) (a .key)
 
 scope-of-requires : tie.Need-scope-of-requires
 scope-of-requires c κs = search needs
@@ -22,7 +23,7 @@ find-requires : tie.Need-find-requires
 find-requires c κs =
     let z = c .before in
     let t = z .before .before .before .before in
-    rw (z .scope-of .ensures) (blocks-whole (t .args .geometry) _ _ (t .pre .0 .size), t .pre .2)
+    rw (z .scope-of .ensures) (blocks-whole (geometryOf (t .args .numbers .nand)) _ _ (t .pre .0 .size), nand-fits (t .args .numbers .nand))
 
 enum-told : tie.Need-enum-told
 enum-told c = search needs
@@ -48,7 +49,7 @@ returns-2 c erases =
     let a = t .args in
     let s = joined (a .numbers) (a .buffer .now) (a .lens .now) (a .slots .now) erases in
     let e = f .find .ensures in
-    delete-absent (a .geometry) s (a .image .now) (t .pre .1) (a .key) (f .find .result) (rw (z .scope-of .ensures) at e) (c .enum-told .given .1)
+    delete-absent s (a .image .now) (t .pre .1) (a .key) (f .find .result) (rw (z .scope-of .ensures) at e) (c .enum-told .given .1)
 
 returns-3 : tie.Need-returns-3
 returns-3 c erases =
@@ -62,7 +63,7 @@ returns-3 c erases =
     let hk : a .key < top = search needs in
     let e = f .find .ensures in
     let k = d .delete .ensures in
-    delete-accepted (a .geometry) s (a .image .now) (t .pre .1) (a .key) (f .find .result) (rw (z .scope-of .ensures) at e) hk _ (d .delete .result) (rw (z .scope-of .ensures) at k) _ (h .enum-told2 .given .1)
+    delete-accepted s (a .image .now) (t .pre .1) (a .key) (f .find .result) (rw (z .scope-of .ensures) at e) hk _ (d .delete .result) (rw (z .scope-of .ensures) at k) _ (h .enum-told2 .given .1)
 
 pub delete-admitted-spec : {M : Type 1} → statement M
 delete-admitted-spec =
