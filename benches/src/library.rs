@@ -2,8 +2,9 @@
 
 use model::twin::told::{Counts, Told};
 
-/// The parts of a state: its numbers, the lengths and the pages of the lists, the erases of each block, the reservation buffer.
-type Numbers = [u32; 7];
+/// The parts of a state: its numbers, the free node numbers, the lengths and the pages of the lists, the erases of each block, the reservation buffer.
+type Numbers = [u32; 6];
+type Free = [u64; 4];
 type Lens = [u32; 256];
 type Slots = [u32; 1024];
 type Erases = [u64; 32];
@@ -28,6 +29,7 @@ extern "C" {
     ) -> u32;
     fn vehinoke_insert(
         numbers: &mut Numbers,
+        free: &mut Free,
         lens: &Lens,
         slots: &Slots,
         buffer: &mut Buffer,
@@ -38,6 +40,7 @@ extern "C" {
     ) -> u32;
     fn vehinoke_delete(
         numbers: &mut Numbers,
+        free: &mut Free,
         lens: &Lens,
         slots: &Slots,
         buffer: &mut Buffer,
@@ -55,6 +58,7 @@ extern "C" {
     ) -> u32;
     fn vehinoke_format(
         numbers: &mut Numbers,
+        free: &mut Free,
         lens: &mut Lens,
         slots: &mut Slots,
         erases: &mut Erases,
@@ -68,6 +72,7 @@ extern "C" {
     ) -> u32;
     fn vehinoke_mount(
         numbers: &mut Numbers,
+        free: &mut Free,
         lens: &mut Lens,
         slots: &mut Slots,
         erases: &mut Erases,
@@ -113,6 +118,7 @@ pub fn is_free(page: &[u8]) -> u32 {
 #[derive(Clone)]
 pub struct Library {
     numbers: Numbers,
+    free: Free,
     lens: Box<Lens>,
     slots: Box<Slots>,
     erases: Erases,
@@ -127,12 +133,20 @@ fn told(refusal: u32, [programs, marks, erases]: Ops) -> Told {
 impl Library {
     /// A state that is off.
     pub fn new() -> Library {
-        Library { numbers: [0; 7], lens: Box::new([0; 256]), slots: Box::new([0; 1024]), erases: [0; 32], buffer: Box::new([0; 11520]) }
+        Library {
+            numbers: [0; 6],
+            free: [0; 4],
+            lens: Box::new([0; 256]),
+            slots: Box::new([0; 1024]),
+            erases: [0; 32],
+            buffer: Box::new([0; 11520]),
+        }
     }
 
     /// The state made equal to another, in place.
     pub fn set(&mut self, other: &Library) {
         self.numbers = other.numbers;
+        self.free = other.free;
         self.lens.clone_from(&other.lens);
         self.slots.clone_from(&other.slots);
         self.erases = other.erases;
@@ -143,16 +157,16 @@ impl Library {
     pub fn format(&mut self, image: &mut [u8], torn: &[u8], allowance: u32) -> Told {
         let mut ops = [0; 3];
         let (i, t) = (image.as_mut_ptr(), torn.as_ptr());
-        let (n, l, s, e) = (&mut self.numbers, &mut self.lens, &mut self.slots, &mut self.erases);
-        let refusal = unsafe { vehinoke_format(n, l, s, e, i, image.len(), t, torn.len(), SMALL, allowance, &mut ops) };
+        let (n, f, l, s, e) = (&mut self.numbers, &mut self.free, &mut self.lens, &mut self.slots, &mut self.erases);
+        let refusal = unsafe { vehinoke_format(n, f, l, s, e, i, image.len(), t, torn.len(), SMALL, allowance, &mut ops) };
         told(refusal, ops)
     }
 
     pub fn mount(&mut self, image: &mut [u8], torn: &[u8], allowance: u32) -> Told {
         let mut ops = [0; 3];
         let (i, t) = (image.as_mut_ptr(), torn.as_ptr());
-        let (n, l, s, e) = (&mut self.numbers, &mut self.lens, &mut self.slots, &mut self.erases);
-        let refusal = unsafe { vehinoke_mount(n, l, s, e, i, image.len(), t, torn.len(), SMALL, allowance, &mut ops) };
+        let (n, f, l, s, e) = (&mut self.numbers, &mut self.free, &mut self.lens, &mut self.slots, &mut self.erases);
+        let refusal = unsafe { vehinoke_mount(n, f, l, s, e, i, image.len(), t, torn.len(), SMALL, allowance, &mut ops) };
         told(refusal, ops)
     }
 
@@ -182,14 +196,14 @@ impl Library {
 
     /// The refusal, 0 for none.
     pub fn insert(&mut self, image: &[u8], key: u32, value: u32) -> u32 {
-        let (n, l, s, b) = (&mut self.numbers, &self.lens, &self.slots, &mut self.buffer);
-        unsafe { vehinoke_insert(n, l, s, b, image.as_ptr(), image.len(), key, value) }
+        let (n, f, l, s, b) = (&mut self.numbers, &mut self.free, &self.lens, &self.slots, &mut self.buffer);
+        unsafe { vehinoke_insert(n, f, l, s, b, image.as_ptr(), image.len(), key, value) }
     }
 
     /// The refusal, 0 for none.
     pub fn delete(&mut self, image: &[u8], key: u32) -> u32 {
-        let (n, l, s, b) = (&mut self.numbers, &self.lens, &self.slots, &mut self.buffer);
-        unsafe { vehinoke_delete(n, l, s, b, image.as_ptr(), image.len(), key) }
+        let (n, f, l, s, b) = (&mut self.numbers, &mut self.free, &self.lens, &self.slots, &mut self.buffer);
+        unsafe { vehinoke_delete(n, f, l, s, b, image.as_ptr(), image.len(), key) }
     }
 
     /// The free pages of a block, the first free one and its erases on record; else the refusal.

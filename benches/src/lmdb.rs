@@ -36,7 +36,6 @@ extern "C" {
     fn mdb_dbi_open(txn: *mut c_void, name: *const c_char, flags: c_uint, dbi: *mut c_uint) -> c_int;
     fn mdb_put(txn: *mut c_void, dbi: c_uint, key: *mut Val, data: *mut Val, flags: c_uint) -> c_int;
     fn mdb_del(txn: *mut c_void, dbi: c_uint, key: *mut Val, data: *mut Val) -> c_int;
-    fn mdb_drop(txn: *mut c_void, dbi: c_uint, del: c_int) -> c_int;
     fn mdb_version(major: *mut c_int, minor: *mut c_int, patch: *mut c_int) -> *const c_char;
 }
 
@@ -83,7 +82,7 @@ impl Store for Lmdb {
                     let mut key = Val { size: 4, data: k.as_mut_ptr().cast() };
                     unsafe { mdb_del(txn, self.dbi, &mut key, null_mut()) }
                 }
-                _ => unsafe { mdb_drop(txn, self.dbi, 0) },
+                Event::Measured => 0,
             };
             assert_eq!(code, 0);
         }

@@ -37,7 +37,6 @@ fn text_of(events: &[Event]) -> String {
     let line = |e: &Event| match *e {
         Event::Insert(key, value) => format!("i {key} {value}\n"),
         Event::Delete(key) => format!("d {key}\n"),
-        Event::Format => "f\n".to_string(),
         Event::Measured => "m\n".to_string(),
     };
     events.iter().map(line).collect()
@@ -48,7 +47,6 @@ fn event_of(line: &str) -> Event {
     match words[0] {
         "i" => Event::Insert(words[1].parse().unwrap(), words[2].parse().unwrap()),
         "d" => Event::Delete(words[1].parse().unwrap()),
-        "f" => Event::Format,
         _ => Event::Measured,
     }
 }

@@ -26,11 +26,6 @@ impl Reference {
         Reference { bftl: 0, nodes: 0, ..self.clone() }
     }
 
-    /// The chip formatted: no lists.
-    pub fn format(&mut self) {
-        self.lists = [0; 256];
-    }
-
     /// A page for a list that is written anew because it is too long.
     fn compact(&mut self, n: usize) {
         if self.lists[n] > LONGEST {

@@ -76,7 +76,7 @@ impl Store for Sqlite {
             match *event {
                 Event::Insert(key, value) => self.call(self.insert, &[key, value]),
                 Event::Delete(key) => self.call(self.delete, &[key]),
-                _ => self.exec("DELETE FROM entries"),
+                Event::Measured => {}
             }
         }
         self.exec("COMMIT");

@@ -3,14 +3,12 @@
 use crate::both::{Both, BLOCK, DATA, PAGE, PENDING};
 use crate::random::Random;
 use crate::reference::Reference;
-use model::twin::told::Counts;
 
-/// An event; a format empties the store; `Measured` says that the tree is filled and that what follows is counted.
+/// An event; `Measured` says that what follows is counted.
 #[derive(Clone, Copy, PartialEq, Eq, Debug)]
 pub enum Event {
     Insert(u32, u32),
     Delete(u32),
-    Format,
     Measured,
 }
 
@@ -48,12 +46,6 @@ struct Run {
 }
 
 impl Run {
-    /// The pages programmed and the blocks erased of a call added to those of the workload.
-    fn count(&mut self, counts: Counts) {
-        self.wear.pages += u64::from(counts.programs);
-        self.wear.erases += u64::from(counts.erases);
-    }
-
     /// A commit, counted; the pages and the blocks erased that it tells are those found on the image. Behind an erase the reports of
     /// library and twin are compared.
     fn commit(&mut self) {
@@ -70,7 +62,8 @@ impl Run {
             self.both.block_reports();
         }
         self.wear.commits += 1;
-        self.count(counts);
+        self.wear.pages += u64::from(counts.programs);
+        self.wear.erases += u64::from(counts.erases);
     }
 
     /// An event on both stores; true where it is accepted, and then it is kept, and the 16th is followed by a commit.
@@ -91,23 +84,10 @@ impl Run {
         true
     }
 
-    /// A chip formatted anew, counted.
-    fn format(&mut self) {
-        self.commit();
-        let counts = self.both.format().counts;
-        self.count(counts);
-        self.wear.reference.format();
-        self.wear.events.push(Event::Format);
-        self.keys.clear();
-    }
-
-    /// The next key, and the delete of the oldest of more than 64; a format where node numbers are used up.
+    /// The next key, and the delete of the oldest of more than 64.
     fn rise(&mut self, next: &mut u32) {
         *next += 1;
-        if !self.event(Event::Insert(*next, self.wear.counted as u32)) {
-            self.format();
-            return;
-        }
+        assert!(self.event(Event::Insert(*next, self.wear.counted as u32)));
         self.keys.push(*next);
         if self.keys.len() > KEPT as usize {
             let oldest = self.keys.remove(0);
@@ -161,8 +141,8 @@ impl Run {
     }
 }
 
-/// A workload of `events` events on a chip of `blocks` blocks. Rising keys start on a formatted chip; the others on a full tree, after
-/// as many events as it takes until a block is erased.
+/// A workload of `events` events on a chip of `blocks` blocks, after as many as it takes until a block is erased. Rising keys start on a
+/// formatted chip, the others on a full tree.
 pub fn run(work: &'static str, blocks: usize, events: usize) -> Wear {
     let mut random = Random::new(blocks as u64 + 100);
     let rising = work == WORKS[0];
@@ -172,7 +152,7 @@ pub fn run(work: &'static str, blocks: usize, events: usize) -> Wear {
     let wear = Wear { work, blocks, keys: count, events: list, counted: 0, commits: 0, pages: 0, erases: 0, reference: Reference::new() };
     let mut run = Run { both, keys, random, wear };
     let mut next = 0;
-    while !rising && run.wear.erases == 0 {
+    while run.wear.erases == 0 {
         run.step(&mut next);
     }
     run.measure();

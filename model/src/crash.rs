@@ -1,6 +1,7 @@
 //! The crash test: every allowance of a commit, of a mount and of a format, with several torn slices, then a mount and look ups.
 
 use crate::model::geometry::Geometry;
+use crate::model::image::meaning;
 use crate::random::Random;
 use crate::scripts::part;
 use crate::scripts::torn;
@@ -29,20 +30,22 @@ pub struct Replays {
     pub replays: usize,
 }
 
-/// Which commits a case ends before: any, one that erases a block, one of so many pages or more, one on a store with a list of four pages.
+/// Which commits a case ends before: any, one that erases a block, one of so many pages or more, one on a store with a list of four pages,
+/// one that frees a node.
 #[derive(Clone, Copy, PartialEq)]
 enum Aim {
     Any,
     Erase,
     Pages(u32),
     Four,
+    Free,
 }
 
 /// The aims, each as often as it stands here.
-const AIMS: [Aim; 8] = [Aim::Any, Aim::Any, Aim::Erase, Aim::Erase, Aim::Erase, Aim::Pages(2), Aim::Pages(2), Aim::Pages(3)];
+const AIMS: [Aim; 8] = [Aim::Any, Aim::Free, Aim::Free, Aim::Erase, Aim::Erase, Aim::Pages(2), Aim::Pages(2), Aim::Pages(3)];
 
 /// The aims on the large part, where hardly a commit has 3 pages, and an erase needs many commits before it.
-const LARGE_AIMS: [Aim; 8] = [Aim::Any, Aim::Any, Aim::Any, Aim::Erase, Aim::Four, Aim::Pages(2), Aim::Pages(2), Aim::Pages(2)];
+const LARGE_AIMS: [Aim; 8] = [Aim::Any, Aim::Free, Aim::Free, Aim::Erase, Aim::Four, Aim::Pages(2), Aim::Pages(2), Aim::Pages(2)];
 
 impl Aim {
     /// The numbers of blocks of its chips.
@@ -55,14 +58,24 @@ impl Aim {
         }
     }
 
-    /// Whether the pending commit is one of these.
-    fn is_met(self, writer: &Writer) -> bool {
+    /// Of five updates, how many are deletes: more where the rounds before have filled leaves and one that frees is wanted.
+    fn deletes(self, filled: bool) -> u64 {
+        if self == Aim::Free && filled {
+            4
+        } else {
+            1
+        }
+    }
+
+    /// Whether the pending commit of a case is one of these.
+    fn is_met(self, case: &Case, writer: &Writer) -> bool {
         let probe = writer.probe();
         match self {
             Aim::Any => true,
             Aim::Erase => probe.need(4).erases > 0,
             Aim::Pages(pages) => probe.need(4).programs >= pages,
             Aim::Four => probe.state().lens.contains(&4),
+            Aim::Free => case.frees(probe.image()),
         }
     }
 }
@@ -86,8 +99,8 @@ impl Case {
         let mut writer = case.begin();
         let rounds = 3 + random.below(if aim == Aim::Any { 40 } else { 8 });
         for round in 0.. {
-            case.round(random, &mut writer, wide.as_mut());
-            if round >= rounds && aim.is_met(&writer) || round > 200 {
+            case.round(random, &mut writer, wide.as_mut(), aim.deletes(round >= rounds));
+            if round >= rounds && aim.is_met(&case, &writer) || round > 200 {
                 break;
             }
             case.take(&mut writer, Step::Commit);
@@ -97,8 +110,24 @@ impl Case {
         case
     }
 
-    /// Up to 16 updates, at least one of them accepted; 16 where they are spread over the leaves, though the one after a refusal is not.
-    fn round(&mut self, random: &mut Random, writer: &mut Writer, mut wide: Option<&mut Wide>) {
+    /// Whether the steps since the last commit free a node of an image, by the model's tree.
+    fn frees(&self, image: &[u8]) -> bool {
+        let Ok(means) = meaning(self.geometry, image, self.blocks as usize) else { return false };
+        let mut tree = means.tree.clone();
+        let from = self.steps.iter().rposition(|step| matches!(step, Step::Commit)).map_or(0, |at| at + 1);
+        for step in &self.steps[from..] {
+            match *step {
+                Step::Insert(key, value) => tree.insert(key, value),
+                Step::Delete(key) => tree.delete(key),
+                Step::Commit => true,
+            };
+        }
+        means.tree.nodes.iter().zip(&tree.nodes).any(|(before, after)| before.is_some() && after.is_none())
+    }
+
+    /// Up to 16 updates, so many of five deletes, at least one of them accepted; 16 where they are spread over the leaves, though the
+    /// one after a refusal is not.
+    fn round(&mut self, random: &mut Random, writer: &mut Writer, mut wide: Option<&mut Wide>, deletes: u64) {
         let updates = if wide.is_some() { 16 } else { [1, 1, 2, 3, 8, 16][random.index(6)] };
         let (mut done, mut refused) = (0, false);
         while done < updates {
@@ -109,9 +138,9 @@ impl Case {
                 }
                 _ => self.keys[random.index(self.keys.len())],
             };
-            let step = match random.below(5) {
-                0 => Step::Delete(key),
-                _ => Step::Insert(key, random.next() as u32),
+            let step = match random.below(5) < deletes {
+                true => Step::Delete(key),
+                false => Step::Insert(key, random.next() as u32),
             };
             refused = self.take(writer, step) != 0;
             match refused {

@@ -13,7 +13,7 @@ const SMALL: Geometry = Geometry::SMALL;
 #[test]
 fn valid_images_have_a_meaning() {
     let mut random = Random::new(1);
-    let (mut good, mut levels, mut void, mut longest) = (0, [0; 4], 0, 0);
+    let (mut good, mut levels, mut void, mut longest, mut freed) = (0, [0; 4], 0, 0, 0);
     for round in 0..2000 {
         let blocks = if round % 20 == 0 { 3 + random.index(30) } else { 3 + random.index(4) };
         let image = valid(&mut random, SMALL, blocks);
@@ -23,12 +23,15 @@ fn valid_images_have_a_meaning() {
                 levels[means.tree.node(0).level as usize] += 1;
                 void += !means.void.is_empty() as u32;
                 longest = longest.max(means.lists.iter().map(Vec::len).max().unwrap_or(0));
+                freed += (0..8 * blocks).any(|number| means.freed(number)) as u32;
             }
             Err(refusal) => println!("round {round}, {blocks} blocks: {refusal}"),
         }
     }
     println!("{good} of 2000 have a meaning, roots by level {levels:?}, {void} with void pages, longest list {longest}");
+    println!("{freed} with freed nodes");
     assert_eq!(good, 2000);
+    assert!((500..1900).contains(&freed));
 }
 
 /// Each fault gives the refusal intended, on chips of several sizes.
@@ -71,7 +74,7 @@ fn full_paths_meet_both_grounds_of_refusal_5() {
         let mut tree = meaning(SMALL, &image, blocks).expect("a meaning").tree;
         let path = tree.path(key);
         let full = path.iter().all(|number| tree.node(*number).entries.len() == FULL);
-        let left = tree.nodes.iter().rev().take_while(|node| node.is_none()).count();
+        let left = tree.nodes.iter().filter(|node| node.is_none()).count();
         let level = tree.node(0).level;
         match tree.insert(key, 1) {
             true => fits += 1,

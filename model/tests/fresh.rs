@@ -26,10 +26,10 @@ struct Reached {
     erases: u32,
 }
 
-/// Whether all nodes stand in pages of the newest commit alone.
+/// Whether all nodes and all freed numbers stand in pages of the newest commit alone.
 fn is_whole(state: &State, image: &[u8]) -> bool {
     let newest = |place: u32| word(&image[place as usize * state.geometry.page()..], 0) == state.commit;
-    (0..state.next).all(|n| state.list(n).len() == 1 && newest(state.list(n)[0]))
+    state.listed().all(|n| state.list(n).len() == 1 && newest(state.list(n)[0]))
 }
 
 impl Reached {

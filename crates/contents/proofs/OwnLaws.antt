@@ -4,10 +4,10 @@ use mathlib.Core.Bool.{true}
 use mathlib.Core.List.{List, [], _∷_, map}
 use Prim.Native.Nat.{ℕ, suc, _+_, _*_, _-_, _<_, _≤_}
 use native.Mathlib.Omega.{arith}
-use lib.Dec.{eqb, leb, ltb}
-use lib.ListN.{drop, getD, length, length-drop, take}
+use lib.Dec.{eqb}
+use lib.ListN.{drop, length, length-drop, take}
 use lib.Seq.{drop-drop, take-all}
-use borrow.Author.Tests.{eq-eqb, eqb-true, ltb-true, ne-eqb}
+use borrow.Author.Tests.{eq-eqb, eqb-true, ne-eqb}
 use Rattle.lists.proofs.Tests.{cases}
 use Rattle.chip.specs.Geometry.{Geometry}
 use Rattle.chip.specs.Page.{Page}
@@ -15,7 +15,8 @@ use Rattle.pages.specs.declared.unit.Update.{Update}
 use Rattle.pages.specs.declared.unit.Unit as U
 use Rattle.pages.specs.declared.unit.Decoded.{Decoded}
 use Rattle.pages.specs.declared.unit.Decoded.the-variants.{Bad, Good}
-use Rattle.pages.specs.Units.{decode, decodeKind, decodes, half, word}
+use Rattle.pages.specs.Units.{decode, decodes, half}
+use Rattle.pages.proofs.UnitLaws.{told}
 use Rattle.views.specs.Nodes.{View}
 use Rattle.views.specs.Groups.{own, present}
 use Rattle.views.specs.Stored.{listView, nodeView, storedList}
@@ -31,36 +32,6 @@ never e = let z : _≡_ {A = ℕ} 0 1 = cc in absurd (omega arith)
 this : {n : ℕ} {u w : U.Unit} → Good w ≡ Good u → w .node ≡ n → u .node ≡ n
 this {n} {u} {w} e h = let s : w ≡ u = cc in rw s at h
 
-kind-node : (n kind k v : ℕ) (u : U.Unit) → decodeKind n kind k v ≡ Good u → u .node ≡ n
-kind-node n kind k v u e =
-    cases (eqb kind 1)
-    (λ t. this (rw t at e) refl)
-    (λ f. let e2 = (rw f at e) in cases (eqb kind 2)
-    (λ t. let e3 = (rw t at e2) in cases (eqb v 0) (λ s. this (rw s at e3) refl) (λ s. never (rw s at e3)))
-    (λ t. let e3 = (rw t at e2) in cases (eqb kind 3)
-    (λ s. let e4 = (rw s at e3) in cases (eqb k 0)
-    (λ y. let e5 = (rw y at e4) in cases (leb v 3) (λ x. this (rw x at e5) refl) (λ x. never (rw x at e5)))
-    (λ y. never (rw y at e4)))
-    (λ s. never (rw s at e3))))
-
-module _ (limit : ℕ) (b : List ℕ) (u : U.Unit) (e : decode limit b ≡ Good u) where
-  node-of : u .node ≡ half b 2
-  unfolding decode
-  node-of =
-      cases (eqb (getD b 1 0) 0)
-      (λ z. let e2 = (rw z at e) in cases (ltb (half b 2) limit)
-      (λ t. kind-node (half b 2) (getD b 0 0) (word b 4) (word b 8) u (rw t at e2)) (λ t. never (rw t at e2)))
-      (λ z. never (rw z at e))
-
-  -- a unit is of a node below the limit
-  pub node-below : u .node < limit
-  unfolding decode
-  node-below =
-      cases (eqb (getD b 1 0) 0)
-      (λ z. let e2 = (rw z at e) in cases (ltb (half b 2) limit)
-      (λ t. omega (arith, node-of, ltb-true (half b 2) limit t)) (λ t. never (rw t at e2)))
-      (λ z. never (rw z at e))
-
 picked-same : (n : ℕ) (d : Decoded) → ((u : U.Unit) → d ≡ Good u → u .node ≡ n) → d ≡ picked n d
 picked-same n (Good u) h = rw (eq-eqb (u .node) n (h u refl))
 picked-same n Bad h = refl
@@ -71,10 +42,10 @@ picked-none n Bad h = refl
 
 -- a unit of the node, and of another
 pub own-here : (limit n h : ℕ) (b : List ℕ) (r : Decoded) → h ≡ half b 2 → h ≡ n → r ≡ decode limit b → r ≡ picked n (decode limit b)
-own-here limit n h b r q e d = d ∙ picked-same n (decode limit b) (λ u z. node-of limit b u z ∙ sym q ∙ e)
+own-here limit n h b r q e d = d ∙ picked-same n (decode limit b) (λ u z. told limit b u z .node ∙ sym q ∙ e)
 
 pub own-other : (limit n h : ℕ) (b : List ℕ) → h ≡ half b 2 → (h ≡ n → ⊥) → Bad ≡ picked n (decode limit b)
-own-other limit n h b q k = picked-none n (decode limit b) (λ u z e. k (q ∙ sym (node-of limit b u z) ∙ e))
+own-other limit n h b q k = picked-none n (decode limit b) (λ u z e. k (q ∙ sym (told limit b u z .node) ∙ e))
 
 -- a picked unit is one of the node
 pub picked-node : (n : ℕ) (d : Decoded) (u : U.Unit) → Good u ≡ picked n d → u .node ≡ n

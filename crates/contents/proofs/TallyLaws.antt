@@ -16,10 +16,11 @@ use Rattle.pages.specs.declared.unit.Unit as U
 use Rattle.pages.specs.declared.unit.Decoded.{Decoded}
 use Rattle.pages.specs.declared.unit.Decoded.the-variants.{Bad, Good}
 use Rattle.pages.specs.Units.{decode}
+use Rattle.pages.proofs.UnitLaws.{told}
 use Rattle.views.specs.Groups.{isReset}
 use Rattle.log.specs.PlanCode.{isMarked}
 use Rattle.contents.specs.ContentsCode.{Tallied, counted, noted, ownIn, picked, withUpdate}
-use Rattle.contents.proofs.OwnLaws.{ownFrom, own-end, own-next, own-start, node-below}
+use Rattle.contents.proofs.OwnLaws.{ownFrom, own-end, own-next, own-start}
 
 -- every number of an array of zeros
 or-none : (b : Bool) → b ≡ (b || false)
@@ -121,7 +122,7 @@ module _ (limit count : ℕ) (p : List ℕ) where
       → Tallying (i + 1) after noticed
   tallying-next i parts resets after noticed d k h l e ea en =
       let b : (u : U.Unit) → d ≡ Good u → u .node < 256 = λ u z.
-      omega (arith, node-below limit (take (length p - 12 * i) (drop (12 * i) p)) u (sym e ∙ z)) in
+      omega (arith, told limit (take (length p - 12 * i) (drop (12 * i) p)) u (sym e ∙ z) .below) in
       let os : ℕ → List Update = λ n. withUpdate (picked n d) [] in
       let at : (n : ℕ) → getD after n 0 ≡ getD parts n 0 + length (os n) = λ n.
       ap (λ (xs : List ℕ). getD xs n 0) ea ∙ counted-at d parts n (λ u z. omega (arith, b u z, k .numbers)) in

@@ -14,8 +14,8 @@ use Rattle.pages.specs.Units.{encode}
 use Rattle.pages.proofs.UnitLaws.{length-encode, length-units}
 use Rattle.views.specs.declared.node.Node as N
 use Rattle.views.specs.Groups.{unitFor}
-use Rattle.views.specs.Nodes.{View, anew, inserted}
-use Rattle.views.specs.NodeCode.{entriesOf}
+use Rattle.views.specs.Nodes.{Entry, View, anew, inserted}
+use Rattle.views.specs.NodeCode.{Shows}
 use Rattle.views.specs.PassCode.{pushed, nodeUnits}
 use Rattle.log.specs.Plan.{rewrite}
 use Rattle.log.specs.PlanCode.{KeepsUnits}
@@ -101,11 +101,12 @@ pub keeps-none : (n : ℕ) (before : List ℕ) → Keeps n [] before before 0
 keeps-none n before = record { is = sym (take-append-drop (204 * n) before); count = refl; few = omega arith; size = refl }
 
 -- a node anew
-pub keeps-anew : (n : ℕ) (x : N.Node) (before after : List ℕ) (r : ℕ) → n < 256 → length before ≡ 52224 → length (entriesOf x) ≡ x .len → x .len ≤ 16
-    → after ≡ pushed before (17 * n) (nodeUnits n x) → r ≡ x .len + 1 → Keeps n (anew (x .level) (entriesOf x)) before after r
-keeps-anew n x before after r on whole es room e q =
-    let l : length (map inserted (entriesOf x)) ≡ x .len = length-map (entriesOf x) inserted ∙ es in
-    keeps-pushed n (anew (x .level) (entriesOf x)) before after r on whole (omega (arith, l, q)) (omega arith) e
+pub keeps-anew : (n : ℕ) (x : N.Node) (l : ℕ) (es : List Entry) (before after : List ℕ) (r : ℕ) → n < 256 → length before ≡ 52224 → Shows x l es → x .len ≤ 16
+    → after ≡ pushed before (17 * n) (nodeUnits n x) → r ≡ x .len + 1 → Keeps n (anew l es) before after r
+keeps-anew n x l es before after r on whole s room e q =
+    let k : length (map inserted es) ≡ x .len = length-map es inserted ∙ s .len in
+    keeps-pushed n (anew l es) before after r on whole (omega (arith, k, q)) (omega arith)
+    (e ∙ ap₂ (λ (m : ℕ) (fs : List Entry). pushed before (17 * n) (map (unitFor n) (anew m fs))) (s .same) (s .is))
 
 -- by the view that was read
 pub keeps-view : (n : ℕ) (v w : View) (before after : List ℕ) (r : ℕ) → v ≡ w → Keeps n (rewrite v) before after r → Keeps n (rewrite w) before after r

@@ -15,6 +15,7 @@ use pages::unit::Update;
 use pages::unit::put_unit;
 use views::fold::Folded;
 use views::fold::Stage;
+use views::node;
 use views::node::Node;
 use views::view;
 use views::view::Scope;
@@ -60,7 +61,7 @@ fn put_node(units: &mut [u8], at: usize, number: u32, node: Node) -> u32
     len as u32 + 1
 }
 
-// A view kept at the place of node `number`: nothing of one without a level and entries. Returns how many units there are.
+// A view kept at the place of node `number`, a freed one as its reset: nothing of one that is untouched or broken. Returns how many units there are.
 fn keep_view(f: Folded, number: u32, units: &mut [u8]) -> u32
     requires { ⌜ (f .node .len ≤ 16) × (number < 256) × (length (now units) ≡ 52224) ⌝ }
     ensures { λ r. ⌜ Keeps number (rewrite (viewOf f)) (now (units .entry)) (now (units .exit)) r ⌝ }
@@ -68,6 +69,7 @@ fn keep_view(f: Folded, number: u32, units: &mut [u8]) -> u32
     let stage = f.stage;
     match stage {
         Stage::Untouched => 0,
+        Stage::Freed => put_node(units, 17 * (number as usize), number, node::reset(255)),
         Stage::Broken => 0,
         Stage::Full => {
             let node = f.node;

@@ -1,5 +1,5 @@
 -- What the store's call says of the numbers loaded, told of the caller's words.
-use mathlib.Core.Path.{_≡_, refl, subst, ap, _∙_}
+use mathlib.Core.Path.{_≡_, refl, subst, ap, ap₂, _∙_}
 use mathlib.Core.List.{List, [], _∷_}
 use Prim.Native.Nat.{ℕ, _<_, _≤_}
 use native.Mathlib.Omega.{arith}
@@ -7,7 +7,8 @@ use Rattle.chip.specs.declared.geometry.Nand.the-variants.{Small, Large}
 use Rattle.chip.specs.Geometry.{Nand}
 use Rattle.store.specs.Answers.{refusalNumber}
 use Rattle.store.specs.Contracts.{Formats, Mounts, Looks, Inserts, Deletes, Commits, Forecasts, Reports}
-use Rattle.store.specs.Parts.{joined, updatedWith, wroteWith}
+use Rattle.store.specs.Lent.{CommitsLent}
+use Rattle.store.specs.Parts.{joined, withFree, updatedWith, wroteWith, wroteFree}
 use Rattle.store.specs.declared.answer.Forecast.{Forecast}
 use Rattle.store.specs.declared.answer.Look.{Look}
 use Rattle.store.specs.declared.answer.Report.{Report}
@@ -22,12 +23,12 @@ use Rattle.exports.proofs.ExactLaws.{Narrow, part-back, words-back, bou
 use Rattle.exports.specs.Calls.{LooksTold, ForecastsTold, ReportsTold, InsertsTold, DeletesTold, Tells, FormatsAs, MountsAs, Untouched, FormatsTold, MountsTold, CommitsTold}
 
 -- numbers loaded make a state with blocks and units in 32 bits
-loaded-narrow : (words : List ℕ) (n : Numbers) → Loads words n → (buffer lens slots erases : List ℕ) → Narrow (joined n buffer lens slots erases)
-loaded-narrow words n e buffer lens slots erases = record { blocks = e .blocks; units = e .count }
+loaded-narrow : (words free : List ℕ) (n : Numbers) → Loads words free n → (buffer lens slots erases : List ℕ) → Narrow (joined n buffer lens slots erases)
+loaded-narrow words free n e buffer lens slots erases = record { blocks = e .blocks; units = e .count }
 
 -- words written as the numbers of a state in 32 bits
-exactly : (words' : List ℕ) (n : Numbers) (buffer lens slots erases : List ℕ) → words' ≡ wordsOf n → Narrow (joined n buffer lens slots erases) → numbersIn words' ≡ n
-exactly words' n buffer lens slots erases e h = ap numbersIn e ∙ words-back n (h .blocks) (h .units)
+exactly : (words' free' : List ℕ) (n : Numbers) (buffer lens slots erases : List ℕ) → words' ≡ wordsOf n → free' ≡ n .free → Narrow (joined n buffer lens slots erases) → numbersIn words' free' ≡ n
+exactly words' free' n buffer lens slots erases e f h = ap₂ numbersIn e f ∙ words-back n (h .blocks) (h .units)
 
 -- ---- a call with the number of a part
 -- what is done as the part of a number is done as the part that it names
@@ -40,132 +41,132 @@ none-named Did part h Small e = absurd (omega arith)
 none-named Did part h Large e = absurd (omega arith)
 
 -- what such a call leaves
-module _ (part : ℕ) (h : 1 < part) (allowance : ℕ) (torn words lens slots erases image : List ℕ) (r : ℕ) (ops : List ℕ) (e : (r ≡ 1) × (ops ≡ 0 ∷ 0 ∷ 0 ∷ [])) where
-  untouched : Untouched words lens slots erases image r ops words lens slots erases image
-  untouched = record { refusal = e .0; done = e .1; sameWords = refl; sameLens = refl; sameSlots = refl; sameErases = refl; sameImage = refl }
+module _ (part : ℕ) (h : 1 < part) (allowance : ℕ) (torn words free lens slots erases image : List ℕ) (r : ℕ) (ops : List ℕ) (e : (r ≡ 1) × (ops ≡ 0 ∷ 0 ∷ 0 ∷ [])) where
+  untouched : Untouched words free lens slots erases image r ops words free lens slots erases image
+  untouched = record { refusal = e .0; done = e .1; sameWords = refl; sameFree = refl; sameLens = refl; sameSlots = refl; sameErases = refl; sameImage = refl }
 
-  pub format-unnamed : FormatsTold part allowance torn words lens slots erases image r ops words lens slots erases image
+  pub format-unnamed : FormatsTold part allowance torn words free lens slots erases image r ops words free lens slots erases image
   format-unnamed =
-      record { named = none-named (λ (m : Nand). FormatsAs m allowance torn words lens slots erases image r ops words lens slots erases image) part h; unnamed = λ k. untouched }
+      record { named = none-named (λ (m : Nand). FormatsAs m allowance torn words free lens slots erases image r ops words free lens slots erases image) part h; unnamed = λ k. untouched }
 
-  pub mount-unnamed : MountsTold part allowance torn words lens slots erases image r ops words lens slots erases image
+  pub mount-unnamed : MountsTold part allowance torn words free lens slots erases image r ops words free lens slots erases image
   mount-unnamed =
-      record { named = none-named (λ (m : Nand). MountsAs m allowance torn words lens slots erases image r ops words lens slots erases image) part h; unnamed = λ k. untouched }
+      record { named = none-named (λ (m : Nand). MountsAs m allowance torn words free lens slots erases image r ops words free lens slots erases image) part h; unnamed = λ k. untouched }
 
 -- ---- the calls on the numbers loaded
-module _ (words : List ℕ) (n : Numbers) (e : Loads words n) where
-  pub looked : (key : ℕ) (buffer lens slots image : List ℕ) (l : Look) (t : Told) → t ≡ lookTold l → ((erases : List ℕ) → Looks key (joined n buffer lens slots erases) image l)
+module _ (words free : List ℕ) (n : Numbers) (e : Loads words free n) where
+  pub looked : (key : ℕ) (buffer lens slots image : List ℕ) (l : Look) (t : Told) → t ≡ lookTold l → ((set erases : List ℕ) → Looks key (joined (withFree n set) buffer lens slots erases) image l)
       → LooksTold key words buffer lens slots image (t .refusal) (t .first ∷ t .second ∷ [])
   looked key buffer lens slots image l t f h =
       record {
         look = l;
-        says = λ (erases : List ℕ). subst (λ (m : Numbers). Looks key (joined m buffer lens slots erases) image l) (e .is) (h erases);
+        says = λ (set erases : List ℕ). subst (λ (m : Numbers). Looks key (joined (withFree m set) buffer lens slots erases) image l) (e .is) (h set erases);
         refusal = ap (λ (x : Told). x .refusal) f;
         tells = ap (λ (x : Told). x .first ∷ x .second ∷ []) f;
       }
 
   -- a forecast: the counts of its result, in the caller's words
-  pub foreseen : (buffer lens slots image : List ℕ) (f : Forecast) (r : ℕ) → r ≡ refusalNumber (f .answer) → ((erases : List ℕ) → Forecasts (joined n buffer lens slots erases) image f)
+  pub foreseen : (buffer lens slots image : List ℕ) (f : Forecast) (r : ℕ) → r ≡ refusalNumber (f .answer) → ((set erases : List ℕ) → Forecasts (joined (withFree n set) buffer lens slots erases) image f)
       → ForecastsTold words buffer lens slots image r (f .ops .programs ∷ f .ops .marks ∷ f .ops .erases ∷ [])
   foreseen buffer lens slots image f r g h =
       record {
         result = f;
-        says = λ (erases : List ℕ). subst (λ (m : Numbers). Forecasts (joined m buffer lens slots erases) image f) (e .is) (h erases);
+        says = λ (set erases : List ℕ). subst (λ (m : Numbers). Forecasts (joined (withFree m set) buffer lens slots erases) image f) (e .is) (h set erases);
         refusal = g;
         done = refl;
       }
 
   pub reported : (block : ℕ) (erases image : List ℕ) (l : Report) (t : Reported) → t ≡ reportTold l
-      → ((buffer lens slots : List ℕ) → Reports block (joined n buffer lens slots erases) image l)
+      → ((set buffer lens slots : List ℕ) → Reports block (joined (withFree n set) buffer lens slots erases) image l)
       → ReportsTold block words erases image (t .refusal) (t .free ∷ t .first ∷ t .erases ∷ [])
   reported block erases image l t f h =
       record {
         report = l;
-        says = λ (buffer lens slots : List ℕ). subst (λ (m : Numbers). Reports block (joined m buffer lens slots erases) image l) (e .is) (h buffer lens slots);
+        says = λ (set buffer lens slots : List ℕ). subst (λ (m : Numbers). Reports block (joined (withFree m set) buffer lens slots erases) image l) (e .is) (h set buffer lens slots);
         refusal = ap (λ (x : Reported). x .refusal) f;
         tells = ap (λ (x : Reported). x .free ∷ x .first ∷ x .erases ∷ []) f;
       }
 
-  pub inserted : (key value : ℕ) (buffer lens slots image : List ℕ) (u : UpdatedParts) (r : ℕ) (words' buffer' : List ℕ)
-      → r ≡ refusalNumber (u .answer) → words' ≡ wordsOf (u .numbers)
+  pub inserted : (key value : ℕ) (buffer lens slots image : List ℕ) (u : UpdatedParts) (r : ℕ) (words' free' buffer' : List ℕ)
+      → r ≡ refusalNumber (u .answer) → words' ≡ wordsOf (u .numbers) → free' ≡ u .numbers .free
       → ((erases : List ℕ) → Inserts key value (joined n buffer lens slots erases) image (updatedWith u buffer' lens slots erases))
-      → InsertsTold key value words buffer lens slots image r words' buffer'
-  inserted key value buffer lens slots image u r words' buffer' f g h =
+      → InsertsTold key value words free buffer lens slots image r words' free' buffer'
+  inserted key value buffer lens slots image u r words' free' buffer' f g q h =
       record {
         result = u;
         says = λ (erases : List ℕ). subst (λ (m : Numbers). Inserts key value (joined m buffer lens slots erases) image (updatedWith u buffer' lens slots erases)) (e .is) (h erases);
         refusal = f;
         saved = g;
         exact =
-            exactly words' (u .numbers) buffer' lens slots [] g
-            (bounds-narrow (joined n buffer lens slots []) (joined (u .numbers) buffer' lens slots []) (h [] .bounds) (loaded-narrow words n e buffer lens slots []));
+            exactly words' free' (u .numbers) buffer' lens slots [] g q
+            (bounds-narrow (joined n buffer lens slots []) (joined (u .numbers) buffer' lens slots []) (h [] .bounds) (loaded-narrow words free n e buffer lens slots []));
       }
 
-  pub deleted : (key : ℕ) (buffer lens slots image : List ℕ) (u : UpdatedParts) (r : ℕ) (words' buffer' : List ℕ)
-      → r ≡ refusalNumber (u .answer) → words' ≡ wordsOf (u .numbers)
+  pub deleted : (key : ℕ) (buffer lens slots image : List ℕ) (u : UpdatedParts) (r : ℕ) (words' free' buffer' : List ℕ)
+      → r ≡ refusalNumber (u .answer) → words' ≡ wordsOf (u .numbers) → free' ≡ u .numbers .free
       → ((erases : List ℕ) → Deletes key (joined n buffer lens slots erases) image (updatedWith u buffer' lens slots erases))
-      → DeletesTold key words buffer lens slots image r words' buffer'
-  deleted key buffer lens slots image u r words' buffer' f g h =
+      → DeletesTold key words free buffer lens slots image r words' free' buffer'
+  deleted key buffer lens slots image u r words' free' buffer' f g q h =
       record {
         result = u;
         says = λ (erases : List ℕ). subst (λ (m : Numbers). Deletes key (joined m buffer lens slots erases) image (updatedWith u buffer' lens slots erases)) (e .is) (h erases);
         refusal = f;
         saved = g;
         exact =
-            exactly words' (u .numbers) buffer' lens slots [] g
-            (bounds-narrow (joined n buffer lens slots []) (joined (u .numbers) buffer' lens slots []) (h [] .bounds) (loaded-narrow words n e buffer lens slots []));
+            exactly words' free' (u .numbers) buffer' lens slots [] g q
+            (bounds-narrow (joined n buffer lens slots []) (joined (u .numbers) buffer' lens slots []) (h [] .bounds) (loaded-narrow words free n e buffer lens slots []));
       }
 
   pub formatted : (part : ℕ) (nand : Nand) → nand ≡ partIn part → part ≤ 1
-      → (allowance : ℕ) (torn lens slots erases image : List ℕ) (w : WroteParts) (r : ℕ) (ops words' lens' slots' erases' image' : List ℕ)
-      → Tells w r ops words'
+      → (allowance : ℕ) (torn lens slots erases image : List ℕ) (w : WroteParts) (r : ℕ) (ops words' free' lens' slots' erases' image' : List ℕ)
+      → Tells w r ops words' → free' ≡ w .numbers .free
       → ((buffer : List ℕ) → Formats nand allowance torn (joined n buffer lens slots erases) image (wroteWith w buffer lens' slots' erases') image')
-      → FormatsTold part allowance torn words lens slots erases image r ops words' lens' slots' erases' image'
-  formatted part nand d l allowance torn lens slots erases image w r ops words' lens' slots' erases' image' t h =
+      → FormatsTold part allowance torn words free lens slots erases image r ops words' free' lens' slots' erases' image'
+  formatted part nand d l allowance torn lens slots erases image w r ops words' free' lens' slots' erases' image' t q h =
       record {
         named =
-            as-named (λ (m : Nand). FormatsAs m allowance torn words lens slots erases image r ops words' lens' slots' erases' image') part nand d
+            as-named (λ (m : Nand). FormatsAs m allowance torn words free lens slots erases image r ops words' free' lens' slots' erases' image') part nand d
             (record {
               result = w;
               says = λ (buffer : List ℕ). subst (λ (m : Numbers). Formats nand allowance torn (joined m buffer lens slots erases) image (wroteWith w buffer lens' slots' erases') image') (e .is) (h buffer);
               tells = t;
               exact =
-                  exactly words' (w .numbers) [] lens' slots' erases' (t .saved)
-                  (format-narrow nand allowance torn (joined n [] lens slots erases) image (wroteWith w [] lens' slots' erases') image' (loaded-narrow words n e [] lens slots erases) (h []));
+                  exactly words' free' (w .numbers) [] lens' slots' erases' (t .saved) q
+                  (format-narrow nand allowance torn (joined n [] lens slots erases) image (wroteWith w [] lens' slots' erases') image' (loaded-narrow words free n e [] lens slots erases) (h []));
             });
         unnamed = λ k. absurd (omega (arith, l, k));
       }
 
   pub mounted : (part : ℕ) (nand : Nand) → nand ≡ partIn part → part ≤ 1
-      → (allowance : ℕ) (torn lens slots erases image : List ℕ) (w : WroteParts) (r : ℕ) (ops words' lens' slots' erases' image' : List ℕ)
-      → Tells w r ops words'
+      → (allowance : ℕ) (torn lens slots erases image : List ℕ) (w : WroteParts) (r : ℕ) (ops words' free' lens' slots' erases' image' : List ℕ)
+      → Tells w r ops words' → free' ≡ w .numbers .free
       → ((buffer : List ℕ) → Mounts nand allowance torn (joined n buffer lens slots erases) image (wroteWith w buffer lens' slots' erases') image')
-      → MountsTold part allowance torn words lens slots erases image r ops words' lens' slots' erases' image'
-  mounted part nand d l allowance torn lens slots erases image w r ops words' lens' slots' erases' image' t h =
+      → MountsTold part allowance torn words free lens slots erases image r ops words' free' lens' slots' erases' image'
+  mounted part nand d l allowance torn lens slots erases image w r ops words' free' lens' slots' erases' image' t q h =
       record {
         named =
-            as-named (λ (m : Nand). MountsAs m allowance torn words lens slots erases image r ops words' lens' slots' erases' image') part nand d
+            as-named (λ (m : Nand). MountsAs m allowance torn words free lens slots erases image r ops words' free' lens' slots' erases' image') part nand d
             (record {
               result = w;
               says = λ (buffer : List ℕ). subst (λ (m : Numbers). Mounts nand allowance torn (joined m buffer lens slots erases) image (wroteWith w buffer lens' slots' erases') image') (e .is) (h buffer);
               tells = t;
               exact =
-                  exactly words' (w .numbers) [] lens' slots' erases' (t .saved)
-                  (mount-narrow nand allowance torn (joined n [] lens slots erases) image (wroteWith w [] lens' slots' erases') image' (loaded-narrow words n e [] lens slots erases) (h []));
+                  exactly words' free' (w .numbers) [] lens' slots' erases' (t .saved) q
+                  (mount-narrow nand allowance torn (joined n [] lens slots erases) image (wroteWith w [] lens' slots' erases') image' (loaded-narrow words free n e [] lens slots erases) (h []));
             });
         unnamed = λ k. absurd (omega (arith, l, k));
       }
 
   pub committed : (allowance : ℕ) (torn buffer lens slots erases image : List ℕ) (w : WroteParts) (r : ℕ) (ops words' lens' slots' erases' image' : List ℕ)
       → Tells w r ops words'
-      → Commits allowance torn (joined n buffer lens slots erases) image (wroteWith w buffer lens' slots' erases') image'
+      → CommitsLent allowance torn n buffer lens slots erases image w lens' slots' erases' image'
       → CommitsTold allowance torn words buffer lens slots erases image r ops words' lens' slots' erases' image'
   committed allowance torn buffer lens slots erases image w r ops words' lens' slots' erases' image' t h =
       record {
         result = w;
-        says = subst (λ (m : Numbers). Commits allowance torn (joined m buffer lens slots erases) image (wroteWith w buffer lens' slots' erases') image') (e .is) h;
+        says = λ (set : List ℕ). subst (λ (m : Numbers). Commits allowance torn (joined (withFree m set) buffer lens slots erases) image (wroteWith (wroteFree w set) buffer lens' slots' erases') image') (e .is) (h .says set);
         tells = t;
-        exact =
-            exactly words' (w .numbers) buffer lens' slots' erases' (t .saved)
-            (bounds-narrow (joined n buffer lens slots erases) (joined (w .numbers) buffer lens' slots' erases') (h .bounds) (loaded-narrow words n e buffer lens slots erases));
+        exact = λ (set : List ℕ).
+            exactly words' set (withFree (w .numbers) set) buffer lens' slots' erases' (t .saved) refl
+            (bounds-narrow (joined (withFree n set) buffer lens slots erases) (joined (withFree (w .numbers) set) buffer lens' slots' erases') (h .says set .bounds) (record { blocks = e .blocks; units = e .count }));
       }

@@ -39,11 +39,11 @@ narrow-back n h = omega arith
 
 -- numbers with parts that are theirs
 made : (n : N.Numbers) (o : Bool) (m : Nand) (b u : ℕ) → o ≡ n .on → m ≡ n .nand → b ≡ n .blocks → u ≡ n .count
-    → _≡_ {A = N.Numbers} (record { on = o; nand = m; blocks = b; commit = n .commit; pending = n .pending; next = n .next; count = u }) n
+    → _≡_ {A = N.Numbers} (record { on = o; nand = m; blocks = b; commit = n .commit; pending = n .pending; free = n .free; count = u }) n
 made n o m b u e d f g = rw (e, d, f, g) refl
 
 -- what is written is read
-pub words-back : (n : N.Numbers) → n .blocks < 4294967296 → n .count < 4294967296 → numbersIn (wordsOf n) ≡ n
+pub words-back : (n : N.Numbers) → n .blocks < 4294967296 → n .count < 4294967296 → numbersIn (wordsOf n) (n .free) ≡ n
 words-back n h k = made n _ _ _ _ (bit-back (n .on)) (part-back (n .nand)) (narrow-back (n .blocks) h) (narrow-back (n .count) k)
 
 -- ---- what each call leaves, on any state

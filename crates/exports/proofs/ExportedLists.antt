@@ -20,7 +20,7 @@ use Rattle.store.specs.declared.step.Call.the-variants.{Format, Insert, Delete,
 use Rattle.store.specs.Answers.{answerOf, refusalIn}
 use Rattle.store.specs.State.{geometryIn, Good}
 use Rattle.store.specs.Contracts.{index, Formats, Mounts, Inserts, Deletes, Commits}
-use Rattle.store.specs.Parts.{joined, wroteWith}
+use Rattle.store.specs.Parts.{joined, withFree, wroteWith, wroteFree}
 use Rattle.store.specs.Step.{ofLook}
 use Rattle.store.specs.Lent.{stateFrom, Meets, lentStep, RunsLent}
 use Rattle.store.proofs.Foretold.{foretells}
@@ -31,7 +31,7 @@ use Rattle.exports.specs.Words.{numbersIn}
 use Rattle.exports.specs.Exported.{Memory, partsIn, Ensures, Exported, answerBy, opsBy, exportedStep, promiseStep, RunsExported, TellsAnswer, AgreesTold, sumTold, ForetellsTold}
 
 -- the state that memory holds is the one of these numbers, where its words read back as them
-state-is : (m : Memory) (n : Numbers) (buffer lens slots erases : List ℕ) → numbersIn (m .words) ≡ n → m .buffer ≡ buffer → m .lens ≡ lens → m .slots ≡ slots → m .erases ≡ erases
+state-is : (m : Memory) (n : Numbers) (buffer lens slots erases : List ℕ) → numbersIn (m .words) (m .free) ≡ n → m .buffer ≡ buffer → m .lens ≡ lens → m .slots ≡ slots → m .erases ≡ erases
     → stateFrom (partsIn m) ≡ joined n buffer lens slots erases
 state-is m n buffer lens slots erases e b l s f = cc
 
@@ -57,7 +57,7 @@ module _ (x : Exported) where
       (sym (state-is (x .after) (h .0 .result .numbers) (x .given .buffer) (x .after .lens) (x .after .slots) (x .after .erases) (h .0 .exact) (h .1) refl refl refl)) (h .0 .says (x .given .buffer))
   meets (Commit n) h =
       subst (λ (s : State). Commits n (x .torn) (stateFrom (partsIn (x .given))) (x .lent) (record { answer = h .0 .result .answer; ops = h .0 .result .ops; state = s }) (x .left))
-      (sym (state-is (x .after) (h .0 .result .numbers) (x .given .buffer) (x .after .lens) (x .after .slots) (x .after .erases) (h .0 .exact) (h .1) refl refl refl)) (h .0 .says)
+      (sym (state-is (x .after) (withFree (h .0 .result .numbers) (x .given .free)) (x .given .buffer) (x .after .lens) (x .after .slots) (x .after .erases) (ap (numbersIn (x .after .words)) (h .2) ∙ h .0 .exact (x .given .free)) (h .1) refl refl refl)) (h .0 .says (x .given .free))
   meets (Insert k v) h =
       record {
         says =
@@ -74,8 +74,8 @@ module _ (x : Exported) where
         ops = refl;
         image = h .4;
       }
-  meets (LookUp k) h = record { look = h .0 .look; says = h .0 .says (x .given .erases); is = ap (λ (m : Memory). ofLook (h .0 .look) (stateFrom (partsIn m))) (h .1); image = h .2 }
-  meets Forecast h = record { says = h .0 .says (x .given .erases); state = ap (λ (m : Memory). stateFrom (partsIn m)) (h .1); image = h .2 }
+  meets (LookUp k) h = record { look = h .0 .look; says = h .0 .says (x .given .free) (x .given .erases); is = ap (λ (m : Memory). ofLook (h .0 .look) (stateFrom (partsIn m))) (h .1); image = h .2 }
+  meets Forecast h = record { says = h .0 .says (x .given .free) (x .given .erases); state = ap (λ (m : Memory). stateFrom (partsIn m)) (h .1); image = h .2 }
 
   -- what a call tells is its answer
   tells-by : (c : Call) (h : Ensures (x .torn) (x .given) (x .lent) (x .refusal) (x .told) (x .after) (x .left) c) → x .refusal ≡ refusalIn (answerOf (answerBy (x .torn) (x .given) (x .lent) (x .refusal) (x .told) (x .after) (x .left) c h))
@@ -139,11 +139,11 @@ exported-figures m i xs g r z =
 
 -- an erase pays: from a state that calls gave, mounts naming its part, with no call cut and no format finished, the list is one of which that is said
 pub exported-unbroken : (m : Memory) (i : List ℕ) (xs : List Exported) → Good (geometryIn (stateFrom (partsIn m))) (stateFrom (partsIn m)) i → RunsExported (Only index (stateFrom (partsIn m))) i xs
-    → Named index (numbersIn (m .words) .nand) (map promiseStep xs) → NoneCut index (map promiseStep xs) → NoFormat index (map promiseStep xs) → Unbroken index (stateFrom (partsIn m)) i (map promiseStep xs)
+    → Named index (numbersIn (m .words) (m .free) .nand) (map promiseStep xs) → NoneCut index (map promiseStep xs) → NoFormat index (map promiseStep xs) → Unbroken index (stateFrom (partsIn m)) i (map promiseStep xs)
 exported-unbroken m i xs g r d c f =
     let e = steps-same xs in
     subst (Unbroken index (stateFrom (partsIn m)) i) (sym e)
-    (lent-unbroken (partsIn m) i (map exportedStep xs) g (exported-runs (Only index (stateFrom (partsIn m))) i xs r) (subst (Named index (numbersIn (m .words) .nand)) e d) (subst (NoneCut index) e c) (subst (NoFormat index) e f))
+    (lent-unbroken (partsIn m) i (map exportedStep xs) g (exported-runs (Only index (stateFrom (partsIn m))) i xs r) (subst (Named index (numbersIn (m .words) (m .free) .nand)) e d) (subst (NoneCut index) e c) (subst (NoFormat index) e f))
 
 -- ---- a forecast and a commit, on any memory and any image
 module _ (x y : Exported) (n : ℕ) (size : length (y .torn) ≡ pageSize (geometryIn (stateFrom (partsIn (x .given))))) where
@@ -152,8 +152,8 @@ module _ (x y : Exported) (n : ℕ) (size : length (y .torn) ≡ pageSize (geome
       → Ensures (y .torn) (x .given) (x .lent) (y .refusal) (y .told) (y .after) (y .left) (Commit n) → ForetellsTold n x y
   foretells-by f c =
       let m = x .given in
-      let w = wroteWith (c .0 .result) (m .buffer) (y .after .lens) (y .after .slots) (y .after .erases) in
-      let t = foretells (stateFrom (partsIn m)) (x .lent) (f .0 .result) (f .0 .says (m .erases)) n (y .torn) size w (y .left) (c .0 .says) in
+      let w = wroteWith (wroteFree (c .0 .result) (m .free)) (m .buffer) (y .after .lens) (y .after .slots) (y .after .erases) in
+      let t = foretells (stateFrom (partsIn m)) (x .lent) (f .0 .result) (f .0 .says (m .free) (m .erases)) n (y .torn) size w (y .left) (c .0 .says (m .free)) in
       let d = c .0 .tells in
       let sum = ap sumTold (f .0 .done) in
       record {

@@ -24,9 +24,10 @@ use Rattle.exports.specs.Calls.{LooksTold, ForecastsTold, InsertsTold, D
 use Rattle.exports.specs.Told.{valueIn}
 use Rattle.exports.specs.Words.{numbersIn}
 
--- what a caller keeps of a state: seven words, and the arrays
+-- what a caller keeps of a state: six words, and the arrays
 pub record Memory : Type 0 where
   pub words : List ℕ
+  pub free : List ℕ
   pub buffer : List ℕ
   pub lens : List ℕ
   pub slots : List ℕ
@@ -34,20 +35,20 @@ pub record Memory : Type 0 where
 
 -- the parts of the state that it holds
 abbrev pub partsIn : Memory → Parts
-partsIn m = record { numbers = numbersIn (m .words); buffer = m .buffer; lens = m .lens; slots = m .slots; erases = m .erases }
+partsIn m = record { numbers = numbersIn (m .words) (m .free); buffer = m .buffer; lens = m .lens; slots = m .slots; erases = m .erases }
 
 -- from the memory m and the image i to the refusal r, the numbers told, the memory m' and the image i'
 module _ (torn : List ℕ) (m : Memory) (i : List ℕ) (r : ℕ) (told : List ℕ) (m' : Memory) (i' : List ℕ) where
   -- what a call ensures: its contract; and what is lent to it for reading only, or not at all, stays. A format or a mount names a part here:
   -- one with a number that names no part changes nothing, and stands in no list
   abbrev pub Ensures : Call → Type 0
-  Ensures (Format p n) = FormatsAs p n torn (m .words) (m .lens) (m .slots) (m .erases) i r told (m' .words) (m' .lens) (m' .slots) (m' .erases) i' × (m' .buffer ≡ m .buffer)
-  Ensures (Mount p n) = MountsAs p n torn (m .words) (m .lens) (m .slots) (m .erases) i r told (m' .words) (m' .lens) (m' .slots) (m' .erases) i' × (m' .buffer ≡ m .buffer)
-  Ensures (Commit n) = CommitsTold n torn (m .words) (m .buffer) (m .lens) (m .slots) (m .erases) i r told (m' .words) (m' .lens) (m' .slots) (m' .erases) i' × (m' .buffer ≡ m .buffer)
+  Ensures (Format p n) = FormatsAs p n torn (m .words) (m .free) (m .lens) (m .slots) (m .erases) i r told (m' .words) (m' .free) (m' .lens) (m' .slots) (m' .erases) i' × (m' .buffer ≡ m .buffer)
+  Ensures (Mount p n) = MountsAs p n torn (m .words) (m .free) (m .lens) (m .slots) (m .erases) i r told (m' .words) (m' .free) (m' .lens) (m' .slots) (m' .erases) i' × (m' .buffer ≡ m .buffer)
+  Ensures (Commit n) = CommitsTold n torn (m .words) (m .buffer) (m .lens) (m .slots) (m .erases) i r told (m' .words) (m' .lens) (m' .slots) (m' .erases) i' × (m' .buffer ≡ m .buffer) × (m' .free ≡ m .free)
   Ensures (Insert k v) =
-      InsertsTold k v (m .words) (m .buffer) (m .lens) (m .slots) i r (m' .words) (m' .buffer) × (m' .lens ≡ m .lens) × (m' .slots ≡ m .slots) × (m' .erases ≡ m .erases) × (i' ≡ i)
+      InsertsTold k v (m .words) (m .free) (m .buffer) (m .lens) (m .slots) i r (m' .words) (m' .free) (m' .buffer) × (m' .lens ≡ m .lens) × (m' .slots ≡ m .slots) × (m' .erases ≡ m .erases) × (i' ≡ i)
   Ensures (Delete k) =
-      DeletesTold k (m .words) (m .buffer) (m .lens) (m .slots) i r (m' .words) (m' .buffer) × (m' .lens ≡ m .lens) × (m' .slots ≡ m .slots) × (m' .erases ≡ m .erases) × (i' ≡ i)
+      DeletesTold k (m .words) (m .free) (m .buffer) (m .lens) (m .slots) i r (m' .words) (m' .free) (m' .buffer) × (m' .lens ≡ m .lens) × (m' .slots ≡ m .slots) × (m' .erases ≡ m .erases) × (i' ≡ i)
   Ensures (LookUp k) = LooksTold k (m .words) (m .buffer) (m .lens) (m .slots) i r told × (m' ≡ m) × (i' ≡ i)
   Ensures Forecast = ForecastsTold (m .words) (m .buffer) (m .lens) (m .slots) i r told × (m' ≡ m) × (i' ≡ i)
 

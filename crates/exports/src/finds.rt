@@ -80,10 +80,10 @@ fn report_told(report: Report) -> Reported
     }
 }
 
-// Look up: the refusal, and in `told` the value found and the pages read.
+// Look up, whatever the free node numbers: the refusal, and in `told` the value found and the pages read.
 #[no_mangle]
 pub extern "C" fn vehinoke_look_up<'a>(
-    numbers: &[u32; 7],
+    numbers: &[u32; 6],
     lens: &'a [u32; 256],
     slots: &'a [u32; 1024],
     buffer: &'a [u8; 11520],
@@ -102,7 +102,7 @@ pub extern "C" fn vehinoke_look_up<'a>(
 // Block report: the refusal, and in `told` how many pages of the block are free, the first free one and the erases of the block.
 #[no_mangle]
 pub extern "C" fn vehinoke_block_report(
-    numbers: &[u32; 7],
+    numbers: &[u32; 6],
     erases: &[u64; 32],
     image: &[u8],
     block: u32,

@@ -7,7 +7,7 @@ use store::forecast;
 // Forecast: the refusal, and in `ops` the operations that a commit made now would tell: data programs, marks set, erases; zeros with a refusal.
 #[no_mangle]
 pub extern "C" fn vehinoke_forecast<'a>(
-    numbers: &[u32; 7],
+    numbers: &[u32; 6],
     lens: &'a [u32; 256],
     slots: &'a [u32; 1024],
     buffer: &'a [u8; 11520],

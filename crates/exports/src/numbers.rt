@@ -1,7 +1,8 @@
-// The numbers of a state as the caller keeps them, in seven words: on (1, else off), blocks, commit, pending, next, count, part (1 large, else
-// small).
+// The numbers of a state as the caller keeps them, in six words: on (1, else off), blocks, commit, pending, count, part (1 large, else small);
+// and the free node numbers in four words of 64 bits.
 ghost use mathlib.Core.Path.{_≡_};
 ghost use Prim.Native.Nat.{_%_, _<_};
+ghost use lib.ListN.{replicate};
 ghost use Rattle.exports.specs.Words.{Loads, wordsOf, bit, partIn, partWord};
 use chip::geometry::Nand;
 use store::state::Numbers;
@@ -44,24 +45,34 @@ fn part_word(nand: Nand) -> u32
     }
 }
 
-// The numbers that the words hold.
-pub fn load(words: &[u32; 7]) -> Numbers
-    ensures { λ r. ⌜ Loads (now (words .entry)) r ⌝ }
+// The numbers that the words hold, with no free node number.
+pub fn load(words: &[u32; 6]) -> Numbers
+    ensures { λ r. ⌜ Loads (now (words .entry)) (replicate 4 0) r ⌝ }
 {
-    let nand = part_in(words[6]);
+    let nand = part_in(words[5]);
     Numbers {
         on: words[0] == 1,
         nand,
         blocks: wide(words[1]),
         commit: words[2],
         pending: words[3],
-        next: words[4],
-        count: wide(words[5]),
+        free: [0; 4],
+        count: wide(words[4]),
     }
 }
 
-// The numbers written to the words; one above 32 bits, which no call gives, is taken modulo 2 to the power 32.
-pub fn save(numbers: Numbers, words: &mut [u32; 7])
+// The numbers that the words hold, with the free node numbers lent.
+pub fn load_free(words: &[u32; 6], free: &[u64; 4]) -> Numbers
+    ensures { λ r. ⌜ Loads (now (words .entry)) (now (free .entry)) r ⌝ }
+{
+    let set = *free;
+    let mut n = load(words);
+    n.free = set;
+    n
+}
+
+// The numbers but for the free ones written to the words; one above 32 bits, which no call gives, is taken modulo 2 to the power 32.
+pub fn save(numbers: Numbers, words: &mut [u32; 6])
     ensures { λ _. ⌜ now (words .exit) ≡ wordsOf numbers ⌝ }
 {
     let on = word(numbers.on);
@@ -69,13 +80,5 @@ pub fn save(numbers: Numbers, words: &mut [u32; 7])
     let count = narrow(numbers.count);
     let nand = numbers.nand;
     let part = part_word(nand);
-    *words = [
-        on,
-        blocks,
-        numbers.commit,
-        numbers.pending,
-        numbers.next,
-        count,
-        part,
-    ];
+    *words = [on, blocks, numbers.commit, numbers.pending, count, part];
 }

@@ -10,7 +10,7 @@ use store::mount;
 use store::state::WroteParts;
 
 // What a call gave back: its numbers and its counts of operations written to the caller's words, and its refusal, 0 for none.
-fn give(wrote: WroteParts, numbers: &mut [u32; 7], ops: &mut [u32; 3]) -> u32
+fn give(wrote: WroteParts, numbers: &mut [u32; 6], ops: &mut [u32; 3]) -> u32
     ensures { λ r. ⌜ Tells wrote r (now (ops .exit)) (now (numbers .exit)) ⌝ }
 {
     let a = wrote.answer;
@@ -33,7 +33,8 @@ fn no_part(ops: &mut [u32; 3]) -> u32
 // operations done: data programs, marks set, erases.
 #[no_mangle]
 pub extern "C" fn vehinoke_format(
-    numbers: &mut [u32; 7],
+    numbers: &mut [u32; 6],
+    free: &mut [u64; 4],
     lens: &mut [u32; 256],
     slots: &mut [u32; 1024],
     erases: &mut [u64; 32],
@@ -43,22 +44,26 @@ pub extern "C" fn vehinoke_format(
     allowance: u32,
     ops: &mut [u32; 3],
 ) -> u32
-    ensures { λ r. ⌜ FormatsTold part allowance (now (torn .entry)) (now (numbers .entry)) (now (lens .entry)) (now (slots .entry)) (now (erases .entry)) (now (image .entry))
-        r (now (ops .exit)) (now (numbers .exit)) (now (lens .exit)) (now (slots .exit)) (now (erases .exit)) (now (image .exit)) ⌝ }
+    ensures { λ r. ⌜ FormatsTold part allowance (now (torn .entry)) (now (numbers .entry)) (now (free .entry)) (now (lens .entry)) (now (slots .entry)) (now (erases .entry)) (now (image .entry))
+        r (now (ops .exit)) (now (numbers .exit)) (now (free .exit)) (now (lens .exit)) (now (slots .exit)) (now (erases .exit)) (now (image .exit)) ⌝ }
 {
     if 1 < part {
         return no_part(ops);
     }
     let nand = numbers::part_in(part);
-    let n = numbers::load(numbers);
+    let n = numbers::load_free(numbers, free);
     let w = format::format_lent(n, nand, lens, slots, erases, image, torn, allowance);
+    let after = w.numbers;
+    let left = after.free;
+    *free = left;
     give(w, numbers, ops)
 }
 
 // Mount as the part named, by the same numbers: the refusal, and in `ops` the operations done: data programs, marks set, erases.
 #[no_mangle]
 pub extern "C" fn vehinoke_mount(
-    numbers: &mut [u32; 7],
+    numbers: &mut [u32; 6],
+    free: &mut [u64; 4],
     lens: &mut [u32; 256],
     slots: &mut [u32; 1024],
     erases: &mut [u64; 32],
@@ -68,22 +73,25 @@ pub extern "C" fn vehinoke_mount(
     allowance: u32,
     ops: &mut [u32; 3],
 ) -> u32
-    ensures { λ r. ⌜ MountsTold part allowance (now (torn .entry)) (now (numbers .entry)) (now (lens .entry)) (now (slots .entry)) (now (erases .entry)) (now (image .entry))
-        r (now (ops .exit)) (now (numbers .exit)) (now (lens .exit)) (now (slots .exit)) (now (erases .exit)) (now (image .exit)) ⌝ }
+    ensures { λ r. ⌜ MountsTold part allowance (now (torn .entry)) (now (numbers .entry)) (now (free .entry)) (now (lens .entry)) (now (slots .entry)) (now (erases .entry)) (now (image .entry))
+        r (now (ops .exit)) (now (numbers .exit)) (now (free .exit)) (now (lens .exit)) (now (slots .exit)) (now (erases .exit)) (now (image .exit)) ⌝ }
 {
     if 1 < part {
         return no_part(ops);
     }
     let nand = numbers::part_in(part);
-    let n = numbers::load(numbers);
+    let n = numbers::load_free(numbers, free);
     let w = mount::mount_lent(n, nand, lens, slots, erases, image, torn, allowance);
+    let after = w.numbers;
+    let left = after.free;
+    *free = left;
     give(w, numbers, ops)
 }
 
-// Commit: the refusal, and in `ops` the operations done: data programs, marks set, erases.
+// Commit, whatever the free node numbers, which stay: the refusal, and in `ops` the operations done: data programs, marks set, erases.
 #[no_mangle]
 pub extern "C" fn vehinoke_commit(
-    numbers: &mut [u32; 7],
+    numbers: &mut [u32; 6],
     lens: &mut [u32; 256],
     slots: &mut [u32; 1024],
     erases: &mut [u64; 32],

@@ -28,7 +28,7 @@ use Rattle.pages.specs.Data.{headOf}
 use Rattle.pages.specs.Steps.{Live, liveFrom, commit, index, count, isAt, full}
 use Rattle.pages.specs.Write.{writes}
 use Rattle.pages.proofs.Settle.{Whole}
-use Rattle.pages.proofs.UnitLaws.{length-units}
+use Rattle.pages.proofs.UnitLaws.{length-units, level-value}
 use Rattle.pages.proofs.HeaderLaws.{laid-size, laid-head, laid-obeys}
 use Rattle.views.specs.Table.{Event, eventAt, events, nodeOf, isWell}
 use Rattle.views.proofs.Folds.{events-laid}
@@ -153,7 +153,7 @@ module _ (g : Geometry) (room : 3 ≤ g .spare) (fits : 8 + 12 * g .units ≤ g 
     root-events : events limit (root ∷ []) ≡ eventAt 0 (Good rootReset) ∷ []
     root-events =
         ap (λ (es : List Event). es ++ [])
-        (events-laid g limit 0 1 0 1 (rootReset ∷ []) (omega arith) (more (record { node = nodes; update = omega arith }) none))
+        (events-laid g limit 0 1 0 1 (rootReset ∷ []) (omega arith) (more (record { node = nodes; update = level-value 0 (omega arith) }) none))
 
     root-node : (n : ℕ) → nodeOf n (eventAt 0 (Good rootReset) ∷ []) ≡ formatNode n
     unfolding nodeOf

@@ -1,9 +1,9 @@
 -- The views of an image of bytes are fair: what is decoded fits its fields. Assumes nothing.
+use mathlib.Core.Path.{_≡_, refl}
 use mathlib.Core.List.{List, foldl}
-use Prim.Native.Nat.{ℕ, zero, suc, _^_, _<_}
-use lib.Dec.{eqb, leb, ltb}
-use lib.ListN.{drop, getD}
-use borrow.Author.Tests.{leb-true, ltb-true}
+use Prim.Native.Nat.{ℕ, zero, suc, _<_}
+use lib.Dec.{eqb}
+use lib.ListN.{drop}
 use Rattle.lists.specs.Lists.{All, more, none}
 use Rattle.lists.proofs.Alls.{All-drop, All-map, All-take}
 use Rattle.lists.proofs.Flats.{All-flat}
@@ -14,10 +14,10 @@ use Rattle.chip.specs.Geometry.{Geometry}
 use Rattle.chip.specs.Page.{Page, isLive}
 use Rattle.pages.specs.declared.unit.Decoded.{Decoded}
 use Rattle.pages.specs.declared.unit.Decoded.the-variants.{Bad, Good}
-use Rattle.pages.specs.Units.{Valid, decode, decodeKind, decodes, half, word}
+use Rattle.pages.specs.Units.{Valid, decode, decodes}
 use Rattle.pages.specs.Data.{headOf}
 use Rattle.pages.specs.Steps.{Live, before, live, liveFrom}
-use Rattle.pages.proofs.UnitLaws.{word-below}
+use Rattle.pages.proofs.UnitLaws.{told, told-valid}
 use Rattle.views.specs.Table.{Event, Node, eventAt, events, eventsOf, fresh, nodeOf, turn, turnUnit}
 use Rattle.views.proofs.Folds.{node-few, node-rising}
 use Rattle.views.proofs.Groups.{well-is}
@@ -29,28 +29,15 @@ abbrev pub ValidDecoded : ℕ → Decoded → Type 0
 ValidDecoded limit (Good u) = Valid limit u
 ValidDecoded limit Bad = Unit {0}
 
-kind-valid : (limit n kind k v : ℕ) → n < limit → k < 2 ^ 32 → v < 2 ^ 32 → ValidDecoded limit (decodeKind n kind k v)
-kind-valid limit n kind k v hn hk hv =
-    cases (eqb kind 1) (λ a. rw a (record { node = hn; update = (hk, hv) }))
-    (λ a. cases (eqb kind 2)
-    (λ b. cases (eqb v 0) (λ z. rw (a, b, z) (record { node = hn; update = hk })) (λ z. rw (a, b, z) tt))
-    (λ b. cases (eqb kind 3)
-    (λ c. cases (eqb k 0)
-    (λ z. cases (leb v 3) (λ y. rw (a, b, c, z, y) (record { node = hn; update = leb-true v 3 y })) (λ y. rw (a, b, c, z, y) tt))
-    (λ z. rw (a, b, c, z) tt))
-    (λ c. rw (a, b, c) tt)))
-
 abbrev pub Bytes : List ℕ → Type 0
 Bytes b = All (λ (x : ℕ). x < 256) b
 
 pub decode-valid : (limit : ℕ) {b : List ℕ} → Bytes b → ValidDecoded limit (decode limit b)
-unfolding decode
-decode-valid limit {b} h =
-    cases (eqb (getD b 1 0) 0)
-    (λ z. cases (ltb (half b 2) limit)
-    (λ t. rw (z, t) (kind-valid limit (half b 2) (getD b 0 0) (word b 4) (word b 8) (ltb-true (half b 2) limit t) (word-below 4 h) (word-below 8 h)))
-    (λ t. rw (z, t) tt))
-    (λ z. rw z tt)
+decode-valid limit {b} h = go (decode limit b) refl
+  where
+    go : (d : Decoded) → decode limit b ≡ d → ValidDecoded limit d
+    go (Good u) e = told-valid h (told limit b u e)
+    go Bad e = tt
 
 decodes-valid : (limit n : ℕ) {b : List ℕ} → Bytes b → All (ValidDecoded limit) (decodes limit n b)
 decodes-valid limit zero h = none

@@ -17,11 +17,12 @@ use Rattle.pages.specs.declared.unit.Decoded.the-variants.{Bad, Good}
 use Rattle.pages.specs.declared.unit.Unit as U
 use Rattle.pages.specs.declared.unit.Update.{Update}
 use Rattle.pages.specs.declared.unit.Update.the-variants.{Delete, Insert, Reset}
-use Rattle.pages.specs.Units.{Valid, ValidUpdate}
-use Rattle.views.specs.Nodes.{Entry, Rising, View, apply, broken, deleteEntry, insertEntry, inserted, untouched, view}
+use Rattle.pages.specs.Units.{Valid, ValidUpdate, isResetValue}
+use Rattle.pages.proofs.UnitLaws.{level-value}
+use Rattle.views.specs.Nodes.{Entry, Rising, View, apply, broken, deleteEntry, freed, insertEntry, inserted, untouched, view}
 use Rattle.views.specs.Table.{Event, Node, events, fresh, isWhole, nodeOf, turn, turnUnit}
 use Rattle.views.specs.Groups.{isReset, own, present}
-use Rattle.views.proofs.Entries.{FewView, RisingView, rebuilt, updates-few, updates-rising}
+use Rattle.views.proofs.Entries.{FewView, RisingView, by-reset, by-valid, rebuilt, updates-few, updates-rising}
 use Rattle.views.proofs.Groups.{Short, alone, joined}
 use Rattle.views.proofs.Meanings.{inOrder, nodeIn}
 use Rattle.log.specs.Plan.{rewrite}
@@ -41,32 +42,39 @@ Small e = (e .key < 2 ^ 32) × (e .value < 2 ^ 32)
 
 pub data Fair : View → Type 0 where
   nothing : Fair untouched
+  released : isResetValue 255 ≡ true → Fair freed
   some : {l : ℕ} {es : List Entry} → l ≤ 3 → Rising es → length es ≤ 16 → All Small es → Fair (view l es)
 
 pub fair-whole : {v : View} → Fair v → isWhole v ≡ true
 fair-whole nothing = refl
+fair-whole (released a) = refl
 fair-whole (some a b c d) = refl
 
 pub fair-rising : {v : View} → Fair v → RisingView v
 fair-rising nothing = tt
+fair-rising (released a) = tt
 fair-rising (some a b c d) = b
 
 pub fair-few : {v : View} → Fair v → FewView v
 fair-few nothing = tt
+fair-few (released a) = tt
 fair-few (some a b c d) = c
 
--- level and entries fit their fields
+-- level and entries fit their fields, and the reset of a freed node is one of the layout
 abbrev pub SmallView : View → Type 0
 SmallView untouched = Unit {0}
+SmallView freed = isResetValue 255 ≡ true
 SmallView broken = Unit {0}
 SmallView (view l es) = (l ≤ 3) × All Small es
 
 fair-small : {v : View} → Fair v → SmallView v
 fair-small nothing = tt
+fair-small (released a) = a
 fair-small (some a b c d) = (a, d)
 
 pub small-fair : (v : View) → RisingView v → FewView v → SmallView v → isWhole v ≡ true → Fair v
 small-fair untouched r f s u = nothing
+small-fair freed r f s u = released s
 small-fair broken r f s u = clash u refl
 small-fair (view l es) r f s u = some (s .0) r f (s .1)
 
@@ -86,13 +94,15 @@ small-insert k v a b (more {x = e} h hs) =
 
 pub small-apply : (v : View) (u : Update) → ValidUpdate u → SmallView v → SmallView (apply v u)
 small-apply untouched (Insert k x) w h = tt
+small-apply freed (Insert k x) w h = tt
 small-apply broken (Insert k x) w h = tt
 small-apply (view l es) (Insert k x) w h =
     cases (leb (length (insertEntry k x es)) 16) (λ t. rw t (h .0, small-insert k x (w .0) (w .1) (h .1))) (λ t. rw t tt)
 small-apply untouched (Delete k) w h = tt
+small-apply freed (Delete k) w h = tt
 small-apply broken (Delete k) w h = tt
 small-apply (view l es) (Delete k) w h = (h .0, small-delete k (h .1))
-small-apply v (Reset l) w h = (w, none)
+small-apply v (Reset l) w h = by-valid SmallView v l w (λ a. a) (λ a. (a, none))
 
 small-updates : (v : View) {us : List Update} → All ValidUpdate us → SmallView v → SmallView (foldl apply v us)
 small-updates v none h = h
@@ -112,6 +122,7 @@ fair-present limit n v us f h u =
 -- ---- an update leaves no view untouched
 abbrev pub touched : View → Bool
 touched untouched = false
+touched freed = true
 touched broken = true
 touched (view l es) = true
 
@@ -121,12 +132,14 @@ cond-touched false l es = refl
 
 pub apply-touched : (w : View) (u : Update) → touched (apply w u) ≡ true
 apply-touched untouched (Insert k v) = refl
+apply-touched freed (Insert k v) = refl
 apply-touched broken (Insert k v) = refl
 apply-touched (view l es) (Insert k v) = cond-touched (leb (length (insertEntry k v es)) 16) l (insertEntry k v es)
 apply-touched untouched (Delete k) = refl
+apply-touched freed (Delete k) = refl
 apply-touched broken (Delete k) = refl
 apply-touched (view l es) (Delete k) = refl
-apply-touched w (Reset l) = refl
+apply-touched w (Reset l) = by-reset (λ (v : View). touched v ≡ true) w l (λ e. refl) (λ d. refl)
 
 fold-touched : (us : List Update) (w : View) → touched w ≡ true → touched (foldl apply w us) ≡ true
 fold-touched [] w h = h
@@ -162,11 +175,13 @@ bare-node g limit ps n e = bare n (events limit (inOrder g ps)) fresh (λ z. ref
 -- ---- a node written anew
 pub length-rewrite : {w : View} → Fair w → length (rewrite w) ≤ 17
 length-rewrite nothing = omega arith
+length-rewrite (released a) = omega arith
 length-rewrite (some {es = es} a b c d) = omega (arith, length-map es inserted)
 
 valid-rewrite : {w : View} → Fair w → All ValidUpdate (rewrite w)
 valid-rewrite nothing = none
-valid-rewrite (some a b c d) = more a (go d)
+valid-rewrite (released a) = more a none
+valid-rewrite (some {l = l} a b c d) = more (level-value l a) (go d)
   where
     go : {es : List Entry} → All Small es → All ValidUpdate (map inserted es)
     go none = none
@@ -175,10 +190,12 @@ valid-rewrite (some a b c d) = more a (go d)
 -- it begins with its reset, and of a node that was touched there is something to write
 pub reset-first : {v : View} → Fair v → (us : List Update) → us ≡ rewrite v → 0 < length us → (l : ℕ) × (vs : List Update) × (us ≡ Reset l ∷ vs)
 reset-first nothing us e h = absurd (omega (arith, ap length e))
+reset-first (released a) us e h = (255, [], e)
 reset-first (some {l = l} {es = es} a b c d) us e h = (l, map inserted es, e)
 
 pub rewrite-none : {v : View} → Fair v → rewrite v ≡ [] → v ≡ untouched
 rewrite-none nothing e = refl
+rewrite-none (released a) e = cons-some (Reset 255) [] e
 rewrite-none (some {l = l} {es = es} a b c d) e = cons-some (Reset l) (map inserted es) e
 
 -- ---- what is owed for node n where f n is written of it
@@ -189,6 +206,16 @@ pub record Suits (T : ℕ → Node) (us : List U.Unit) (f : ℕ → List Update)
   pub short : (p : ℕ) → 0 < length (f n) → Short (T n) (record { place = p; node = n; updates = f n })
 
 module _ (T : ℕ → Node) (us : List U.Unit) (n : ℕ) (f : ℕ → List Update) where
+  -- a reset first, and the view after the buffer
+  suits-reset : (l : ℕ) (vs : List Update) → f n ≡ Reset l ∷ vs → foldl apply (T n .now) (Reset l ∷ vs) ≡ present n (T n .now) us → All ValidUpdate (Reset l ∷ vs)
+      → Suits T us f n
+  suits-reset l vs q i w = record {
+    now = ap (foldl apply (T n .now)) q ∙ i;
+    covers = λ z. cons-some (Reset l) vs (sym q ∙ z);
+    valid = rw q w;
+    short = λ p m. alone (rw q);
+  }
+
   suits-view : (v : View) → v ≡ present n (T n .now) us → Fair v → f n ≡ rewrite v → Suits T us f n
   suits-view v i nothing q =
       let o : own n us ≡ [] = untouched-own (own n us) (T n .now) (sym i) in
@@ -198,13 +225,9 @@ module _ (T : ℕ → Node) (us : List U.Unit) (n : ℕ) (f : ℕ → List Updat
         valid = rw q none;
         short = λ p l. absurd (omega (arith, ap length q));
       }
+  suits-view v i (released a) q = suits-reset 255 [] q i (valid-rewrite (released a))
   suits-view v i (some {l = l} {es = es} a b c d) q =
-      record {
-        now = rw q (rebuilt (T n .now) l es b c ∙ i);
-        covers = λ z. cons-some (Reset l) (map inserted es) (sym q ∙ z);
-        valid = rw q (valid-rewrite (some a b c d));
-        short = λ p m. alone (rw q);
-      }
+      suits-reset l (map inserted es) q (rebuilt (T n .now) l es (λ e. omega arith) b c ∙ i) (valid-rewrite (some a b c d))
 
   -- the node anew
   pub suits-anew : Fair (present n (T n .now) us) → f n ≡ rewrite (present n (T n .now) us) → Suits T us f n

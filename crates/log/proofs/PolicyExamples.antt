@@ -14,13 +14,13 @@ use Rattle.pages.specs.declared.unit.Update.the-variants.{Insert, Reset}
 use Rattle.pages.specs.Units.{decode, encode}
 use Rattle.pages.specs.Data.{laid, dataOf}
 use Rattle.pages.specs.Steps.{commit, index, before}
-use Rattle.views.specs.Nodes.{Entry, view}
+use Rattle.views.specs.Nodes.{Entry, freed, view}
 use Rattle.views.specs.Table.{Node, fresh}
 use Rattle.views.specs.Groups.{unitFor}
-use Rattle.log.specs.Plan.{isUsed, unused}
-use Rattle.log.specs.Admissible.{Target, unwritten, inPage}
+use Rattle.log.specs.Plan.{Plan, isUsed, nodeAt, rewrite, unused}
+use Rattle.log.specs.Admissible.{Target, contentsOf, inPage, planFrom, unwritten}
 use Rattle.log.specs.Packing.{Packing, Sizes, deltaPacking, snapshotPacking}
-use Rattle.log.specs.Policy.{planOf}
+use Rattle.log.specs.Policy.{planOf, snapshotAssignment}
 
 -- ---- packing alone: pages of 10 units; four nodes, of 6 units each if written anew
 abbrev sizes : List ℕ → Sizes
@@ -90,3 +90,35 @@ oldest-moved : planOf small 24 3 image (leaf (entry 7 1 ∷ []) (0 ∷ []) ∷ l
     }
 unfolding isUsed unused inBlock isSet isFree blank laid encode decode commit index before
 oldest-moved = refl
+
+-- ---- a freed node: written anew it is one unit, its reset
+freed-anew : rewrite freed ≡ Reset 255 ∷ []
+freed-anew = refl
+
+abbrev freedAt : ℕ → Node
+freedAt p = record { now = freed; pages = p ∷ [] }
+
+-- a buffer that frees node 1, whose list has 4 pages: that reset is all that is written
+freed-written : planOf small 24 3 image (leaf [] (0 ∷ []) ∷ leaf (entry 5 6 ∷ []) (3 ∷ 2 ∷ 1 ∷ 0 ∷ []) ∷ replicate 22 fresh) 1 (unitFor 1 (Reset 255) ∷ [])
+    ≡ record { erased = []; written = record { place = 1; packs = record { node = 1; updates = Reset 255 ∷ [] } ∷ [] } ∷ [] }
+unfolding isUsed unused inBlock isSet isFree blank laid encode decode commit index before
+freed-written = refl
+
+-- node 1 is freed, and its reset stands in block 1, the oldest: a delta writes it anew beside node 0, and so does a snapshot
+abbrev twoNodes : List Node
+twoNodes = leaf (entry 7 1 ∷ []) (0 ∷ []) ∷ freedAt 32 ∷ replicate 22 fresh
+
+abbrev both : Plan
+both = record {
+  erased = [];
+  written = record {
+    place = 1;
+    packs = record { node = 0; updates = Reset 0 ∷ Insert 7 99 ∷ [] } ∷ record { node = 1; updates = Reset 255 ∷ [] } ∷ [];
+  } ∷ [];
+}
+
+freed-moved :
+    (planOf small 24 3 image twoNodes 1 buffer ≡ both)
+    × (planFrom small 24 3 image twoNodes 1 (contentsOf (nodeAt twoNodes) buffer) (snapshotAssignment small 24 (contentsOf (nodeAt twoNodes) buffer)) ≡ both)
+unfolding isUsed unused inBlock isSet isFree blank laid encode decode commit index before
+freed-moved = (refl, refl)

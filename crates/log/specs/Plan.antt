@@ -10,13 +10,14 @@ use Rattle.chip.specs.Page.{Page, isFree}
 use Rattle.chip.specs.Chip.{Op, inBlock}
 use Rattle.pages.specs.declared.unit.Update.{Update}
 use Rattle.pages.specs.Steps.{Live, liveFrom, commit, lastFrom, ordered}
-use Rattle.views.specs.Nodes.{View, untouched, broken, view, anew}
+use Rattle.views.specs.Nodes.{View, untouched, freed, broken, view, anew}
 use Rattle.views.specs.Table.{Node, fresh}
 use Rattle.log.specs.Commit.{Pack, Sheet, newPages, commitOps}
 
--- ---- a node written anew; nothing of one that is untouched or broken
+-- ---- a node written anew, a freed one by its reset; nothing of one that is untouched or broken
 abbrev pub rewrite : View → List Update
 rewrite untouched = []
+rewrite freed = anew 255 []
 rewrite broken = []
 rewrite (view l es) = anew l es
 

@@ -1,5 +1,7 @@
--- Units and their 12 bytes: the answers of the decoder, and that each unit has one form. Assumes nothing.
+-- Units and their 12 bytes: the values of a reset, the answers of the decoder, and that each unit has one form. Assumes nothing.
 use mathlib.Core.Path.{_≡_, refl, sym, ap, ap₂, _∙_, subst}
+use mathlib.Core.Bool.{true}
+use mathlib.Core.Logic.{⊎-elim}
 use mathlib.Core.List.{List, [], _∷_, _++_, map, append-assoc, append-nil}
 use Prim.Native.Nat.{ℕ, zero, suc, _+_, _-_, _*_, _/_, _%_, _^_, _<_, _≤_}
 use native.Mathlib.Omega.{arith}
@@ -8,13 +10,30 @@ use lib.ListN.{length, drop, getD, length-append, drop-of-length-le}
 use lib.Seq.{drop-cons, drop-at}
 use borrow.Author.Tests.{eq-eqb, lt-ltb, le-ltb, le-leb, eqb-true, ltb-true, leb-true}
 use Rattle.lists.specs.Lists.{All, none, more, flat, tab}
-use Rattle.lists.proofs.Tests.{cases}
+use Rattle.lists.proofs.Tests.{cases, same-or-not}
 use Rattle.pages.specs.declared.unit.Update.{Update}
 use Rattle.pages.specs.declared.unit.Update.the-variants.{Insert, Delete, Reset}
 use Rattle.pages.specs.declared.unit.Unit.{Unit}
 use Rattle.pages.specs.declared.unit.Decoded.{Decoded}
 use Rattle.pages.specs.declared.unit.Decoded.the-variants.{Good, Bad}
-use Rattle.pages.specs.Units.{half, word, good, decodeKind, decode, bytesOf, encodeUpdate, encode, ValidUpdate, Valid, decodes}
+use Rattle.pages.specs.Units.{half, word, good, isResetValue, decodeKind, decode, bytesOf, encodeUpdate, encode, ValidUpdate, Valid, decodes}
+
+-- ---- the value of a reset: a level, or the value that frees the node
+pub level-value : (l : ℕ) → l ≤ 3 → isResetValue l ≡ true
+unfolding isResetValue
+level-value l h = rw (le-leb l 3 h)
+
+pub freed-value : isResetValue 255 ≡ true
+unfolding isResetValue
+freed-value = refl
+
+pub value-level : (l : ℕ) → isResetValue l ≡ true → (l ≡ 255 → ⊥) → l ≤ 3
+unfolding isResetValue
+value-level l h k = cases (leb l 3) (λ t. leb-true l 3 t) (λ t. absurd (k (eqb-true l 255 (rw t at h))))
+
+-- it fits its field
+value-below : (l : ℕ) → isResetValue l ≡ true → l < 2 ^ 32
+value-below l h = ⊎-elim (λ (e : l ≡ 255). omega arith) (λ (k : l ≡ 255 → ⊥). omega (arith, value-level l h k)) (same-or-not l 255)
 
 -- ---- the answers of decode_unit
 module _ (limit : ℕ) (b : List ℕ) (n : ℕ) (z : getD b 1 0 ≡ 0) (en : n ≡ half b 2) where
@@ -46,7 +65,7 @@ back limit kind n k v r hn hk hv = rw (half-back n, lt-ltb n limit hn, word-back
 update-back : (limit n : ℕ) (u : Update) (r : List ℕ) → n < limit → ValidUpdate u → decode limit (encodeUpdate n u ++ r) ≡ good n u
 update-back limit n (Insert k v) r h w = back limit 1 n k v r h (w .0) (w .1)
 update-back limit n (Delete k) r h w = back limit 2 n k 0 r h w (omega arith)
-update-back limit n (Reset l) r h w = back limit 3 n 0 l r h (omega arith) (omega arith) ∙ rw (le-leb l 3 w)
+update-back limit n (Reset l) r h w = back limit 3 n 0 l r h (omega arith) (value-below l w) ∙ rw w
 
 -- the bytes of a unit, whatever stands behind them, and alone
 pub decode-front : (limit : ℕ) (u : Unit) (r : List ℕ) → Valid limit u → decode limit (encode u ++ r) ≡ Good u
@@ -103,10 +122,17 @@ bytes-back b l h z =
     let n = half-parts (at 2) (at 3) (at 4 ∷ at 5 ∷ at 6 ∷ at 7 ∷ at 8 ∷ at 9 ∷ at 10 ∷ at 11 ∷ []) (below 2) in
     rw (v, k, n) (rw z at (listed b 12 0 l))
 
+-- the value of an update that is a reset
+abbrev pub ValidReset : Update → Type 0
+ValidReset (Insert k v) = Prim.Unit {0}
+ValidReset (Delete k) = Prim.Unit {0}
+ValidReset (Reset l) = isResetValue l ≡ true
+
 -- how a unit goes with the kind, node, key and value that it was read from
 record Of (n kind k v : ℕ) (u : Unit) : Type 0 where
   node : u .node ≡ n
   bytes : encode u ≡ bytesOf kind n k v
+  reset : ValidReset (u .update)
   update : k < 2 ^ 32 → v < 2 ^ 32 → ValidUpdate (u .update)
 
 -- a unit that was read is the one that stands there
@@ -122,18 +148,47 @@ kind-of : (n kind k v : ℕ) (u : Unit) → decodeKind n kind k v ≡ Good u →
 unfolding encode
 kind-of n kind k v u e =
     cases (eqb kind 1)
-    (λ t. this (rw t at e) (record { node = refl; bytes = rw (eqb-true kind 1 t); update = λ a b. (a, b) }))
+    (λ t. this (rw t at e) (record { node = refl; bytes = rw (eqb-true kind 1 t); reset = tt; update = λ a b. (a, b) }))
     (λ f. let e2 = (rw f at e) in cases (eqb kind 2)
     (λ t. let e3 = (rw t at e2) in cases (eqb v 0)
-    (λ s. this (rw s at e3) (record { node = refl; bytes = rw (eqb-true kind 2 t, eqb-true v 0 s); update = λ a b. a }))
+    (λ s. this (rw s at e3) (record { node = refl; bytes = rw (eqb-true kind 2 t, eqb-true v 0 s); reset = tt; update = λ a b. a }))
     (λ s. never (rw s at e3)))
     (λ t. let e3 = (rw t at e2) in cases (eqb kind 3)
     (λ s. let e4 = (rw s at e3) in cases (eqb k 0)
-    (λ y. let e5 = (rw y at e4) in cases (leb v 3)
-    (λ x. this (rw x at e5) (record { node = refl; bytes = rw (eqb-true kind 3 s, eqb-true k 0 y); update = λ a b. leb-true v 3 x }))
+    (λ y. let e5 = (rw y at e4) in cases (isResetValue v)
+    (λ x. this (rw x at e5) (record { node = refl; bytes = rw (eqb-true kind 3 s, eqb-true k 0 y); reset = x; update = λ a b. x }))
     (λ x. never (rw x at e5)))
     (λ y. never (rw y at e4)))
     (λ s. never (rw s at e3))))
+
+-- what the bytes of a unit that was read say of it
+pub record Told (limit : ℕ) (b : List ℕ) (u : Unit) : Type 0 where
+  pub zero : getD b 1 0 ≡ 0
+  pub node : u .node ≡ half b 2
+  pub below : u .node < limit
+  pub bytes : encode u ≡ bytesOf (getD b 0 0) (half b 2) (word b 4) (word b 8)
+  pub reset : ValidReset (u .update)
+  pub update : word b 4 < 2 ^ 32 → word b 8 < 2 ^ 32 → ValidUpdate (u .update)
+
+pub told : (limit : ℕ) (b : List ℕ) (u : Unit) → decode limit b ≡ Good u → Told limit b u
+unfolding decode
+told limit b u e =
+    cases (eqb (getD b 1 0) 0)
+    (λ z. let e2 = (rw z at e) in cases (ltb (half b 2) limit)
+    (λ t. let o = kind-of (half b 2) (getD b 0 0) (word b 4) (word b 8) u (rw t at e2) in
+    record {
+      zero = eqb-true (getD b 1 0) 0 z;
+      node = o .node;
+      below = rw (o .node) (ltb-true (half b 2) limit t);
+      bytes = o .bytes;
+      reset = o .reset;
+      update = o .update;
+    })
+    (λ t. never (rw t at e2)))
+    (λ z. never (rw z at e))
+
+pub told-valid : {limit : ℕ} {b : List ℕ} {u : Unit} → All (λ (x : ℕ). x < 256) b → Told limit b u → Valid limit u
+told-valid h t = record { node = t .below; update = t .update (word-below 4 h) (word-below 8 h) }
 
 -- the bytes b are the form of the unit u
 pub record Coded (limit : ℕ) (b : List ℕ) (u : Unit) : Type 0 where
@@ -142,17 +197,9 @@ pub record Coded (limit : ℕ) (b : List ℕ) (u : Unit) : Type 0 where
 
 -- 12 bytes that are a unit are its bytes, and the unit is valid
 pub encode-decode : (limit : ℕ) (b : List ℕ) (u : Unit) → length b ≡ 12 → All (λ (x : ℕ). x < 256) b → decode limit b ≡ Good u → Coded limit b u
-unfolding decode
 encode-decode limit b u l h e =
-    cases (eqb (getD b 1 0) 0)
-    (λ z. let e2 = (rw z at e) in cases (ltb (half b 2) limit)
-    (λ t. let o = kind-of (half b 2) (getD b 0 0) (word b 4) (word b 8) u (rw t at e2) in
-    record {
-      bytes = o .bytes ∙ bytes-back b l h (eqb-true (getD b 1 0) 0 z);
-      valid = record { node = rw (o .node) (ltb-true (half b 2) limit t); update = o .update (word-below 4 h) (word-below 8 h) };
-    })
-    (λ t. never (rw t at e2)))
-    (λ z. never (rw z at e))
+    let t = told limit b u e in
+    record { bytes = t .bytes ∙ bytes-back b l h (t .zero); valid = told-valid h t }
 
 -- ---- units one after the other
 -- the bytes of an update, of a unit and of units

@@ -1,7 +1,8 @@
 -- A unit: 12 bytes. Byte 0 kind, byte 1 zero, 2-3 node, 4-7 key, 8-11 value; little-endian.
-use mathlib.Core.Bool.{cond}
+use mathlib.Core.Path.{_≡_}
+use mathlib.Core.Bool.{Bool, true, cond, _||_}
 use mathlib.Core.List.{List, [], _∷_}
-use Prim.Native.Nat.{ℕ, zero, suc, _+_, _*_, _/_, _%_, _^_, _<_, _≤_}
+use Prim.Native.Nat.{ℕ, zero, suc, _+_, _*_, _/_, _%_, _^_, _<_}
 use lib.Dec.{ltb, leb, eqb}
 use lib.ListN.{getD, drop}
 use Rattle.pages.specs.declared.unit.Update.{Update}
@@ -20,12 +21,16 @@ word b i = getD b i 0 + 256 * getD b (i + 1) 0 + 65536 * getD b (i + 2) 0 + 1677
 abbrev pub good : ℕ → Update → Decoded
 good n u = Good (record { node = n; update = u })
 
--- kind 1 inserts (key, value); kind 2 deletes the key, value 0; kind 3 resets the node, key 0, value its level, 0 to 3
+-- the value of a reset: the level, 0 to 3, or 255, which frees the node
+unfoldable pub isResetValue : ℕ → Bool
+isResetValue v = leb v 3 || eqb v 255
+
+-- kind 1 inserts (key, value); kind 2 deletes the key, value 0; kind 3 resets the node, key 0, value its level or 255
 abbrev pub decodeKind : ℕ → ℕ → ℕ → ℕ → Decoded
 decodeKind n kind k v =
     cond (eqb kind 1) (good n (Insert k v))
     (cond (eqb kind 2) (cond (eqb v 0) (good n (Delete k)) Bad)
-    (cond (eqb kind 3) (cond (eqb k 0) (cond (leb v 3) (good n (Reset v)) Bad) Bad) Bad))
+    (cond (eqb kind 3) (cond (eqb k 0) (cond (isResetValue v) (good n (Reset v)) Bad) Bad) Bad))
 
 -- the unit that 12 bytes are, where they obey the layout; node numbers are below limit
 unfoldable pub decode : ℕ → List ℕ → Decoded
@@ -52,7 +57,7 @@ encode u = encodeUpdate (u .node) (u .update)
 abbrev pub ValidUpdate : Update → Type 0
 ValidUpdate (Insert k v) = (k < 2 ^ 32) × (v < 2 ^ 32)
 ValidUpdate (Delete k) = k < 2 ^ 32
-ValidUpdate (Reset l) = l ≤ 3
+ValidUpdate (Reset l) = isResetValue l ≡ true
 
 -- a unit that the layout allows on a chip whose node numbers are below limit
 pub record Valid (limit : ℕ) (u : Unit) : Type 0 where

@@ -3,7 +3,7 @@ ghost use mathlib.Core.Path.{_≡_};
 ghost use Prim.Native.Nat.{_<_, _≤_, _+_};
 ghost use lib.ListN.{length};
 ghost use Rattle.lists.specs.Lists.{patch};
-ghost use Rattle.pages.specs.Units.{half, word, decodeKind, decode, bytesOf, encode};
+ghost use Rattle.pages.specs.Units.{half, word, isResetValue, decodeKind, decode, bytesOf, encode};
 
 // What a unit does to its node.
 pub enum Update {
@@ -53,6 +53,16 @@ pub fn read_word(b: &[u8], at: usize) -> u32
     b0 + 256 * b1 + 65536 * b2 + 16777216 * b3
 }
 
+// Is this the value of a reset: a level, 0 to 3, or 255, which frees the node?
+pub fn is_reset_value(value: u32) -> bool
+    ensures { λ r. ⌜ r ≡ isResetValue value ⌝ }
+{
+    if value <= 3 {
+        return true;
+    }
+    value == 255
+}
+
 // The unit of a node, a kind, a key and a value, where they obey the layout.
 fn decode_kind(node: u32, kind: u8, key: u32, value: u32) -> Decoded
     ensures { λ r. ⌜ r ≡ decodeKind node kind key value ⌝ }
@@ -74,7 +84,7 @@ fn decode_kind(node: u32, kind: u8, key: u32, value: u32) -> Decoded
     }
     if kind == 3 {
         if key == 0 {
-            if value <= 3 {
+            if is_reset_value(value) {
                 return Decoded::Good(Unit {
                     node,
                     update: Update::Reset(value),

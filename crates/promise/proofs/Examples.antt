@@ -8,6 +8,8 @@ use lib.ListN.{replicate}
 use Rattle.chip.specs.declared.geometry.Nand.the-variants.{Small}
 use Rattle.views.specs.Nodes.{Entry, entry, untouched, view}
 use Rattle.tree.specs.Tree as T
+use Rattle.tree.specs.Insert as Ins
+use Rattle.tree.specs.Delete as Del
 use Rattle.promise.specs.Plain.{Call, formats, inserts, deletes, looksUp, commits, mounts, lookingUp, insertion, deletion, Answer, refuses, accepted, finds, lookedUp, Plain, Fed, Compared, plainRun, isChipSize, isTornSize, hasBlocks, verdict, leaf, resting, updated, committed, finished, off, cutOff, acceptedAnswer}
 use Rattle.promise.specs.Calls.{stateOf}
 use Rattle.promise.specs.Steps.{format, insert, delete, lookUp, commit, mount, Step, Only, starts, Formatted, Agrees}
@@ -67,10 +69,10 @@ abbrev pub entries : ℕ → ℕ → List Entry
 entries n zero = []
 entries n (suc c) = entry n n ∷ entries (suc n) c
 
--- a state on a chip of 3 blocks with one update pending: commit number G, and a full leaf where the last of the 24 numbers is taken
+-- a state on a chip of 3 blocks with one update pending: commit number G, and a full leaf where one of the 24 numbers is left
 abbrev pub late : ℕ → Plain
 late G =
-    let t = view 0 (entries 0 16) ∷ replicate 22 untouched ++ (view 0 [] ∷ []) in
+    let t = view 0 (entries 0 16) ∷ replicate 22 (view 0 []) ++ (untouched ∷ []) in
     record { kept = t; present = t; pending = 1; number = G; on = true; nand = Small; blocks = 3 }
 
 abbrev pub lateAnswers : ℕ → List Fed → List Answer
@@ -94,7 +96,7 @@ pub examples :
     × (answers [] (call (formats Small 2000 image page) ∷ call (commits 0 image page) ∷ []) ≡ accepted ∷ accepted ∷ [])
     × (lateAnswers 4294967295 (call (commits 2000 image page) ∷ call (mounts Small 255 image page) ∷ call (commits 2000 image page) ∷ []) ≡ refuses 6 ∷ accepted ∷ accepted ∷ [])
     × (lateAnswers 9 (call (inserts 16 0 image) ∷ call (inserts 15 0 image) ∷ call (looksUp 15 image) ∷ []) ≡ refuses 5 ∷ accepted ∷ finds 0 ∷ [])
-unfolding lookingUp insertion deletion isChipSize isTornSize hasBlocks verdict leaf resting updated committed finished off cutOff acceptedAnswer T.insert T.allowed T.inserted T.insertAt T.gain T.fitOrSplit T.halve T.raise T.find T.delete T.deleteAt
+unfolding lookingUp insertion deletion isChipSize isTornSize hasBlocks verdict leaf resting updated committed finished off cutOff acceptedAnswer Ins.insert Ins.allowed Ins.inserted Ins.insertAt Ins.gain Ins.fitOrSplit Ins.halve Ins.raise T.find Del.delete Del.deleteAt
 examples = (refl, refl, refl, refl, refl, refl, refl, refl, refl, refl, refl, refl, refl)
 
 -- ---- the sample store
@@ -137,7 +139,7 @@ pub sample-examples :
     × (map sampleAnswer (stepsOf lost s₀ i₀) ≡ accepted ∷ finds 99 ∷ refuses 10 ∷ refuses 2 ∷ accepted ∷ refuses 4 ∷ [])
     × (map sampleAnswer (stepsOf found s₀ i₀) ≡ accepted ∷ refuses 10 ∷ accepted ∷ finds 99 ∷ [])
     × (map sampleAnswer (stepsOf pulled s₀ i₀) ≡ accepted ∷ accepted ∷ accepted ∷ accepted ∷ finds 99 ∷ refuses 4 ∷ [])
-unfolding lookingUp insertion isChipSize isTornSize hasBlocks stateOf leaf T.insert T.allowed T.inserted T.insertAt T.gain T.fitOrSplit T.halve T.raise T.find
+unfolding lookingUp insertion isChipSize isTornSize hasBlocks stateOf leaf Ins.insert Ins.allowed Ins.inserted Ins.insertAt Ins.gain Ins.fitOrSplit Ins.halve Ins.raise T.find
 sample-examples = (refl, refl, refl, refl)
 
 -- and the promise is about these lists
@@ -146,11 +148,11 @@ unfolding isChipSize isTornSize
 formatted = record { allowance = 2000; torn = torn 90; before = start; was = chip; ops = 4; says = allowed (format Small 2000 (torn 90)) tt start chip }
 
 fine : Fine pulled s₀ i₀
-unfolding isChipSize isTornSize hasBlocks stateOf insertion T.insert T.allowed T.inserted T.insertAt leaf T.gain T.fitOrSplit
+unfolding isChipSize isTornSize hasBlocks stateOf insertion Ins.insert Ins.allowed Ins.inserted Ins.insertAt leaf Ins.gain Ins.fitOrSplit
 fine = (insert-proper 7 99, (tt, (insert-proper 8 1, ((tt, refl, accepted-not 1), (look-up-proper 7, (look-up-proper 8, tt))))))
 
 pub sample-agrees : Agrees sample (starts sample Small (leaf 3) 1 i₀) i₀ (stepsOf pulled s₀ i₀)
-unfolding isChipSize isTornSize hasBlocks stateOf insertion T.insert T.allowed T.inserted T.insertAt leaf T.gain T.fitOrSplit
+unfolding isChipSize isTornSize hasBlocks stateOf insertion Ins.insert Ins.allowed Ins.inserted Ins.insertAt leaf Ins.gain Ins.fitOrSplit
 sample-agrees =
     promise sample Small (leaf 3) 1 s₀ i₀ (stepsOf pulled s₀ i₀)
     (record { started = format-starts sample Small s₀ i₀ formatted; runs = runs pulled (Only sample s₀) s₀ i₀ refl fine; named = (refl, (refl, (refl, (refl, (refl, (refl, tt)))))); uncut = (refl, (refl, (refl, (refl, (refl, (refl, tt)))))) })
@@ -160,7 +162,7 @@ abbrev pub kept : List Order
 kept = next (insert 7 99) ∷ next (commit 2000 (torn 90)) ∷ next (insert 7 1) ∷ next (delete 9) ∷ reboot junk (mount Small 255 (torn 90)) ∷ next (lookUp 7) ∷ []
 
 kept-fine : Fine kept s₀ i₀
-unfolding lookingUp insertion deletion isChipSize isTornSize hasBlocks stateOf leaf T.insert T.allowed T.inserted T.insertAt T.gain T.fitOrSplit T.halve T.raise T.find
+unfolding lookingUp insertion deletion isChipSize isTornSize hasBlocks stateOf leaf Ins.insert Ins.allowed Ins.inserted Ins.insertAt Ins.gain Ins.fitOrSplit Ins.halve Ins.raise T.find
 kept-fine = (insert-proper 7 99, (tt, (insert-proper 7 1, (delete-proper 9, ((tt, refl, accepted-not 1), (look-up-proper 7, tt))))))
 
 -- the steps
@@ -183,7 +185,7 @@ abbrev sixth : Step sample
 sixth = stepOf (next (lookUp 7)) (fifth .state) (fifth .image)
 
 later : Later sample Small (leaf 3) 1 s₀ i₀ (first ∷ []) (third ∷ fourth ∷ fifth ∷ []) [] second sixth 7
-unfolding lookingUp insertion deletion isChipSize isTornSize hasBlocks verdict resting updated committed finished acceptedAnswer stateOf leaf T.insert T.allowed T.inserted T.insertAt T.gain T.fitOrSplit T.halve T.raise T.find
+unfolding lookingUp insertion deletion isChipSize isTornSize hasBlocks verdict resting updated committed finished acceptedAnswer stateOf leaf Ins.insert Ins.allowed Ins.inserted Ins.insertAt Ins.gain Ins.fitOrSplit Ins.halve Ins.raise T.find
 later =
     record {
       course = record { started = format-starts sample Small s₀ i₀ formatted; runs = runs kept (Only sample s₀) s₀ i₀ refl kept-fine; named = (refl, (refl, (refl, (refl, (refl, (refl, tt)))))); uncut = (refl, (refl, (refl, (refl, (refl, (refl, tt)))))) };
@@ -198,7 +200,7 @@ later =
     }
 
 finished-answer : second .answer ≡ accepted
-unfolding isChipSize isTornSize hasBlocks stateOf insertion T.insert T.allowed T.inserted T.insertAt leaf T.gain T.fitOrSplit
+unfolding isChipSize isTornSize hasBlocks stateOf insertion Ins.insert Ins.allowed Ins.inserted Ins.insertAt leaf Ins.gain Ins.fitOrSplit
 finished-answer = refl
 
 pub sample-durable : sixth .answer ≡ lookedUp (T.find 7 (plainAt sample Small (leaf 3) 1 i₀ (first ∷ []) .present))

@@ -7,6 +7,7 @@ use native.Mathlib.Omega.{arith}
 use Rattle.chip.specs.Geometry.{Nand}
 use Rattle.chip.specs.declared.geometry.Nand.the-variants.{Small}
 use Rattle.tree.specs.Tree as T
+use Rattle.tree.specs.Insert as Ins
 use Rattle.promise.specs.Plain.{firstRefusal, commits, forecasts, formats, inserts, mounts, lookingUp, insertion, deletion, Answer, refuses, accepted, finds, isChipSize, isTornSize, hasBlocks, lastNumber, verdict, leaf, resting, updated, finished, acceptedAnswer}
 use Rattle.promise.specs.Calls.{stateOf}
 use Rattle.promise.specs.Steps.{insert, delete, lookUp, forecast, commit, Step, Only}
@@ -25,7 +26,7 @@ pub plain-examples :
     (call (forecasts 0) ∷ call (formats Small 2000 image page) ∷ call (forecasts 0) ∷ call (forecasts 67584) ∷ call (forecasts image) ∷ call (inserts 7 99 image) ∷ call (forecasts image) ∷ [])
     ≡ refuses 2 ∷ accepted ∷ refuses 1 ∷ refuses 1 ∷ accepted ∷ accepted ∷ accepted ∷ [])
     × (lateAnswers lastNumber (call (forecasts image) ∷ call (mounts Small 255 image page) ∷ call (forecasts image) ∷ []) ≡ refuses 6 ∷ accepted ∷ accepted ∷ [])
-unfolding insertion isChipSize isTornSize hasBlocks verdict leaf resting updated finished acceptedAnswer T.insert T.allowed T.inserted T.insertAt T.gain T.fitOrSplit
+unfolding insertion isChipSize isTornSize hasBlocks verdict leaf resting updated finished acceptedAnswer Ins.insert Ins.allowed Ins.inserted Ins.insertAt Ins.gain Ins.fitOrSplit
 plain-examples = (refl, refl)
 
 -- ---- the sample store: answer and operations of a step
@@ -46,7 +47,7 @@ foretold n = before ++ (next forecast ∷ (between ++ (next (commit n (torn 90))
 pub forecast-examples :
     (map told (stepsOf (foretold 3) s₀ i₀) ≡ (accepted, 0) ∷ (accepted, 0) ∷ (accepted, 3) ∷ (finds 30, 0) ∷ (refuses 4, 0) ∷ (accepted, 3) ∷ (accepted, 0) ∷ [])
     × (map told (stepsOf (foretold 2) s₀ i₀) ≡ (accepted, 0) ∷ (accepted, 0) ∷ (accepted, 3) ∷ (finds 30, 0) ∷ (refuses 4, 0) ∷ (refuses 10, 2) ∷ (refuses 2, 0) ∷ [])
-unfolding lookingUp insertion deletion isChipSize isTornSize hasBlocks stateOf leaf T.insert T.allowed T.inserted T.insertAt T.gain T.fitOrSplit T.halve T.raise T.find
+unfolding lookingUp insertion deletion isChipSize isTornSize hasBlocks stateOf leaf Ins.insert Ins.allowed Ins.inserted Ins.insertAt Ins.gain Ins.fitOrSplit Ins.halve Ins.raise T.find
 forecast-examples = (refl, refl)
 
 -- and the law is about these lists, for any allowance
@@ -63,7 +64,7 @@ abbrev commitStep : ℕ → Step sample
 commitStep n = stepOf (next (commit n (torn 90))) (leaves between (forecastStep .state) (forecastStep .image)) (leavesImage between (forecastStep .state) (forecastStep .image))
 
 still : AllStill sample steps
-unfolding lookingUp insertion deletion isChipSize isTornSize hasBlocks stateOf leaf T.insert T.allowed T.inserted T.insertAt T.gain T.fitOrSplit T.halve T.raise T.find
+unfolding lookingUp insertion deletion isChipSize isTornSize hasBlocks stateOf leaf Ins.insert Ins.allowed Ins.inserted Ins.insertAt Ins.gain Ins.fitOrSplit Ins.halve Ins.raise T.find
 still =
     let look = stepOf (next (lookUp 3)) (forecastStep .state) (forecastStep .image) in
     let remove = stepOf (next (delete 9)) (look .state) (look .image) in (
@@ -73,7 +74,7 @@ still =
 
 -- the commit passes its first tests, whatever its allowance
 ready : (commitStep 0 .given .nand ≡ Small) × (commitStep 0 .given .on ≡ true) × (commitStep 0 .given .blocks ≡ 3) × (commitStep 0 .lent .size ≡ image)
-unfolding lookingUp insertion deletion isChipSize isTornSize hasBlocks stateOf leaf T.insert T.allowed T.inserted T.insertAt T.gain T.fitOrSplit T.halve T.raise T.find
+unfolding lookingUp insertion deletion isChipSize isTornSize hasBlocks stateOf leaf Ins.insert Ins.allowed Ins.inserted Ins.insertAt Ins.gain Ins.fitOrSplit Ins.halve Ins.raise T.find
 ready = (refl, refl, refl, refl)
 
 passes-by : (m : Nand) (on : Bool) (B size n : ℕ) → m ≡ Small → on ≡ true → B ≡ 3 → size ≡ image → firstRefusal m on B (commits n size page) ≡ 0
@@ -81,7 +82,7 @@ unfolding isChipSize isTornSize hasBlocks
 passes-by m on B size n a b c d = rw (a, b, c, d)
 
 pub sample-foresees : (n : ℕ) → Foresees (forecastStep .answer) (forecastStep .ops) n (commitStep n .answer) (commitStep n .ops)
-unfolding lookingUp insertion deletion isChipSize isTornSize hasBlocks stateOf leaf T.insert T.allowed T.inserted T.insertAt T.gain T.fitOrSplit T.halve T.raise T.find
+unfolding lookingUp insertion deletion isChipSize isTornSize hasBlocks stateOf leaf Ins.insert Ins.allowed Ins.inserted Ins.insertAt Ins.gain Ins.fitOrSplit Ins.halve Ins.raise T.find
 sample-foresees n =
     forecast-holds sample (Only sample s₀) i₀ (stepsOf before s₀ i₀) steps (stepOf (next forecast) (commitStep n .state) (commitStep n .image) ∷ []) forecastStep (commitStep n)
     (runs (foretold n) (Only sample s₀) s₀ i₀ refl (fine n)) refl still n (torn 90) refl refl (λ e. accepted-not 1 e)

@@ -9,7 +9,7 @@ use Rattle.lists.specs.Lists.{all, tab}
 use Rattle.chip.specs.Geometry.{Geometry, blocksOf}
 use Rattle.chip.specs.Chip.{pagesOf}
 use Rattle.pages.specs.Steps.{Stood, refused, stand, steps, commit, lastFrom}
-use Rattle.views.specs.Nodes.{View, untouched, broken, view}
+use Rattle.views.specs.Nodes.{View, untouched, freed, broken, view}
 use Rattle.views.specs.Table as Views
 use Rattle.views.proofs.Entries.{RisingView, FewView}
 use Rattle.views.proofs.Folds.{node-rising, node-few}
@@ -20,6 +20,7 @@ use Rattle.promise.specs.Image.{viewsOf, bySix, imageMeaning}
 
 fits-view : (w : View) → RisingView w → FewView w → NodeFits (entriesOf w)
 fits-view untouched r f = record { rising = tt; few = omega arith }
+fits-view freed r f = record { rising = tt; few = omega arith }
 fits-view broken r f = record { rising = tt; few = omega arith }
 fits-view (view l es) r f = record { rising = r; few = f }
 

@@ -5,6 +5,7 @@ pub mod Images
 pub mod Trees
 pub mod Values
 pub mod Durable
+pub mod Thickness
 pub mod Effects
 pub mod Figures
 pub mod Wear
@@ -14,6 +15,7 @@ pub mod Falls
 pub mod Sample
 pub mod Examples
 pub mod PartExamples
+pub mod ThickExamples
 pub mod FigureExamples
 pub mod WearExamples
 pub mod ForecastExamples

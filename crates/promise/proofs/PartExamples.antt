@@ -6,6 +6,7 @@ use Prim.Native.Nat.{ℕ}
 use lib.ListN.{replicate}
 use Rattle.chip.specs.declared.geometry.Nand.the-variants.{Small, Large}
 use Rattle.tree.specs.Tree as T
+use Rattle.tree.specs.Insert as Ins
 use Rattle.promise.specs.Plain.{formats, inserts, looksUp, commits, mounts, lookingUp, insertion, refuses, accepted, finds, isChipSize, isTornSize, hasBlocks, verdict, leaf, resting, updated, committed, finished, off, cutOff, acceptedAnswer}
 use Rattle.promise.specs.Calls.{stateOf}
 use Rattle.promise.specs.Steps.{format, insert, lookUp, commit, mount, Only, strays, promised, unpromised, modeFor, starts, Formatted, Agrees, AgreesAny}
@@ -35,7 +36,7 @@ pub part-examples :
     ∷ call (inserts 8 1 wide) ∷ call (commits 4000 wide page) ∷ call (commits 4000 wide widePage) ∷ call (mounts Large 255 wide widePage) ∷ call (looksUp 8 wide) ∷ [])
     ≡ accepted ∷ accepted ∷ accepted ∷ accepted ∷ refuses 4 ∷ accepted ∷ refuses 1 ∷ accepted ∷ accepted ∷ finds 1 ∷ [])
     × (answers [] (call (formats Large 4000 image widePage) ∷ call (formats Large 4000 wide page) ∷ []) ≡ refuses 1 ∷ refuses 1 ∷ [])
-unfolding lookingUp insertion isChipSize isTornSize hasBlocks verdict leaf resting updated committed finished off cutOff acceptedAnswer T.insert T.allowed T.inserted T.insertAt T.gain T.fitOrSplit T.halve T.raise T.find
+unfolding lookingUp insertion isChipSize isTornSize hasBlocks verdict leaf resting updated committed finished off cutOff acceptedAnswer Ins.insert Ins.allowed Ins.inserted Ins.insertAt Ins.gain Ins.fitOrSplit Ins.halve Ins.raise T.find
 part-examples = (refl, refl, refl, refl, refl)
 
 -- ---- the sample store on an image of that length, formatted as the small part
@@ -70,7 +71,7 @@ abbrev pub strayed : List Order
 strayed = next (mount Large 255 (wideTorn 90)) ∷ changed
 
 pub changed-examples : map sampleAnswer (stepsOf changed w₀ j₀) ≡ accepted ∷ accepted ∷ accepted ∷ accepted ∷ finds 99 ∷ []
-unfolding lookingUp insertion isChipSize isTornSize hasBlocks stateOf leaf T.insert T.allowed T.inserted T.insertAt T.gain T.fitOrSplit T.halve T.raise T.find
+unfolding lookingUp insertion isChipSize isTornSize hasBlocks stateOf leaf Ins.insert Ins.allowed Ins.inserted Ins.insertAt Ins.gain Ins.fitOrSplit Ins.halve Ins.raise T.find
 changed-examples = refl
 
 -- and the promise is about these lists
@@ -79,11 +80,11 @@ unfolding isChipSize isTornSize
 wide-formatted = record { allowance = 2000; torn = torn 90; before = start; was = wideChip; ops = 4; says = allowed (format Small 2000 (torn 90)) tt start wideChip }
 
 changed-fine : Fine changed w₀ j₀
-unfolding isChipSize isTornSize hasBlocks stateOf insertion T.insert T.allowed T.inserted T.insertAt leaf T.gain T.fitOrSplit
+unfolding isChipSize isTornSize hasBlocks stateOf insertion Ins.insert Ins.allowed Ins.inserted Ins.insertAt leaf Ins.gain Ins.fitOrSplit
 changed-fine = (tt, (insert-proper 7 99, (tt, ((tt, refl, accepted-not 1), (look-up-proper 7, tt)))))
 
 pub changed-agrees : Agrees sample (starts sample Small (leaf 24) 1 j₀) j₀ (stepsOf changed w₀ j₀)
-unfolding isChipSize isTornSize hasBlocks stateOf insertion T.insert T.allowed T.inserted T.insertAt leaf T.gain T.fitOrSplit
+unfolding isChipSize isTornSize hasBlocks stateOf insertion Ins.insert Ins.allowed Ins.inserted Ins.insertAt leaf Ins.gain Ins.fitOrSplit
 changed-agrees =
     promise sample Small (leaf 24) 1 w₀ j₀ (stepsOf changed w₀ j₀)
     (record {
@@ -94,7 +95,7 @@ changed-agrees =
     })
 
 strayed-fine : Fine strayed w₀ j₀
-unfolding isChipSize isTornSize hasBlocks stateOf insertion T.insert T.allowed T.inserted T.insertAt leaf T.gain T.fitOrSplit
+unfolding isChipSize isTornSize hasBlocks stateOf insertion Ins.insert Ins.allowed Ins.inserted Ins.insertAt leaf Ins.gain Ins.fitOrSplit
 strayed-fine = (tt, (tt, (insert-proper 7 99, (tt, ((tt, refl, accepted-not 1), (look-up-proper 7, tt))))))
 
 pub strayed-agrees : AgreesAny sample (promised (starts sample Small (leaf 24) 1 j₀)) j₀ (stepsOf strayed w₀ j₀)

@@ -607,7 +607,7 @@ module _ (S : Store) where
   cond-true true d e = (refl, e)
   cond-true false d e = clash e refl
 
-  format-again : (nand : Nand) (n : ℕ) (torn : List ℕ) (i : S .Image) (x : Step S) → x .answer ≡ accepted
+  pub format-again : (nand : Nand) (n : ℕ) (torn : List ℕ) (i : S .Image) (x : Step S) → x .answer ≡ accepted
       → Format S nand n torn (x .given) (x .lent) accepted (x .ops) (x .state) (x .left) → Lends S i x → Formatted S nand (x .state) (x .image)
   format-again nand n torn i x a c (one h f) =
       subst (Formatted S nand (x .state)) (sym f) (record { allowance = n; torn = torn; before = x .given; was = x .lent; ops = x .ops; says = c })

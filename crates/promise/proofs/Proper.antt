@@ -6,8 +6,9 @@ use Prim.Native.Nat.{ℕ, suc, _*_}
 use lib.Dec.{eqb}
 use borrow.Author.Tests.{not-true, eqb-true, eq-eqb}
 use Rattle.lists.proofs.Tests.{cases, clash, and-left, and-right}
-use Rattle.tree.specs.Tree.{Found, absent, found, find, insert}
-use Rattle.promise.specs.Plain.{when, isAbsent, isRefused, lookedUp, lookingUp, insertion, deletion}
+use Rattle.tree.specs.Tree.{Found, absent, found, find, isAbsent}
+use Rattle.tree.specs.Insert.{insert}
+use Rattle.promise.specs.Plain.{when, isRefused, lookedUp, lookingUp, insertion, deletion}
 use Rattle.promise.specs.Calls.{isOneOf, tellsOr, ProperRead, ProperUpdate}
 use Rattle.promise.proofs.Promise.{when-is}
 

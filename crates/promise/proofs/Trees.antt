@@ -1,5 +1,5 @@
--- Inserts and deletes of keys of 32 bits are lawful updates: they make trees of trees, and say what becomes of each key. Assumes nothing.
-use mathlib.Core.Path.{_≡_, refl, sym, ap, _∙_, subst}
+-- Inserts and deletes of keys of 32 bits are lawful updates: they make trees of trees, and say what becomes of each key; and thick trees stay thick. Assumes nothing.
+use mathlib.Core.Path.{_≡_, refl, ap, _∙_, subst}
 use mathlib.Core.Bool.{true, false}
 use Prim.Native.Nat.{ℕ, zero, suc, _*_, _-_, _<_, _≤_}
 use native.Mathlib.Omega.{arith}
@@ -8,13 +8,15 @@ use lib.ListN.{length, replicate, length-replicate}
 use borrow.Author.Tests.{eqb-true, eqb-false}
 use Rattle.lists.proofs.Tests.{cases}
 use Rattle.views.specs.Nodes.{untouched}
-use Rattle.tree.specs.Tree.{Table, next, TreeStep, refusal, done, insert, delete, find}
+use Rattle.tree.specs.Tree.{Table, next, find}
+use Rattle.tree.specs.Insert.{TreeStep, refusal, done, insert}
+use Rattle.tree.specs.Delete.{delete}
 use Rattle.tree.specs.Step6.{top}
-use Rattle.tree.proofs.Laws.{first-tree, delete-keeps, insert-done, find-inserted, find-inserted-other, find-deleted, find-deleted-other}
-use Rattle.tree.proofs.Lengths.{insert-keeps}
-use Rattle.tree.proofs.Units.{delete-units}
+use Rattle.tree.specs.Thick.{Thick}
+use Rattle.tree.proofs.Laws.{first-tree, first-thick, inserted-thick, insert-done, insert-keeps, find-inserted, find-inserted-other, delete-keeps, delete-level, delete-next, delete-thick, delete-units, find-deleted, find-deleted-other}
 use Rattle.promise.specs.Plain.{when, isRefused, tableAfter, saidIf, holds, gone, insertion, deletion, leaf}
 use Rattle.promise.specs.History.{TreeOf, afterSaid, Lawful}
+use Rattle.promise.specs.Thickness.{ThickTree, KeepsThick}
 
 none-next : (m : ℕ) → next (replicate m untouched) ≡ 0
 none-next zero = refl
@@ -38,12 +40,12 @@ insert-by B k v t (done u) e T h =
 
 delete-tree : (B k : ℕ) (t : Table) → TreeOf B t → k < top → TreeOf B (delete k t)
 delete-tree B k t T h =
-    let E = delete-units k t (T .tree) h in
+    let E = delete-units k t (T .tree) h (T .levels) in
     record {
       tree = delete-keeps k t (T .tree) h .tree;
       size = E .long ∙ T .size;
-      numbers = rw (E .same) (T .numbers);
-      levels = subst (λ (l : ℕ). l ≤ 3) (sym (E .levels 0)) (T .levels);
+      numbers = omega (arith, delete-next k t (T .tree) h, T .numbers);
+      levels = omega (arith, delete-level k t (T .tree) h, T .levels);
     }
 
 insert-value : (B j v k : ℕ) (t : Table) (r : TreeStep) → insert (8 * B) j v t ≡ r → when 5 (isRefused r) ≡ 0 → TreeOf B t → j < top → k < top
@@ -72,3 +74,25 @@ delete-value B j k t T a b =
 pub delete-lawful : (k : ℕ) → k < top → Lawful (deletion k)
 unfolding deletion
 delete-lawful k h = record { tree = λ B t T r. delete-tree B k t T h; value = λ B t j T r b. delete-value B k j t T h b }
+
+-- ---- thick trees
+pub leaf-thick : (c B : ℕ) → 0 < B → ThickTree c B (leaf B)
+unfolding leaf
+leaf-thick c B h = record { tree = leaf-tree B h; thick = first-thick c (8 * B - 1) }
+
+insert-thick-by : (c B k v : ℕ) (t : Table) (r : TreeStep) → insert (8 * B) k v t ≡ r → c ≤ 8 → k < top → ThickTree c B t → Thick c (tableAfter t r)
+insert-thick-by c B k v t (refusal n) e l h T = T .thick
+insert-thick-by c B k v t (done u) e l h T =
+    subst (λ (w : Table). Thick c w) (insert-done (8 * B) k v t u e .0) (inserted-thick c k v t (T .tree .tree) h l (T .thick))
+
+pub insert-keeps-thick : (c k v : ℕ) → c ≤ 8 → k < top → KeepsThick c (insertion k v)
+unfolding insertion
+insert-keeps-thick c k v l h B t T r =
+    record {
+      tree = insert-by B k v t (insert (8 * B) k v t) refl (T .tree) h;
+      thick = insert-thick-by c B k v t (insert (8 * B) k v t) refl l h T;
+    }
+
+pub delete-keeps-thick : (c k : ℕ) → c ≤ 8 → k < top → KeepsThick c (deletion k)
+unfolding deletion
+delete-keeps-thick c k l h B t T r = record { tree = delete-tree B k t (T .tree) h; thick = delete-thick c k t (T .tree .tree) h l (T .thick .nodes) }

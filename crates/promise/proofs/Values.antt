@@ -8,10 +8,10 @@ use lib.Dec.{ltb}
 use lib.ListN.{length}
 use borrow.Author.Tests.{ltb-true, ltb-false}
 use Rattle.lists.proofs.Tests.{cases, clash}
-use Rattle.chip.specs.Geometry.{Nand, geometryOf, blocksOf}
+use Rattle.chip.specs.Geometry.{Geometry, Nand, geometryOf, blocksOf}
 use Rattle.tree.specs.Tree.{Table, find}
 use Rattle.tree.specs.Step6.{top}
-use Rattle.promise.specs.Plain.{Plain, orElse, when, UpdateCall, Call, reads, updates, forecasts, formats, commits, mounts, isChipSize, isTornSize, firstRefusal, numbersRefusal, laterRefusal, refusalOf, mayCut, cut, passed, judge, verdict, leaf, resting, updated, committed, finished, off, cutOff, after, afterBy}
+use Rattle.promise.specs.Plain.{Plain, orElse, when, UpdateCall, Call, reads, updates, forecasts, formats, commits, mounts, isChipSize, isTornSize, startRefusal, firstRefusal, numbersRefusal, laterRefusal, refusalOf, mayCut, cut, passed, judge, verdict, leaf, resting, updated, committed, finished, off, cutOff, after, afterBy}
 use Rattle.promise.specs.Calls.{Store}
 use Rattle.promise.specs.Steps.{Act, read, update, forecast, format, commit, mount, fed, isTen, Step, counts, starts, next, lastPlain}
 use Rattle.promise.specs.History.{TreeOf, afterSaid, Lawful, LawfulAct, valueOf, Silent, History, begun, flushed, dropped, historyAfter, nextHistory, lastHistory, AllLawful}
@@ -29,6 +29,11 @@ empty-of (u ∷ us) e = absurd (omega arith)
 chip-of : (c t : Bool) → when 1 (not (c && t)) ≡ 0 → c ≡ true
 chip-of true t e = refl
 chip-of false t e = absurd (omega arith)
+
+-- what a format is not refused with 1 for has blocks
+pub chip-blocks : (g : Geometry) (image torn : ℕ) → startRefusal g image torn ≡ 0 → 0 < blocksOf g image
+unfolding isChipSize
+chip-blocks g image torn e = ltb-true 0 (blocksOf g image) (chip-of (ltb 0 (blocksOf g image)) (isTornSize g torn) e)
 
 -- the plain store p is what its history l says: trees, with the values of the newest updates
 pub record Tells (p : Plain) (l : History) : Type 0 where
@@ -101,7 +106,7 @@ tells-mounted nand p l h =
     record { kept = h .kept; present = h .kept; keptValue = h .keptValue; presentValue = λ o. h .keptValue; count = λ o. refl; rests = λ o z. refl }
 
 tells-finished : (w : Bool) (p : Plain) (c : Call) (l : History) → refusalOf p c ≡ 0 → LawfulCall c → Tells p l → Tells (finished p c) (historyAfter passed w c l)
-unfolding finished isChipSize
+unfolding finished
 tells-finished w p (reads r image) l e k h = h
 tells-finished w p (updates u image) l e k h =
     let b = or-zero (firstRefusal (p .nand) (p .on) (p .blocks) (updates u image)) (laterRefusal p (updates u image)) e in
@@ -110,7 +115,7 @@ tells-finished w p (forecasts image) l e k h = h
 tells-finished w p (formats nand a image torn) l e k h =
     let b = or-zero (firstRefusal (p .nand) (p .on) (p .blocks) (formats nand a image torn)) 0 e in
     let B = blocksOf (geometryOf nand) image in
-    tells-resting nand (leaf B) 1 B (leaf-tree B (ltb-true 0 B (chip-of (ltb 0 B) (isTornSize (geometryOf nand) torn) (b .0))))
+    tells-resting nand (leaf B) 1 B (leaf-tree B (chip-blocks (geometryOf nand) image torn (b .0)))
 tells-finished w p (commits a image torn) l e k h =
     let b = or-zero (firstRefusal (p .nand) (p .on) (p .blocks) (commits a image torn)) (laterRefusal p (commits a image torn)) e in
     let o = on-of (p .on) _ (b .0) in

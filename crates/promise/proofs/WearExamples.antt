@@ -6,6 +6,7 @@ use native.Mathlib.Omega.{arith}
 use Rattle.chip.specs.declared.geometry.Nand.the-variants.{Small}
 use Rattle.chip.specs.Erases.{erasesIn}
 use Rattle.tree.specs.Tree as T
+use Rattle.tree.specs.Insert as Ins
 use Rattle.promise.specs.Plain.{cuts, insertion, deletion, refuses, accepted, isChipSize, isTornSize, hasBlocks, leaf}
 use Rattle.promise.specs.Calls.{stateOf}
 use Rattle.promise.specs.Steps.{insert, delete, commit, mount, Step, Only, feeds}
@@ -56,17 +57,17 @@ pub wear-examples :
     × (erasesIn 1 (doneBy sample firstCommit) ≡ 1)
     × (erasesIn 1 (doneBy sample lastCommit) ≡ 1)
     × (finishedCommits sample (firstCommit ∷ steps) ≡ 3)
-unfolding insertion deletion isChipSize isTornSize hasBlocks stateOf leaf T.insert T.allowed T.inserted T.insertAt T.gain T.fitOrSplit T.halve T.raise T.find
+unfolding insertion deletion isChipSize isTornSize hasBlocks stateOf leaf Ins.insert Ins.allowed Ins.inserted Ins.insertAt Ins.gain Ins.fitOrSplit Ins.halve Ins.raise T.find
 wear-examples = (refl, refl, refl, refl, refl, refl, refl)
 
 -- and the laws are about this list
 worn-fine : Fine worn s₀ i₀
-unfolding insertion deletion isChipSize isTornSize hasBlocks stateOf leaf T.insert T.allowed T.inserted T.insertAt T.gain T.fitOrSplit T.halve T.raise T.find
+unfolding insertion deletion isChipSize isTornSize hasBlocks stateOf leaf Ins.insert Ins.allowed Ins.inserted Ins.insertAt Ins.gain Ins.fitOrSplit Ins.halve Ins.raise T.find
 worn-fine =
     (insert-proper 3 30, (tt, (insert-proper 4 40, (tt, (delete-proper 6, ((tt, refl, accepted-not 1), (tt, (insert-proper 5 50, (tt, (insert-proper 6 60, (tt, tt)))))))))))
 
 unbroken : Unbroken sample s₀ i₀ (stepsOf worn s₀ i₀)
-unfolding insertion deletion isChipSize isTornSize hasBlocks stateOf leaf T.insert T.allowed T.inserted T.insertAt T.gain T.fitOrSplit T.halve T.raise T.find
+unfolding insertion deletion isChipSize isTornSize hasBlocks stateOf leaf Ins.insert Ins.allowed Ins.inserted Ins.insertAt Ins.gain Ins.fitOrSplit Ins.halve Ins.raise T.find
 unbroken =
     record {
       good = (refl, refl);
@@ -91,16 +92,16 @@ pub cut-examples :
     × (finishedCommits sample (stepsOf cutWorn s₀ i₀) ≡ 1)
     × (cuts (feeds sample (stepsOf cutWorn s₀ i₀)) ≡ 1)
     × (map (λ b. wholeErases sample b (stepsOf cutWorn s₀ i₀)) (0 ∷ 1 ∷ 2 ∷ []) ≡ 0 ∷ 2 ∷ 0 ∷ [])
-unfolding insertion deletion isChipSize isTornSize hasBlocks stateOf leaf T.insert T.allowed T.inserted T.insertAt T.gain T.fitOrSplit T.halve T.raise T.find
+unfolding insertion deletion isChipSize isTornSize hasBlocks stateOf leaf Ins.insert Ins.allowed Ins.inserted Ins.insertAt Ins.gain Ins.fitOrSplit Ins.halve Ins.raise T.find
 cut-examples = (refl, refl, refl, refl)
 
 -- the law is about this list, and says no more than it does: twice 2 is 1 and 1 and twice 1
 cut-fine : Fine cutWorn s₀ i₀
-unfolding insertion deletion isChipSize isTornSize hasBlocks stateOf leaf T.insert T.allowed T.inserted T.insertAt T.gain T.fitOrSplit T.halve T.raise T.find
+unfolding insertion deletion isChipSize isTornSize hasBlocks stateOf leaf Ins.insert Ins.allowed Ins.inserted Ins.insertAt Ins.gain Ins.fitOrSplit Ins.halve Ins.raise T.find
 cut-fine = (insert-proper 3 30, (tt, ((tt, refl, accepted-not 1), (insert-proper 3 30, (tt, tt)))))
 
 pub sample-few : (b : ℕ) → 2 * wholeErases sample b (stepsOf cutWorn s₀ i₀) ≤ suc (finishedCommits sample (stepsOf cutWorn s₀ i₀) + 2 * cuts (feeds sample (stepsOf cutWorn s₀ i₀)))
-unfolding insertion deletion isChipSize isTornSize hasBlocks stateOf leaf T.insert T.allowed T.inserted T.insertAt T.gain T.fitOrSplit T.halve T.raise T.find
+unfolding insertion deletion isChipSize isTornSize hasBlocks stateOf leaf Ins.insert Ins.allowed Ins.inserted Ins.insertAt Ins.gain Ins.fitOrSplit Ins.halve Ins.raise T.find
 sample-few =
     erases-few sample s₀ i₀ (stepsOf cutWorn s₀ i₀) (refl, refl) (runs cutWorn (Only sample s₀) s₀ i₀ refl cut-fine)
     (refl, (refl, (refl, (refl, (refl, tt))))) (refl, (refl, (refl, (refl, (refl, tt))))) (refl, (refl, (refl, (refl, (refl, tt)))))

@@ -12,7 +12,7 @@ use Rattle.promise.specs.Plain.{Plain, UpdateCall, Said, nothing, holds,
 use Rattle.promise.specs.Calls.{Store}
 use Rattle.promise.specs.Steps.{Act, read, update, forecast, format, commit, mount, Step, fed, isTen, counts, next}
 
--- a tree of a chip with B blocks
+-- a tree of a chip with B blocks; `next` is the greatest number of a node, plus 1
 pub record TreeOf (B : ℕ) (t : Table) : Type 0 where
   pub tree : Tree t
   pub size : length t ≡ 8 * B
@@ -30,13 +30,17 @@ pub record Lawful (u : UpdateCall) : Type 0 where
   pub tree : (B : ℕ) (t : Table) → TreeOf B t → u .refusal B t ≡ 0 → TreeOf B (u .step B t)
   pub value : (B : ℕ) (t : Table) (k : ℕ) → TreeOf B t → u .refusal B t ≡ 0 → k < top → find k (u .step B t) ≡ afterSaid (u .says k) (find k t)
 
+-- a call of which Q holds, if it is an update
+abbrev pub OfUpdate : (UpdateCall → Type 0) → Act → Type 0
+OfUpdate Q (read r) = Unit {0}
+OfUpdate Q (update u) = Q u
+OfUpdate Q forecast = Unit {0}
+OfUpdate Q (format n a torn) = Unit {0}
+OfUpdate Q (commit a torn) = Unit {0}
+OfUpdate Q (mount n a torn) = Unit {0}
+
 abbrev pub LawfulAct : Act → Type 0
-LawfulAct (read r) = Unit {0}
-LawfulAct (update u) = Lawful u
-LawfulAct forecast = Unit {0}
-LawfulAct (format n a torn) = Unit {0}
-LawfulAct (commit a torn) = Unit {0}
-LawfulAct (mount n a torn) = Unit {0}
+LawfulAct x = OfUpdate Lawful x
 
 -- the value of a key after the updates: what the newest that speaks of it says, or what was there before
 abbrev pub valueOf : ℕ → Table → List UpdateCall → Found
@@ -92,6 +96,10 @@ module _ (S : Store) where
   abbrev pub since : Plain → S .Image → List (Step S) → History
   since p i xs = lastHistory p i xs (begun [])
 
+-- a list of which Q holds of every update
+abbrev pub AllUpdates : (S : Store) → (UpdateCall → Type 0) → List (Step S) → Type 0
+AllUpdates S Q [] = Unit {0}
+AllUpdates S Q (x ∷ xs) = OfUpdate Q (x .act) × AllUpdates S Q xs
+
 abbrev pub AllLawful : (S : Store) → List (Step S) → Type 0
-AllLawful S [] = Unit {0}
-AllLawful S (x ∷ xs) = LawfulAct (x .act) × AllLawful S xs
+AllLawful S xs = AllUpdates S Lawful xs

@@ -8,7 +8,9 @@ use lib.ListN.{replicate}
 use Rattle.chip.specs.Geometry.{Geometry, Nand, geometryOf, pageSize, blocksOf}
 use Rattle.chip.specs.declared.geometry.Nand.the-variants.{Small, Large}
 use Rattle.views.specs.Nodes.{untouched, view}
-use Rattle.tree.specs.Tree.{Table, Found, absent, found, TreeStep, refusal, done, insert, delete, find}
+use Rattle.tree.specs.Tree.{Table, Found, absent, found, isAbsent, find}
+use Rattle.tree.specs.Insert.{TreeStep, refusal, done, insert}
+use Rattle.tree.specs.Delete.{delete}
 
 -- ---- an answer: a refusal's number, or that there is none, and what a read tells
 pub data Answer : Type 0 where
@@ -39,10 +41,6 @@ orElse (suc m) n = suc m
 abbrev pub when : ℕ → Bool → ℕ
 when n true = n
 when n false = 0
-
-abbrev pub isAbsent : Found → Bool
-isAbsent absent = true
-isAbsent (found v) = false
 
 abbrev pub isRefused : TreeStep → Bool
 isRefused (refusal n) = true
@@ -94,7 +92,7 @@ lookedUp (found v) = finds v
 unfoldable pub lookingUp : ℕ → ReadCall
 lookingUp k = record { numbers = 4 ∷ []; answer = λ p. lookedUp (find k (p .present)) }
 
--- insert: 5 by the tree step; node numbers are below 8 × B
+-- insert: 5 by the tree step, when it needs more node numbers than are left below 8 × B, or a root above level 3
 unfoldable pub insertion : ℕ → ℕ → UpdateCall
 insertion k v =
     record {
@@ -104,7 +102,7 @@ insertion k v =
       says = λ j. saidIf (eqb k j) (holds v);
     }
 
--- delete: 4 key absent
+-- delete: 4 key absent; else the tree step, with its joins
 unfoldable pub deletion : ℕ → UpdateCall
 deletion k =
     record {

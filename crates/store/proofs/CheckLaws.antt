@@ -12,7 +12,7 @@ use Rattle.lists.specs.Lists.{All, all, filter, part, sort, tab}
 use Rattle.lists.proofs.Tests.{cases, and-left, and-right}
 use Rattle.lists.proofs.Alls.{All-head, All-left, All-right}
 use Rattle.lists.proofs.Ends.{End, nil, snoc, endOf}
-use Rattle.lists.proofs.Flats.{map-append, tab-same, tab-all, getD-tab}
+use Rattle.lists.proofs.Flats.{map-append, tab-same, tab-all, getD-tab, length-tab}
 use Rattle.lists.proofs.Sorts.{All-sort}
 use Rattle.chip.specs.Geometry.{Geometry, Fits, blocksOf, mostPages, pageSize}
 use Rattle.chip.specs.Page.{Page}
@@ -23,6 +23,7 @@ use Rattle.pages.specs.KeyCode.{keyOf, Shown, Says}
 use Rattle.pages.proofs.KeyLaws.{Bounded, image-bounded, key-commit}
 use Rattle.pages.proofs.Order.{chain}
 use Rattle.pages.proofs.Pairs.{own, ordered-is, steps-ordered}
+use Rattle.numbers.specs.NumberSet.{wordsOf, uncounted}
 use Rattle.views.specs.Table as Views
 use Rattle.views.specs.Table.{Node, fresh, events, table, nodeOf, isSound, isWell, readStood, read}
 use Rattle.views.specs.Stored.{Stores, storedList, listView, bufferView, nodeView}
@@ -32,14 +33,15 @@ use Rattle.views.proofs.Meanings.{inOrder, stood}
 use Rattle.views.proofs.ViewLaws.{view-listed}
 use Rattle.tree.specs.Step6.{step6}
 use Rattle.tree.specs.Shown.{shown}
-use Rattle.tree.specs.CheckCode.{pagesTable}
+use Rattle.tree.specs.Free.{freeNumbers}
+use Rattle.tree.specs.CheckCode.{pagesTable, ChecksTree}
 use Rattle.log.specs.Mount.{lowerPlace, mountOps, retire}
 use Rattle.log.specs.Plan.{nodeAt}
 use Rattle.log.proofs.Voids.{Found, found}
 use Rattle.log.proofs.MountLaws.{void-pages, void-scan}
 use Rattle.promise.specs.Calls.{invalid}
 use Rattle.promise.specs.Image.{viewsOf, bySix, imageMeaning}
-use Rattle.store.proofs.BegunViews.{map-tab}
+use Rattle.store.proofs.SettledViews.{map-tab}
 use Rattle.store.proofs.SizeLaws.{chip-pages}
 use Rattle.store.specs.declared.check.Judged.the-variants as J
 use Rattle.store.specs.AdmitCode.{ChipOf}
@@ -69,15 +71,25 @@ module _ (g : Geometry) (image lens slots : List ℕ) (limit : ℕ) (few : limit
   pub judged-layout : r ≡ false → isRead limit xs ≡ false
   judged-layout e = sym (t .good) ∙ e
 
-  module _ (e : r ≡ true) (q : Bool) (k : q ≡ step6 (pagesTable g image lens slots limit)) where
+  module _ (e : r ≡ true) (counts : List ℕ) (q : Bool) (k : ChecksTree (pagesTable g image lens slots limit) counts q) where
+    same-views : pagesTable g image lens slots limit ≡ viewsOf (table limit (events limit xs))
+    same-views = views-listed g image lens slots limit few v xs st (sym (t .good) ∙ e) (t .lists e)
+
     judged-same : q ≡ isTree limit xs
-    judged-same = k ∙ ap step6 (views-listed g image lens slots limit few v xs st (sym (t .good) ∙ e) (t .lists e))
+    judged-same = k .is ∙ ap step6 same-views
+
+    -- the numbers counted by the walk are those that no node has
+    judged-free : q ≡ true → (free : List ℕ) → free ≡ wordsOf (uncounted limit counts) → free ≡ freeNumbers (viewsOf (table limit (events limit xs)))
+    unfolding freeNumbers shown
+    judged-free h free f =
+        f ∙ ap (λ (n : ℕ). wordsOf (uncounted n counts)) (sym (length-tab (nodeView g limit (pagesOf g image) lens slots 0 []) 0 limit))
+        ∙ ap wordsOf (sym (k .counted h)) ∙ ap freeNumbers same-views
 
     pub judged-shape : q ≡ false → (isRead limit xs ≡ true) × (isTree limit xs ≡ false)
     judged-shape h = (sym (t .good) ∙ e, sym judged-same ∙ h)
 
-    pub judged-tree : q ≡ true → Passed limit xs lens slots
-    judged-tree h = record { read = sym (t .good) ∙ e; tree = sym judged-same ∙ h; lists = t .lists e }
+    pub judged-tree : q ≡ true → (free : List ℕ) → free ≡ wordsOf (uncounted limit counts) → Passed limit xs lens slots free
+    judged-tree h free f = record { read = sym (t .good) ∙ e; tree = sym judged-same ∙ h; lists = t .lists e; numbers = judged-free h free f }
 
 -- ---- steps 1 to 3 refuse with 7 or 8
 without-number : (w r : List Live) (n : ℕ) → without w r ≡ refused n → (n ≡ 7 → ⊥) → n ≡ 8
@@ -104,9 +116,9 @@ refused-number g ps n e d =
     (λ t. let l : refused 8 ≡ refused n = (rw t at k) in let q : 8 ≡ n = cc in sym q)
 
 -- such an image means the refusal
-pub refused-checks : (g : Geometry) (image lens slots : List ℕ) (n : ℕ) → steps g (pagesOf g image) ≡ refused n → Checks g image lens slots (refusedBy n)
+pub refused-checks : (g : Geometry) (image lens slots free : List ℕ) (n : ℕ) → steps g (pagesOf g image) ≡ refused n → Checks g image lens slots free (refusedBy n)
 unfolding imageMeaning Views.meaning
-refused-checks g image lens slots n e =
+refused-checks g image lens slots free n e =
     let limit = 8 * blocksOf g (length image) in
     let m : imageMeaning g image ≡ invalid n = ap (λ (s : Stood). bySix (readStood limit s)) e in
     cases (eqb n 7)
@@ -244,7 +256,7 @@ module _ (g : Geometry) (image order : List ℕ) (first voids : ℕ) (bytes : (i
       let d : eqb (parts .c) 0 ≡ false = ne-eqb (parts .c) 0 (λ q. omega (arith, parts .voided .above)) in
       rw (t, n, d) (ap (map retire) (void-scan g ps v xs st (parts .c) (parts .newest)))
 
-  module _ (limit : ℕ) (is : limit ≡ 8 * blocksOf g (length image)) (few : limit ≤ 256) (lens slots : List ℕ) where
+  module _ (limit : ℕ) (is : limit ≡ 8 * blocksOf g (length image)) (few : limit ≤ 256) (lens slots free : List ℕ) where
     pub layout-checks : isRead limit xs ≡ false → imageMeaning g image ≡ invalid 8
     unfolding imageMeaning
     layout-checks e =
@@ -257,7 +269,7 @@ module _ (g : Geometry) (image order : List ℕ) (first voids : ℕ) (bytes : (i
         let e = h .1 in
         ap (λ (n : ℕ). bySix (Views.meaning g n ps)) (sym is) ∙ ap bySix (meaning-read limit (h .0)) ∙ rw e
 
-    pub tree-checks : Passed limit xs lens slots → Checks g image lens slots (meansBy order voids)
+    pub tree-checks : Passed limit xs lens slots free → Checks g image lens slots free (meansBy order voids)
     tree-checks p =
         record {
           nodes = table limit (events limit xs);
@@ -268,6 +280,7 @@ module _ (g : Geometry) (image order : List ℕ) (first voids : ℕ) (bytes : (i
               let d : nodeAt (table limit (events limit xs)) n ≡ nodeOf n (events limit xs)
               = getD-tab (λ (j : ℕ). nodeOf j (events limit xs)) 0 limit n fresh (omega arith) ∙ ap (λ (j : ℕ). nodeOf j (events limit xs)) z in
               rw d (p .lists n (omega arith));
+          numbers = p .numbers;
           marks = marks-by (endOf v) refl;
         }
 
@@ -302,18 +315,18 @@ module _ (g : Geometry) (fit : Fits g) (image order : List ℕ) (first voids blo
   pub stands-numbered : Numbered order voids
   stands-numbered = numbered g image order first voids bytes pages-few (t .v) (t .xs) (t .is) (t .keys)
 
-  module _ (lens slots : List ℕ) where
-    pub stands-layout : JudgesKeys g image (part first (mostPages - voids - first) order) (8 * blocks) lens slots J.Layout → imageMeaning g image ≡ invalid 8
+  module _ (lens slots free : List ℕ) where
+    pub stands-layout : JudgesKeys g image (part first (mostPages - voids - first) order) (8 * blocks) lens slots free J.Layout → imageMeaning g image ≡ invalid 8
     stands-layout j =
-        layout-checks g image order first voids bytes pages-few (t .v) (t .xs) (t .is) (t .keys) (8 * blocks) (ap (λ (b : ℕ). 8 * b) (chip .blocks)) nodes-few lens slots
+        layout-checks g image order first voids bytes pages-few (t .v) (t .xs) (t .is) (t .keys) (8 * blocks) (ap (λ (b : ℕ). 8 * b) (chip .blocks)) nodes-few lens slots free
         (j (t .v) (t .xs) (t .is) (keys-part order first voids (t .v) (t .xs) (t .keys)))
 
-    pub stands-shape : JudgesKeys g image (part first (mostPages - voids - first) order) (8 * blocks) lens slots J.Shape → imageMeaning g image ≡ invalid 9
+    pub stands-shape : JudgesKeys g image (part first (mostPages - voids - first) order) (8 * blocks) lens slots free J.Shape → imageMeaning g image ≡ invalid 9
     stands-shape j =
-        shape-checks g image order first voids bytes pages-few (t .v) (t .xs) (t .is) (t .keys) (8 * blocks) (ap (λ (b : ℕ). 8 * b) (chip .blocks)) nodes-few lens slots
+        shape-checks g image order first voids bytes pages-few (t .v) (t .xs) (t .is) (t .keys) (8 * blocks) (ap (λ (b : ℕ). 8 * b) (chip .blocks)) nodes-few lens slots free
         (j (t .v) (t .xs) (t .is) (keys-part order first voids (t .v) (t .xs) (t .keys)))
 
-    pub stands-tree : JudgesKeys g image (part first (mostPages - voids - first) order) (8 * blocks) lens slots J.Tree → Checks g image lens slots (meansBy order voids)
+    pub stands-tree : JudgesKeys g image (part first (mostPages - voids - first) order) (8 * blocks) lens slots free J.Tree → Checks g image lens slots free (meansBy order voids)
     stands-tree j =
-        tree-checks g image order first voids bytes pages-few (t .v) (t .xs) (t .is) (t .keys) (8 * blocks) (ap (λ (b : ℕ). 8 * b) (chip .blocks)) nodes-few lens slots
+        tree-checks g image order first voids bytes pages-few (t .v) (t .xs) (t .is) (t .keys) (8 * blocks) (ap (λ (b : ℕ). 8 * b) (chip .blocks)) nodes-few lens slots free
         (j (t .v) (t .xs) (t .is) (keys-part order first voids (t .v) (t .xs) (t .keys)))

@@ -26,7 +26,8 @@ use Rattle.views.specs.Stored.{Stores}
 use Rattle.views.specs.Table as Views
 use Rattle.views.specs.Table.{Node, events, fresh, turn}
 use Rattle.views.proofs.Meanings.{Kept, nodeIn, kept-node}
-use Rattle.tree.specs.Tree.{Table, next}
+use Rattle.tree.specs.Tree.{Table}
+use Rattle.tree.specs.Free.{freeNumbers}
 use Rattle.tree.specs.Step6.{step6}
 use Rattle.log.specs.Plan.{Plan, isEmpty, newsOf, nodeAt, opsOf, spareBlocks}
 use Rattle.log.specs.Policy.{planOf}
@@ -37,10 +38,10 @@ use Rattle.promise.specs.Image.{viewsOf, bySix, imageMeaning}
 use Rattle.promise.specs.Calls as P
 use Rattle.store.specs.declared.state.State.{State}
 use Rattle.store.specs.FreshCode.{committedState}
-use Rattle.store.specs.State.{limitOf, nodesOf, paged, unitsOf, presentOf, Good, Room, commitOps}
-use Rattle.store.specs.Contracts.{thePlan, theOps}
-use Rattle.store.proofs.BegunViews.{map-tab}
-use Rattle.store.proofs.Begun.{Settled}
+use Rattle.store.specs.State.{limitOf, nodesOf, paged, unitsOf, presentOf, Good, Room, commitOps, planAt}
+use Rattle.store.specs.Contracts.{theOps}
+use Rattle.store.proofs.SettledViews.{map-tab}
+use Rattle.store.proofs.Settled.{Settled}
 use Rattle.store.proofs.PlanRead.{paged-none, paged-some}
 use Rattle.store.proofs.CommitGood.{good-chip, good-kept, good-long, good-plan, good-present, good-room, ops-none, ops-some, room-by}
 
@@ -64,7 +65,7 @@ same-ops g {B = B} {C = C} {ps = ps} {qs = qs} {tb = tb} {nx = nx} {G = G} us b 
     ∙ ap (λ (x : List Node). opsOf g G (paged (planOf g (8 * C) C qs x G us))) t ∙ ap (λ (x : ℕ). opsOf g x (paged (planOf g (8 * C) C qs nx x us))) ok
 
 module _ (g : Geometry) (n : ℕ) (torn : List ℕ) (s : State) (i i' lens slots erases : List ℕ) (reached : Progress) (ok : Good g s i)
-    (x : Executed g (limitOf s) (s .commit) (nodesOf g s i) (thePlan g s i) torn (atStart n) i i' lens slots (s .erases) erases reached) where
+    (x : Executed g (limitOf s) (s .commit) (nodesOf g s i) (planAt g s i) torn (atStart n) i i' lens slots (s .erases) erases reached) where
   abbrev ps : List Page
   ps = pagesOf g i
 
@@ -72,7 +73,7 @@ module _ (g : Geometry) (n : ℕ) (torn : List ℕ) (s : State) (i i' lens slots
   tb = nodesOf g s i
 
   -- ---- the pages
-  after-pages : pagesOf g i' ≡ imageAfter g torn ps (s .commit) (thePlan g s i) n
+  after-pages : pagesOf g i' ≡ imageAfter g torn ps (s .commit) (planAt g s i) n
   after-pages = ap (λ (m : Machine). m .pages) (x .ran .is)
 
   after-blocks : s .blocks ≡ blocksOf g (length i')
@@ -80,7 +81,7 @@ module _ (g : Geometry) (n : ℕ) (torn : List ℕ) (s : State) (i i' lens slots
 
   -- ---- the nodes with the pages of the commit
   abbrev pub nextNode : ℕ → Node
-  nextNode k = nodeAfter g (limitOf s) ps (s .commit) (thePlan g s i) k
+  nextNode k = nodeAfter g (limitOf s) ps (s .commit) (planAt g s i) k
 
   abbrev pub nextNodes : List Node
   nextNodes = tab 0 (limitOf s) nextNode
@@ -88,16 +89,16 @@ module _ (g : Geometry) (n : ℕ) (torn : List ℕ) (s : State) (i i' lens slots
   same-node : (k : ℕ) → k < limitOf s → nodeAt tb k ≡ nodeIn g (limitOf s) ps k
   same-node k l = kept-node g (limitOf s) ps tb (s .commit) (good-kept g s i ok) k fresh l
 
-  next-at : (k : ℕ) → k < limitOf s → nodeAt nextNodes k ≡ foldl (turn k) (nodeAt tb k) (events (limitOf s) (newsOf g (s .commit) (thePlan g s i)))
+  next-at : (k : ℕ) → k < limitOf s → nodeAt nextNodes k ≡ foldl (turn k) (nodeAt tb k) (events (limitOf s) (newsOf g (s .commit) (planAt g s i)))
   next-at k l =
       getD-tab nextNode 0 (limitOf s) k fresh l ∙ ap nextNode (let z : 0 + k ≡ k = omega arith in z)
-      ∙ ap (λ (y : Node). foldl (turn k) y (events (limitOf s) (newsOf g (s .commit) (thePlan g s i)))) (sym (same-node k l))
+      ∙ ap (λ (y : Node). foldl (turn k) y (events (limitOf s) (newsOf g (s .commit) (planAt g s i)))) (sym (same-node k l))
 
   next-stores : (k : ℕ) → k < limitOf s → Stores lens slots k (nodeAt nextNodes k .pages)
   next-stores k l = subst (λ (y : Node). Stores lens slots k (y .pages)) (sym (next-at k l)) (x .lists k l)
 
   -- ---- a plan that is safe
-  module _ (sf : Safe g (limitOf s) (s .blocks) (spareBlocks g (s .blocks)) torn ps tb (s .commit) (unitsOf s) (thePlan g s i)) where
+  module _ (sf : Safe g (limitOf s) (s .blocks) (spareBlocks g (s .blocks)) torn ps tb (s .commit) (unitsOf s) (planAt g s i)) where
     -- their views are P
     pub next-views : viewsOf nextNodes ≡ presentOf g s i
     next-views =
@@ -145,8 +146,8 @@ module _ (g : Geometry) (n : ℕ) (torn : List ℕ) (s : State) (i i' lens slots
     pub after-past : (fit : Fits g) (b : ℕ) → s .blocks ≤ b → erasesIn b (theOps g s i) ≡ 0
     after-past fit b h =
         let l = good-long g s i ok fit in
-        commit-erases b (thePlan g s i .erased) (newsOf g (s .commit) (thePlan g s i))
-        ∙ erased-none b (thePlan g s i .erased) (All-map (λ (k : ℕ) m q. let e : s .blocks ≤ k = omega arith in omega (arith, l, fit .many, mul-le-mul-right (g .pages) e)) (erased-on g (thePlan g s i .erased) _ ps (sf .legal)))
+        commit-erases b (planAt g s i .erased) (newsOf g (s .commit) (planAt g s i))
+        ∙ erased-none b (planAt g s i .erased) (All-map (λ (k : ℕ) m q. let e : s .blocks ≤ k = omega arith in omega (arith, l, fit .many, mul-le-mul-right (g .pages) e)) (erased-on g (planAt g s i .erased) _ ps (sf .legal)))
 
     -- ---- finished
     module _ (enough : length (theOps g s i) ≤ n) where
@@ -164,7 +165,7 @@ module _ (g : Geometry) (n : ℕ) (torn : List ℕ) (s : State) (i i' lens slots
       next-means t h = sym (h .means) ∙ ap (λ (B : ℕ). Views.meaning g (8 * B) (pagesOf g i')) (next-blocks t h) ∙ finished .is
 
       abbrev nextPlan : State → Plan
-      nextPlan t = planOf g (limitOf s) (s .blocks) (imageAfter g torn ps (s .commit) (thePlan g s i) n) nextNodes (suc (s .commit)) (unitsOf t)
+      nextPlan t = planOf g (limitOf s) (s .blocks) (imageAfter g torn ps (s .commit) (planAt g s i) n) nextNodes (suc (s .commit)) (unitsOf t)
 
       next-ops : (t : State) → Good g t i'
           → theOps g t i' ≡ opsOf g (suc (s .commit)) (paged (nextPlan t))
@@ -179,7 +180,7 @@ module _ (g : Geometry) (n : ℕ) (torn : List ℕ) (s : State) (i i' lens slots
           ∙ cases (isEmpty (nextPlan t .written))
           (λ y. ap (λ (q : Plan). erasesIn b (opsOf g (suc (s .commit)) q)) (paged-none (nextPlan t) y))
           (λ y. ap (λ (q : Plan). erasesIn b (opsOf g (suc (s .commit)) q)) (paged-some (nextPlan t) y)
-          ∙ rests-next g (limitOf s) (s .blocks) (spareBlocks g (s .blocks)) torn ps tb (s .commit) (unitsOf s) (thePlan g s i) sf n enough (unitsOf t) b e)
+          ∙ rests-next g (limitOf s) (s .blocks) (spareBlocks g (s .blocks)) torn ps tb (s .commit) (unitsOf s) (planAt g s i) sf n enough (unitsOf t) b e)
 
       pub after-rests : (b : ℕ) → 0 < erasesIn b (theOps g s i) → (t : State) → Good g t i' → erasesIn b (commitOps g t i') ≡ 0
       after-rests b e t h =
@@ -197,8 +198,7 @@ module _ (g : Geometry) (n : ℕ) (torn : List ℕ) (s : State) (i i' lens slots
             clean = finished .clean;
             tree = next-tree;
             lists = next-stores;
-            next = ok .next ∙ ap next (sym next-views);
-            numbers = ok .numbers;
+            free = ok .free ∙ ap freeNumbers (sym next-views);
             pending = refl;
             count = refl;
             past = λ b l. let z = after-past fit b l in

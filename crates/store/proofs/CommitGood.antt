@@ -39,7 +39,7 @@ use Rattle.store.specs.declared.state.State.{State}
 use Rattle.store.specs.AdmitCode.{ChipOf}
 use Rattle.store.specs.State.{contentsAt, limitOf, nodeFrom, nodesOf, paged, planAt, unitsOf, presentOf, Good, RoomIn, Room, commitOps}
 use Rattle.store.specs.Contracts.{theOps}
-use Rattle.store.proofs.BegunViews.{image-bytes}
+use Rattle.store.proofs.SettledViews.{image-bytes}
 use Rattle.store.proofs.UpdateLaws.{units-many}
 use Rattle.store.proofs.CommitPlan.{plan-some}
 use Rattle.store.proofs.PlanRead.{paged-is}

@@ -49,14 +49,14 @@ use Rattle.store.specs.Parts.{joined}
 use Rattle.store.specs.Answers.{answerOf}
 use Rattle.store.specs.EndingCode.{endedWith}
 use Rattle.store.specs.FreshCode.{committedState}
-use Rattle.store.specs.State.{turnedOff, geometryIn, limitOf, nodesOf, unitsOf, presentOf, Good, Room}
+use Rattle.store.specs.State.{turnedOff, geometryIn, limitOf, nodesOf, unitsOf, presentOf, Good, Room, planAt}
 use Rattle.store.specs.State as State
-use Rattle.store.specs.Contracts.{index, thePlan, theOps, toldOf, Commits}
+use Rattle.store.specs.Contracts.{index, theOps, toldOf, Commits}
 use Rattle.store.proofs.EndingLaws.{either-end}
 use Rattle.store.proofs.CommitTests.{commits-past}
 use Rattle.store.proofs.SizeLaws.{enough-most}
 use Rattle.store.proofs.EndedTests.{EndedBy, ended-idle, ended-refused, later-low, not-refused, other}
-use Rattle.store.proofs.Begun.{Settled, settled-good, settled-state}
+use Rattle.store.proofs.Settled.{Settled, settled-good, settled-state}
 use Rattle.store.proofs.PlanRead.{paged-empty, paged-none, paged-some, plan-is, plan-none, read}
 use Rattle.store.proofs.CommitGood.{good-chip, good-few, good-plannable, ops-none, ops-some}
 use Rattle.store.proofs.GoodPlan.{Secure, roomy-page, stuck-or-safe}
@@ -135,8 +135,8 @@ module _ (n : ℕ) (torn : List ℕ) (s : State) (i : List ℕ) where
     commit-idle h = not-begun Accepted (ended-idle call s i refl passes h) (λ e. not-refused 10 e)
 
     -- ---- with updates pending and a number left, the plan is to do nothing: refused with 6
-    module _ (pending : 0 < s .pending) (number : s .commit < 4294967295) (is-stuck : thePlan g s i ≡ stuck) (no-room : Good g s i → Room g i → ⊥) where
-      no-plan : {Q : Type 0} → not (isEmpty (thePlan g s i .written)) ≡ true → Q
+    module _ (pending : 0 < s .pending) (number : s .commit < 4294967295) (is-stuck : planAt g s i ≡ stuck) (no-room : Good g s i → Room g i → ⊥) where
+      no-plan : {Q : Type 0} → not (isEmpty (planAt g s i .written)) ≡ true → Q
       no-plan b = clash b (ap (λ (q : Plan). not (isEmpty (q .written))) is-stuck)
 
       no-ops : theOps g s i ≡ []
@@ -194,7 +194,7 @@ module _ (n : ℕ) (torn : List ℕ) (s : State) (i : List ℕ) where
       later-none = later-low (s .pending) (s .commit) pending number
 
       -- the commit is stuck exactly where its plan has no page
-      by-pages : e .stuck ≡ isEmpty (thePlan g s i .written)
+      by-pages : e .stuck ≡ isEmpty (planAt g s i .written)
       by-pages = x .stuck ∙ sym (ap (λ (q : Plan). isEmpty (q .written)) (plan-is g s i fits) ∙ paged-empty (read g s i))
 
       -- ---- no room: nothing was done
@@ -206,7 +206,7 @@ module _ (n : ℕ) (torn : List ℕ) (s : State) (i : List ℕ) where
 
       -- ---- the plan has pages
       module _ (st : e .stuck ≡ false) where
-        read-is : read g s i ≡ thePlan g s i
+        read-is : read g s i ≡ planAt g s i
         read-is = sym (plan-is g s i fits ∙ paged-some (read g s i) (sym (x .stuck) ∙ st))
 
         -- on any state: the operations of the plan, as far as the power goes
@@ -216,7 +216,7 @@ module _ (n : ℕ) (torn : List ℕ) (s : State) (i : List ℕ) where
         grown : erases' ≡ figuresAfter (theOps g s i) (s .erases)
         grown = x .figures st ∙ ap (λ (q : Plan). figuresAfter (opsOf g (s .commit) q) (s .erases)) read-is
 
-        by-plan : Good g s i → Executed g (limitOf s) (s .commit) (nodesOf g s i) (thePlan g s i) torn (atStart n) i i' lens' slots' (s .erases) erases' (e .reached)
+        by-plan : Good g s i → Executed g (limitOf s) (s .commit) (nodesOf g s i) (planAt g s i) torn (atStart n) i i' lens' slots' (s .erases) erases' (e .reached)
         by-plan ok =
             record {
               ran = ran;
@@ -229,10 +229,10 @@ module _ (n : ℕ) (torn : List ℕ) (s : State) (i : List ℕ) where
         run-is : pagesOf g i' ≡ run g torn (record { power = Left n; pages = pagesOf g i }) (theOps g s i) .pages
         run-is = ap (λ (m : Machine). m .pages) (ran .is)
 
-        has-plan : not (isEmpty (thePlan g s i .written)) ≡ true
+        has-plan : not (isEmpty (planAt g s i .written)) ≡ true
         has-plan = ap not (sym by-pages ∙ st)
 
-        not-stuck : {Q : Type 0} → thePlan g s i ≡ stuck → Q
+        not-stuck : {Q : Type 0} → planAt g s i ≡ stuck → Q
         not-stuck q = clash has-plan (ap (λ (p : Plan). not (isEmpty (p .written))) q)
 
         secure : (ok : Good g s i) → Secure g torn s i
@@ -265,11 +265,11 @@ module _ (n : ℕ) (torn : List ℕ) (s : State) (i : List ℕ) where
         room-after ok r = after-room g n torn s i i' lens' slots' erases' (e .reached) ok (by-plan ok) (secure ok) r
 
         -- ---- the erases: of each block at most one
-        erases-are : (b : ℕ) → erasesIn b (State.commitOps g s i) ≡ count (eqb b) (thePlan g s i .erased)
-        erases-are b = ap (erasesIn b) (ops-some g s i pending) ∙ commit-erases b (thePlan g s i .erased) (newsOf g (s .commit) (thePlan g s i))
+        erases-are : (b : ℕ) → erasesIn b (State.commitOps g s i) ≡ count (eqb b) (planAt g s i .erased)
+        erases-are b = ap (erasesIn b) (ops-some g s i pending) ∙ commit-erases b (planAt g s i .erased) (newsOf g (s .commit) (planAt g s i))
 
         once-each : Good g s i → (b : ℕ) → erasesIn b (State.commitOps g s i) ≤ 1
-        once-each ok b = omega (arith, erases-are b, erased-most b (thePlan g s i .erased) (secure ok .erased-once))
+        once-each ok b = omega (arith, erases-are b, erased-most b (planAt g s i .erased) (secure ok .erased-once))
 
         adds : (ok : Good g s i) (b : ℕ) → getD (s .erases) b 0 ≤ s .commit → getD erases' b 0 ≡ getD (s .erases) b 0 + erasesIn b (State.commitOps g s i)
         adds ok b h =

@@ -1,15 +1,18 @@
 -- The tests of an update, 2, 1 and 3, and of a commit, 2, 1 and 6, by the tests 2 and 1 on the image alone. Assumes nothing.
 use mathlib.Core.Path.{_≡_, refl, sym, ap, _∙_}
 use mathlib.Core.Bool.{Bool, true, false, not, _&&_}
+use mathlib.Core.List.{List}
 use Prim.Native.Nat.{ℕ, zero, suc, _<_, _≤_}
 use native.Mathlib.Omega.{arith}
 use lib.Dec.{ltb, leb, eqb}
 use borrow.Author.Tests.{eq-eqb, ne-eqb, eqb-true, lt-ltb, le-ltb, le-leb, lt-leb}
 use Rattle.chip.specs.Geometry.{Geometry, geometryOf, pageSize}
 use Rattle.promise.specs.Plain.{refuses, accepted, admission, commitRefusal, hasBlocks, isChipSize, isTornSize, lastNumber, orElse, when}
+use Rattle.store.specs.declared.admit.Beginning.{Beginning}
 use Rattle.store.specs.declared.admit.Beginning.the-variants.{Plans}
 use Rattle.store.specs.declared.state.Numbers.{Numbers}
-use Rattle.store.specs.AdmitCode.{CommitBegins, plans, ChipOf, updateTests, commitTests, answerFor}
+use Rattle.store.specs.AdmitCode.{CommitBegins, denied, idle, full, plans, ChipOf, updateTests, commitTests, answerFor}
+use Rattle.store.specs.Parts.{withFree}
 use Rattle.store.proofs.AdmitLaws.{admission-chip}
 
 -- ---- of an update, where x is what the tests 2 and 1 give
@@ -119,6 +122,13 @@ commits-past g on B p G len torn u e =
     let w = or-none (commitRefusal g on B len torn) (when 6 (ltb 0 p && eqb G lastNumber)) e in
     let q = parts-passed on (isChipSize g len) (isTornSize g torn) (hasBlocks g B len) (w .0) in
     record { first = w .0; chip = admission-chip g on B len (q .1); slice = eqb-true torn (pageSize g) (q .0); number = λ h. six-none p G (w .1) h u }
+
+-- the free numbers are not tested
+pub begins-free : (m : Numbers) (free : List ℕ) (len torn : ℕ) (r : Beginning) → CommitBegins m len torn r → CommitBegins (withFree m free) len torn r
+begins-free m free len torn r (denied a h e) = denied a h e
+begins-free m free len torn r (idle e p) = idle e p
+begins-free m free len torn r (full e p k) = full e p k
+begins-free m free len torn r (plans e p k) = plans e p k
 
 -- ---- a commit or a forecast that goes on to its plan
 pub record Planning (m : Numbers) (len torn : ℕ) : Type 0 where

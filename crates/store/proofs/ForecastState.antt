@@ -29,8 +29,8 @@ use Rattle.store.specs.declared.state.Numbers.{Numbers}
 use Rattle.store.specs.AdmitCode.{CommitBegins, denied, idle, full, commitTests, answerFor}
 use Rattle.store.specs.Parts.{joined}
 use Rattle.store.specs.Answers.{answerOf}
-use Rattle.store.specs.State.{Good, Room, geometryIn}
-use Rattle.store.specs.Contracts.{index, thePlan, theOps, Forecasts}
+use Rattle.store.specs.State.{Good, Room, geometryIn, planAt}
+use Rattle.store.specs.Contracts.{index, theOps, Forecasts}
 use Rattle.store.proofs.CommitTests.{commits-past}
 use Rattle.store.proofs.EndedTests.{EndedBy, ended-idle, ended-refused, later-low, not-refused, other}
 use Rattle.store.proofs.PlanRead.{paged-none, paged-some, plan-is, plan-none, read}
@@ -90,7 +90,7 @@ module _ (s : State) (i : List ℕ) where
       later-none = later-low (s .pending) (s .commit) pending number
 
       -- the plan is to do nothing
-      nothing-told : thePlan g s i ≡ stuck → (Good g s i → Room g i → ⊥) → Forecasts s i (record { answer = Last; ops = nothing })
+      nothing-told : planAt g s i ≡ stuck → (Good g s i → Room g i → ⊥) → Forecasts s i (record { answer = Last; ops = nothing })
       nothing-told q no-room =
           record {
             says = record {
@@ -122,7 +122,7 @@ module _ (s : State) (i : List ℕ) where
         forecast-done st ops e =
             let q = plan-is g s i fits ∙ paged-some (read g s i) (sym (x .stuck) ∙ st) in
             let k : ops ≡ countsOf (kindsOf (theOps g s i)) = e ∙ x .all st ∙ ap (λ (p : Plan). countsOf (kindsOf (opsOf g (s .commit) p))) (sym q) in
-            let able : not (isEmpty (thePlan g s i .written)) ≡ true = ap not (ap (λ (p : Plan). isEmpty (p .written)) q ∙ sym (x .stuck) ∙ st) in
+            let able : not (isEmpty (planAt g s i .written)) ≡ true = ap not (ap (λ (p : Plan). isEmpty (p .written)) q ∙ sym (x .stuck) ∙ st) in
             let many : total ops ≡ length (index .commitOps s i) =
             ap total k ∙ total-counts (kindsOf (theOps g s i)) ∙ length-map (theOps g s i) kindOf ∙ sym (ap length (ops-some g s i pending)) in
             record {

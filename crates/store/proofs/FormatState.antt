@@ -1,12 +1,12 @@
 -- The state and the image after a format, cut or finished, and where it is refused. Assumes nothing.
-use mathlib.Core.Path.{_≡_, refl, sym, ap, subst, _∙_}
-use mathlib.Core.Bool.{true, false}
-use mathlib.Core.List.{List, [], _∷_}
+use mathlib.Core.Path.{_≡_, refl, sym, ap, ap₂, subst, _∙_}
+use mathlib.Core.Bool.{Bool, true, false}
+use mathlib.Core.List.{List, [], _∷_, map}
 use Prim.Native.Nat.{ℕ, zero, suc, _+_, _-_, _*_, _^_, _≤_, _<_, min}
 use native.Mathlib.Omega.{arith}
-use lib.Dec.{ltb}
+use lib.Dec.{eqb, ltb}
 use lib.ListN.{length, getD, replicate}
-use borrow.Author.Tests.{ltb-true, ltb-false}
+use borrow.Author.Tests.{eq-eqb, ltb-true, ltb-false}
 use Rattle.lists.specs.Lists.{tab}
 use Rattle.lists.proofs.Places.{getD-same}
 use Rattle.lists.proofs.Flats.{getD-tab}
@@ -25,6 +25,8 @@ use Rattle.views.specs.Table as Views
 use Rattle.views.specs.Table.{Node}
 use Rattle.views.specs.Stored.{Stores}
 use Rattle.views.proofs.Meanings.{inOrder, Kept}
+use Rattle.numbers.specs.NumberSet.{wordsOf, uncounted}
+use Rattle.tree.specs.Free.{isOpen, freeNumbers}
 use Rattle.log.specs.Format.{formatData, formatOps, formattedBy, formatted, formatTable, formatNode}
 use Rattle.log.specs.Plan.{nodeAt, hasRoom, spareBlocks}
 use Rattle.log.proofs.FormatLaws.{format-legal, format-count, format-pages, format-gone, format-begun, format-order}
@@ -42,13 +44,13 @@ use Rattle.store.specs.declared.state.State.{State}
 use Rattle.store.specs.declared.state.Wrote.{Wrote}
 use Rattle.store.specs.AdmitCode.{Sized}
 use Rattle.store.specs.EndingCode.{endedWith}
-use Rattle.store.specs.FreshCode.{freshState, NextOf}
+use Rattle.store.specs.FreshCode.{freshState}
 use Rattle.store.specs.State.{turnedOff, RoomIn, Room}
 use Rattle.store.specs.Contracts.{index, toldOf, Formats}
 use Rattle.promise.proofs.Promise.{accepted-not}
 use Rattle.store.proofs.EndingLaws.{either-end}
 use Rattle.store.proofs.SizeLaws.{first-some, first-none, enough-most}
-use Rattle.store.proofs.Begun.{Begun, begun-meaning, begun-good, begun-state}
+use Rattle.store.proofs.Settled.{Settled, settled-meaning, settled-good, settled-state}
 
 -- ---- the node table of a finished format
 -- no other node has a view
@@ -75,16 +77,18 @@ format-stores limit n l =
     subst (λ (x : Node). Stores (1 ∷ replicate 255 0) (replicate 1024 0) n (x .pages))
     (sym (getD-tab formatNode 0 limit n Views.fresh l ∙ ap formatNode z)) (leaf-stores 255 1023 n)
 
-fresh-next : (limit k : ℕ) → 0 < limit → NextOf limit (1 ∷ replicate k 0) 1
-fresh-next limit k h = record { most = h; last = λ m e. last m e; rest = λ n a l. rest n a }
-  where
-    last : (m : ℕ) → _≡_ {A = ℕ} 1 (suc m) → 0 < getD (1 ∷ replicate k 0) m 0
-    last zero e = omega arith
-    last (suc m) e = absurd (omega arith)
+-- every number but 0 is free
+open-rest : (c : List ℕ) (k m : ℕ) → ((n : ℕ) → eqb (getD c (suc n) 0) 0 ≡ true) → map isOpen (viewsOf (tab (suc k) m formatNode)) ≡ tab (suc k) m (λ (n : ℕ). eqb (getD c n 0) 0)
+open-rest c k zero h = refl
+open-rest c k (suc m) h = ap₂ _∷_ (sym (h k)) (open-rest c (suc k) m h)
 
-    rest : (n : ℕ) → 1 ≤ n → _≡_ {A = ℕ} (getD (1 ∷ replicate k 0) n 0) 0
-    rest zero a = absurd (omega arith)
-    rest (suc n) a = getD-same k n 0
+open-leaf : (m : ℕ) → map isOpen (viewsOf (formatTable (suc m))) ≡ uncounted (suc m) (1 ∷ replicate 255 0)
+open-leaf m = ap (λ (l : List Bool). false ∷ l) (open-rest (1 ∷ replicate 255 0) 0 m (λ n. eq-eqb (getD (replicate 255 0) n 0) 0 (getD-same 255 n 0)))
+
+format-free : (limit : ℕ) → 0 < limit → wordsOf (uncounted limit (1 ∷ replicate 255 0)) ≡ freeNumbers (viewsOf (formatTable limit))
+unfolding freeNumbers
+format-free zero h = absurd (omega arith)
+format-free (suc m) h = ap wordsOf (sym (open-leaf m))
 
 -- ---- the one live page of a finished format
 pub one-live : (g : Geometry) (fit : Fits g) (n : ℕ) → 0 < n → inOrder g (formatted g n) ≡ record { place = 0; bytes = formatData g } ∷ []
@@ -203,15 +207,15 @@ module _ (nand : Nand) (n : ℕ) (torn : List ℕ) (s : State) (i i' : List ℕ)
       })
 
   -- ---- finished
-  module _ (ok : isGone (reached .left) ≡ false) (bytes : (j : ℕ) → getD i' j 0 < 256) (buffer : List ℕ) where
+  module _ (ok : isGone (reached .left) ≡ false) (bytes : (j : ℕ) → getD i' j 0 < 256) (free : List ℕ) (set : free ≡ wordsOf (uncounted (8 * b) (1 ∷ replicate 255 0))) (buffer : List ℕ) where
     enough : b + 3 ≤ n
     enough = ltb-false n (b + 3) (sym gone-is ∙ ok)
 
     kept : Kept g (8 * b) (pagesOf g i') (formatTable (8 * b)) 1
     kept = rw pages-are (format-begun g fit torn b n (pagesOf g i) pos long enough)
 
-    begun : Begun g (freshState nand b buffer) i' (formatTable (8 * b))
-    begun =
+    settled : Settled g (freshState nand b free buffer) i' (formatTable (8 * b))
+    settled =
         record {
           chip = rw (ran .size) (z .chip pos);
           bytes = bytes;
@@ -219,7 +223,7 @@ module _ (nand : Nand) (n : ℕ) (torn : List ℕ) (s : State) (i i' : List ℕ)
           clean = kept .clean;
           tree = rw (format-views b pos) (leaf-tree b pos .tree .passes);
           lists = λ k l. format-stores (8 * b) k l;
-          next = fresh-next (8 * b) 255 (omega arith);
+          free = set ∙ format-free (8 * b) (omega arith);
           pending = refl;
           count = refl;
           past = λ k l. getD-same 32 k 0;
@@ -246,25 +250,25 @@ module _ (nand : Nand) (n : ℕ) (torn : List ℕ) (s : State) (i i' : List ℕ)
         (sym (ap (λ (B : ℕ). Views.meaning g (8 * B) (pagesOf g i')) blocks-after ∙ kept .is))
         (room-at (blocksOf g (length i')) ((let e : suc (b - 1) ≡ b = omega arith in e) ∙ sym blocks-after))
 
-    state-is : P.stateOf index (freshState nand b buffer) i' ≡ fresh nand (blocksOf g (length i))
+    state-is : P.stateOf index (freshState nand b free buffer) i' ≡ fresh nand (blocksOf g (length i))
     unfolding resting
-    state-is = begun-state (freshState nand b buffer) i' (formatTable (8 * b)) begun ∙ rw (blocks-are, format-views b pos)
+    state-is = settled-state (freshState nand b free buffer) i' (formatTable (8 * b)) settled ∙ rw (blocks-are, format-views b pos)
 
     meaning-is : imageMeaning g i' ≡ P.means (leaf (blocksOf g (length i))) 1
-    meaning-is = begun-meaning g (freshState nand b buffer) i' (formatTable (8 * b)) begun ∙ rw (blocks-are, format-views b pos)
+    meaning-is = settled-meaning g (freshState nand b free buffer) i' (formatTable (8 * b)) settled ∙ rw (blocks-are, format-views b pos)
 
-    format-finished : (new : State) → new ≡ freshState nand b buffer
+    format-finished : (new : State) → new ≡ freshState nand b free buffer
         → Formats nand n torn s i (record { answer = Accepted; ops = reached .done; state = new }) i'
     format-finished new f =
         subst (λ (x : State). Formats nand n torn s i (record { answer = Accepted; ops = reached .done; state = x }) i') (sym f)
         (record {
           says = record {
-            first = tests accepted (freshState nand b buffer) (λ e. let u : _≡_ {A = ℕ} 0 1 = cc in omega arith) (λ e. let u : _≡_ {A = ℕ} 0 1 = cc in omega arith);
+            first = tests accepted (freshState nand b free buffer) (λ e. let u : _≡_ {A = ℕ} 0 1 = cc in omega arith) (λ e. let u : _≡_ {A = ℕ} 0 1 = cc in omega arith);
             range = refl;
             quiet = λ k e d. let u : _≡_ {A = ℕ} 0 1 = cc in absurd (omega arith);
             few = λ p. few-ops;
             power = λ p. record { enough = λ m. (refl, omega (arith, told-is, enough, need-is)); short = λ m. absurd (omega (arith, need-is, enough)) };
-            done = λ p m. (state-is, meaning-is, begun-good g (freshState nand b buffer) i' (formatTable (8 * b)) begun, format-room);
+            done = λ p m. (state-is, meaning-is, settled-good g (freshState nand b free buffer) i' (formatTable (8 * b)) settled, format-room);
             zeros = λ e b. getD-same 32 b 0;
             cut = λ p m. absurd (omega (arith, need-is, enough));
           };
@@ -276,8 +280,9 @@ module _ (nand : Nand) (n : ℕ) (torn : List ℕ) (s : State) (i i' : List ℕ)
         })
 
   -- either
-  pub format-ended : ((j : ℕ) → getD i' j 0 < 256) → (buffer : List ℕ) (r : Wrote) → r ≡ endedWith reached s (freshState nand b buffer) → Formats nand n torn s i r i'
-  format-ended bytes buffer =
-      either-end reached s (freshState nand b buffer) (λ (r : Wrote). Formats nand n torn s i r i')
+  pub format-ended : ((j : ℕ) → getD i' j 0 < 256) → (free : List ℕ) → free ≡ wordsOf (uncounted (8 * b) (1 ∷ replicate 255 0)) → (buffer : List ℕ) (r : Wrote)
+      → r ≡ endedWith reached s (freshState nand b free buffer) → Formats nand n torn s i r i'
+  format-ended bytes free set buffer =
+      either-end reached s (freshState nand b free buffer) (λ (r : Wrote). Formats nand n torn s i r i')
       (λ t. format-cut t (turnedOff s) refl)
-      (λ t. format-finished t bytes buffer (freshState nand b buffer) refl)
+      (λ t. format-finished t bytes free set buffer (freshState nand b free buffer) refl)

@@ -3,24 +3,28 @@
 use mathlib.Core.Path.{_≡_, refl, sym, ap, subst}
 use mathlib.Core.Bool.{false}
 use mathlib.Core.List.{List}
-use Prim.Native.Nat.{ℕ}
+use Prim.Native.Nat.{ℕ, _<_, _≤_}
 use lib.ListN.{length}
 use Rattle.lists.proofs.Tests.{clash}
 use Rattle.chip.specs.Counts.{total}
 use Rattle.chip.specs.Geometry.{Nand, geometryOf, blocksOf}
 use Rattle.tree.specs.Tree.{Table}
-use Rattle.promise.specs.Plain.{Plain, accepted, leaf, resting}
+use Rattle.tree.specs.Step6.{top}
+use Rattle.promise.specs.Plain.{Plain, UpdateCall, insertion, deletion, accepted, leaf, resting}
 use Rattle.promise.specs.Calls as C
 use Rattle.promise.specs.Calls.{means, stateOf}
 use Rattle.promise.specs.Image.{imageMeaning}
 use Rattle.promise.specs.Steps.{Step, Only, Named, NoFormat, boots, one, Runs, Takes, Mounted, Started, Formatted}
-use Rattle.promise.specs.History.{TreeOf, LawfulAct}
+use Rattle.promise.specs.History.{TreeOf, Lawful, OfUpdate, LawfulAct}
+use Rattle.promise.specs.Thickness as T
+use Rattle.promise.specs.Thickness.{KeepsThick}
 use Rattle.promise.specs.Promise as P
 use Rattle.promise.specs.Erases as E
 use Rattle.promise.specs.Wear as W
 use Rattle.promise.specs.Forecasts as N
 use Rattle.promise.proofs.Promise.{format-starts, mount-mounts}
-use Rattle.promise.proofs.Trees.{insert-lawful, delete-lawful}
+use Rattle.promise.proofs.Trees.{insert-lawful, delete-lawful, insert-keeps-thick, delete-keeps-thick}
+use Rattle.promise.proofs.Thickness.{stays-thick, formatted-thick, any-thick, foreign-thick}
 use Rattle.promise.proofs.Claims as L
 use Rattle.promise.proofs.Durable as D
 use Rattle.promise.proofs.Figures as F
@@ -74,15 +78,24 @@ pub index-nand : (nand : Nand) (K : Table) (G : ℕ) (s : State) (i : List ℕ) 
 unfolding stateOf resting
 index-nand nand K G s i m = ap (λ (q : Plain). q .nand) (m .is)
 
--- the calls of the code, their keys of 32 bits, are lawful
+-- what holds of inserts and deletes with keys of 32 bits holds of every call of the code that is an update
+of-update : (Q : UpdateCall → Type 0) → ((k v : ℕ) → k < top → Q (insertion k v)) → ((k : ℕ) → k < top → Q (deletion k))
+    → (c : Call) (torn : List ℕ) → KeyBits c → OfUpdate Q (actOf c torn)
+of-update Q f g (Format m n) torn h = tt
+of-update Q f g (Insert k v) torn h = f k v h
+of-update Q f g (Delete k) torn h = g k h
+of-update Q f g (LookUp k) torn h = tt
+of-update Q f g Forecast torn h = tt
+of-update Q f g (Commit n) torn h = tt
+of-update Q f g (Mount m n) torn h = tt
+
+-- they are lawful
 pub index-lawful : (c : Call) (torn : List ℕ) → KeyBits c → LawfulAct (actOf c torn)
-index-lawful (Format m n) torn h = tt
-index-lawful (Insert k v) torn h = insert-lawful k v h
-index-lawful (Delete k) torn h = delete-lawful k h
-index-lawful (LookUp k) torn h = tt
-index-lawful Forecast torn h = tt
-index-lawful (Commit n) torn h = tt
-index-lawful (Mount m n) torn h = tt
+index-lawful = of-update Lawful insert-lawful delete-lawful
+
+-- and keep trees thick
+pub index-keeps-thick : (n : ℕ) → n ≤ 8 → (c : Call) (torn : List ℕ) → KeyBits c → OfUpdate (KeepsThick n) (actOf c torn)
+index-keeps-thick n l = of-update (KeepsThick n) (λ k v. insert-keeps-thick n k v l) (λ k. delete-keeps-thick n k l)
 
 -- ---- what holds of every list
 pub index-promise : P.Promise index
@@ -99,6 +112,18 @@ index-any = L.promise-any index
 
 pub index-foreign : P.PromiseForeign index
 index-foreign = L.promise-foreign index
+
+pub index-thick : T.FormattedThick index
+index-thick = formatted-thick index
+
+pub index-stays-thick : T.StaysThick index
+index-stays-thick = stays-thick index
+
+pub index-any-thick : T.AnyThick index
+index-any-thick = any-thick index
+
+pub index-foreign-thick : T.ForeignThick index
+index-foreign-thick = foreign-thick index
 
 pub index-good : P.GoodAt index
 index-good = L.good-at index

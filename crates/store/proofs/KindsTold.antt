@@ -27,8 +27,8 @@ use Rattle.promise.proofs.Promise.{accepted-not, first-most, when-is}
 use Rattle.store.specs.declared.state.State.{State}
 use Rattle.store.specs.declared.state.Wrote.{Wrote}
 use Rattle.store.specs.Answers.{answerOf}
-use Rattle.store.specs.State.{commitOps, geometryIn}
-use Rattle.store.specs.Contracts.{index, thePlan, theOps, toldOf, Proceeds, Formats, Mounts, Commits}
+use Rattle.store.specs.State.{commitOps, geometryIn, planAt}
+use Rattle.store.specs.Contracts.{index, theOps, toldOf, Proceeds, Formats, Mounts, Commits}
 use Rattle.store.proofs.CommitGood.{ops-some}
 use Rattle.store.proofs.EndedTests.{other}
 
@@ -110,11 +110,11 @@ module _ (n : ℕ) (torn : List ℕ) (s : State) (i : List ℕ) (r : Wrote) (i' 
 
   -- finished with updates pending: a data program and two marks for each page of the plan, and its erases
   pub commit-told : Commits n torn s i r i' → 0 < s .pending → answerOf (r .answer) ≡ accepted
-      → r .ops ≡ record { programs = length (thePlan g s i .written); marks = 2 * length (thePlan g s i .written); erases = length (thePlan g s i .erased) }
+      → r .ops ≡ record { programs = length (planAt g s i .written); marks = 2 * length (planAt g s i .written); erases = length (planAt g s i .erased) }
   commit-told f h a =
       f .kinds c
       ∙ all-told n (theOps g s i) enough
-      ∙ commit-kinds g (s .commit) (thePlan g s i)
+      ∙ commit-kinds g (s .commit) (planAt g s i)
     where
       c : Proceeds n torn s i
       c = let t = tested f _ _ refl refl (λ k l q. accepted-not k (sym a ∙ q)) in record { passes = t .0; numbers = t .1; pending = h }

@@ -1,5 +1,5 @@
 -- A list of calls on lent arrays is a list of the promise: what each call ensures is one step of it. Assumes nothing.
-use mathlib.Core.Path.{_≡_, refl}
+use mathlib.Core.Path.{_≡_, refl, sym, subst}
 use mathlib.Core.Bool.{true}
 use mathlib.Core.List.{List, [], _∷_, map}
 use Prim.Native.Nat.{ℕ}
@@ -20,10 +20,10 @@ use Rattle.store.specs.declared.answer.Forecast as F
 use Rattle.store.specs.declared.step.Call.{Call}
 use Rattle.store.specs.declared.step.Call.the-variants.{Format, Insert, Delete, LookUp, Forecast, Commit, Mount}
 use Rattle.store.specs.State.{geometryIn, Good}
-use Rattle.store.specs.Contracts.{index, Formats, Mounts, Looks, Inserts, Deletes, Commits, Forecasts}
-use Rattle.store.specs.Parts.{joined, updatedWith, wroteWith}
+use Rattle.store.specs.Contracts.{index, Formats, Mounts, Looks, Inserts, Deletes, Forecasts}
+use Rattle.store.specs.Parts.{joined, withFree, updatedWith, wroteWith, wroteFree}
 use Rattle.store.specs.Step.{answerIn}
-use Rattle.store.specs.Lent.{Parts, stateFrom, LentStep, Meets, lentStep, RunsLent}
+use Rattle.store.specs.Lent.{CommitsLent, Parts, stateFrom, LentStep, Meets, lentStep, RunsLent}
 use Rattle.store.proofs.StepLaws.{step-allowed}
 use Rattle.store.proofs.IndexPromise.{index-figures-any, index-promise}
 
@@ -48,9 +48,10 @@ module _ (p : Parts) (torn i i' : List ℕ) where
   mount-step m n r lens' slots' erases' h = h (p .buffer)
 
   pub commit-step : (n : ℕ) (r : WroteParts) (lens' slots' erases' : List ℕ)
-      → Commits n torn (joined (p .numbers) (p .buffer) (p .lens) (p .slots) (p .erases)) i (wroteWith r (p .buffer) lens' slots' erases') i'
+      → CommitsLent n torn (p .numbers) (p .buffer) (p .lens) (p .slots) (p .erases) i r lens' slots' erases' i'
       → Meets (Commit n) (wroteStep (Commit n) r lens' slots' erases')
-  commit-step n r lens' slots' erases' h = h
+  commit-step n r lens' slots' erases' h =
+      subst (λ (free : List ℕ). Meets (Commit n) (wroteStep (Commit n) (wroteFree r free) lens' slots' erases')) (sym (h .kept)) (h .says (p .numbers .free))
 
 module _ (p : Parts) (torn i : List ℕ) where
   -- an update leaves the node table and the erases
@@ -67,13 +68,13 @@ module _ (p : Parts) (torn i : List ℕ) where
       → Meets (Delete k) (updatedStep (Delete k) r buffer')
   delete-step k r buffer' h = record { says = h (p .erases); ops = refl; image = refl }
 
-  pub look-up-step : (k : ℕ) (r : Look) → ((erases : List ℕ) → Looks k (joined (p .numbers) (p .buffer) (p .lens) (p .slots) erases) i r)
+  pub look-up-step : (k : ℕ) (r : Look) → ((free erases : List ℕ) → Looks k (joined (withFree (p .numbers) free) (p .buffer) (p .lens) (p .slots) erases) i r)
       → Meets (LookUp k) (stepTo p torn i i (LookUp k) (answerIn r) nothing p)
-  look-up-step k r h = record { look = r; says = h (p .erases); is = refl; image = refl }
+  look-up-step k r h = record { look = r; says = h (p .numbers .free) (p .erases); is = refl; image = refl }
 
-  pub forecast-step : (r : F.Forecast) → ((erases : List ℕ) → Forecasts (joined (p .numbers) (p .buffer) (p .lens) (p .slots) erases) i r)
+  pub forecast-step : (r : F.Forecast) → ((free erases : List ℕ) → Forecasts (joined (withFree (p .numbers) free) (p .buffer) (p .lens) (p .slots) erases) i r)
       → Meets Forecast (stepTo p torn i i Forecast (r .answer) (r .ops) p)
-  forecast-step r h = record { says = h (p .erases); state = refl; image = refl }
+  forecast-step r h = record { says = h (p .numbers .free) (p .erases); state = refl; image = refl }
 
 -- ---- a list
 pub lent-runs : (H : State → Type 0) (i : List ℕ) (xs : List LentStep) → RunsLent H i xs → Runs index H i (map lentStep xs)

@@ -1,6 +1,6 @@
 -- From what the code of a look up answers to the records of the promise. Assumes nothing.
 use mathlib.Core.Path.{_≡_, refl, sym, ap, ap₂, _∙_}
-use mathlib.Core.Bool.{true}
+use mathlib.Core.Bool.{true, cond}
 use mathlib.Core.List.{List, [], _∷_}
 use Prim.Native.Nat.{ℕ, zero, suc, _+_, _*_, _<_, _≤_}
 use native.Mathlib.Omega.{arith}
@@ -11,13 +11,13 @@ use Rattle.chip.specs.Geometry.{Geometry}
 use Rattle.chip.specs.Chip.{pagesOf}
 use Rattle.views.specs.Table as Views
 use Rattle.views.specs.Table.{Node, fresh}
-use Rattle.views.specs.Stored.{storedList}
+use Rattle.views.specs.Stored.{storedList, isFreed, lengthOf}
 use Rattle.tree.specs.declared.find.Looked.{Looked}
 use Rattle.tree.specs.Tree.{Table, Found, absent, found, there, at, find, path}
 use Rattle.tree.specs.Step6.{top}
 use Rattle.tree.specs.Shown.{shown, pagesRead}
 use Rattle.tree.specs.FindCode.{hitOf, Answers}
-use Rattle.tree.proofs.Paths.{path-there}
+use Rattle.tree.proofs.Laws.{path-there}
 use Rattle.log.specs.Plan.{nodeAt}
 use Rattle.promise.specs.Plain.{looksUp, refuses, admission, lookingUp, lookedUp}
 use Rattle.promise.specs.Calls.{stateOf, tellsOr}
@@ -26,7 +26,7 @@ use Rattle.store.specs.declared.answer.Look.the-variants as L
 use Rattle.store.specs.declared.state.State.{State}
 use Rattle.store.specs.Answers.{lookOf, pagesTold}
 use Rattle.store.specs.State.{limitOf, nodeFrom, nodesOf, presentOf, Good, geometryIn}
-use Rattle.store.specs.Contracts.{listLengths, Looks}
+use Rattle.store.specs.Contracts.{flashLength, listLengths, Looks}
 use Rattle.store.proofs.AdmitLaws.{first-refused, first-passed, not-one}
 use Rattle.store.proofs.StartTree.{present-size}
 
@@ -41,19 +41,19 @@ nodesIn (Views.refusal n) = []
 nodesIn (Views.means nodes G) = nodes
 
 module _ (g : Geometry) (s : State) (i : List ℕ) where
-  list-length : (n : ℕ) → n < limitOf s → length (nodeAt (nodesOf g s i) n .pages) ≡ length (storedList (s .lens) (s .slots) n)
-  unfolding nodesOf
+  list-length : (n : ℕ) → n < limitOf s → flashLength (nodeAt (nodesOf g s i) n) ≡ lengthOf g (limitOf s) (pagesOf g i) (s .lens) (s .slots) n
+  unfolding nodesOf lengthOf
   list-length n h =
-      ap (λ (x : Node). length (x .pages)) (getD-tab (nodeFrom g s i) 0 (limitOf s) n fresh h ∙ ap (nodeFrom g s i) (let z : 0 + n ≡ n = omega arith in z))
-      ∙ length-reverse (storedList (s .lens) (s .slots) n)
+      ap flashLength (getD-tab (nodeFrom g s i) 0 (limitOf s) n fresh h ∙ ap (nodeFrom g s i) (let z : 0 + n ≡ n = omega arith in z))
+      ∙ ap (λ (m : ℕ). cond (isFreed (nodeFrom g s i n .now)) 0 m) (length-reverse (storedList (s .lens) (s .slots) n))
 
-  lists-read : (ns : List ℕ) → All (λ (m : ℕ). there (at (presentOf g s i) m) ≡ 1) ns → listLengths (nodesOf g s i) ns ≡ pagesRead (s .lens) (s .slots) ns
+  lists-read : (ns : List ℕ) → All (λ (m : ℕ). there (at (presentOf g s i) m) ≡ 1) ns → listLengths (nodesOf g s i) ns ≡ pagesRead (lengthOf g (limitOf s) (pagesOf g i) (s .lens) (s .slots)) ns
   lists-read [] a = refl
   lists-read (n ∷ ns) (more h a) =
       ap₂ _+_ (list-length n (omega (arith, there-below (presentOf g s i) n h, present-size g s i))) (lists-read ns a)
 
   pub list-lengths : (k : ℕ) → k < top → Good g s i → (nodes : List Node) (G : ℕ) → Views.meaning g (limitOf s) (pagesOf g i) ≡ Views.means nodes G
-      → listLengths nodes (path k (presentOf g s i)) ≡ pagesRead (s .lens) (s .slots) (path k (presentOf g s i))
+      → listLengths nodes (path k (presentOf g s i)) ≡ pagesRead (lengthOf g (limitOf s) (pagesOf g i) (s .lens) (s .slots)) (path k (presentOf g s i))
   list-lengths k h ok nodes G e =
       ap (λ (xs : List Node). listLengths xs (path k (presentOf g s i))) (ap nodesIn (sym e ∙ ok .means))
       ∙ lists-read (path k (presentOf g s i)) (path-there k (presentOf g s i) (ok .tree) h)
@@ -90,7 +90,7 @@ module _ (k : ℕ) (s : State) (i : List ℕ) where
       }
 
   module _ (e : 0 ≡ admission g (s .on) (s .blocks) (length i)) where
-    look-done : (f : Found) (n : ℕ) → k < top → f ≡ find k (presentOf g s i) → n ≡ pagesRead (s .lens) (s .slots) (path k (presentOf g s i)) → n ≤ 16
+    look-done : (f : Found) (n : ℕ) → k < top → f ≡ find k (presentOf g s i) → n ≡ pagesRead (lengthOf g (limitOf s) (pagesOf g i) (s .lens) (s .slots)) (path k (presentOf g s i)) → n ≤ 16
         → Looks k s i (lookFrom f n)
     unfolding lookingUp stateOf
     look-done f n h q p l =
@@ -110,7 +110,7 @@ module _ (k : ℕ) (s : State) (i : List ℕ) where
           few = omega (arith, w .1);
         }
 
-    pub looked : (t : Looked) → Answers (s .lens) (s .slots) k (shown g (8 * s .blocks) (pagesOf g i) (s .lens) (s .slots) (s .count) (s .buffer)) t
+    pub looked : (t : Looked) → Answers (lengthOf g (8 * s .blocks) (pagesOf g i) (s .lens) (s .slots)) k (shown g (8 * s .blocks) (pagesOf g i) (s .lens) (s .slots) (s .count) (s .buffer)) t
         → k < top → (f : Found) → hitOf (t .hit) ≡ f → Looks k s i (lookFrom f (t .pages))
     unfolding presentOf
     looked t a h f q = look-done f (t .pages) h (sym q ∙ a .found) (a .pages) (a .few)

@@ -47,7 +47,7 @@ use Rattle.store.specs.declared.state.Wrote.{Wrote}
 use Rattle.store.specs.Answers.{answerOf}
 use Rattle.store.specs.AdmitCode.{ChipOf, Sized}
 use Rattle.store.specs.State.{Good, RoomIn, Room, geometryIn}
-use Rattle.store.specs.FreshCode.{NextOf, mountedState}
+use Rattle.store.specs.FreshCode.{mountedState}
 use Rattle.store.specs.CheckCode.{marksOf, Read}
 use Rattle.store.specs.EndingCode.{refusedWith, acceptedWith, endedWith}
 use Rattle.store.specs.Contracts.{index, toldOf, Mounts}
@@ -55,7 +55,7 @@ use Rattle.promise.proofs.Promise.{accepted-not}
 use Rattle.store.proofs.EndingLaws.{either-end}
 use Rattle.store.proofs.SizeLaws.{admitted, not-admitted}
 use Rattle.store.proofs.MarkCount.{marks-few}
-use Rattle.store.proofs.Begun.{Begun, begun-good, begun-state}
+use Rattle.store.proofs.Settled.{Settled, settled-good, settled-state}
 
 -- ---- every live page is live where it stands
 live-from : (g : Geometry) (pre ps : List Page) (i : ℕ) → i ≡ length pre → All (LiveAt g (pre ++ ps)) (liveFrom g i ps)
@@ -169,7 +169,7 @@ module _ (nand : Nand) (allowance : ℕ) (torn : List ℕ) (s : State) (i : List
         }
 
     -- ---- an image that means nodes and G
-    module _ (lens slots : List ℕ) (G v : ℕ) (rd : Read g i lens slots G v) (i' : List ℕ) (low : allowance < 2 ^ 32) (p reached : Progress)
+    module _ (lens slots free : List ℕ) (G v : ℕ) (rd : Read g i lens slots free G v) (i' : List ℕ) (low : allowance < 2 ^ 32) (p reached : Progress)
         (from : p ≡ atStart allowance) (begins : Ran g torn (marksOf g v (pagesOf g i)) p reached i i') where
       ran : Ran g torn (marksOf g v (pagesOf g i)) (atStart allowance) reached i i'
       ran = subst (λ (q : Progress). Ran g torn (marksOf g v (pagesOf g i)) q reached i i') from begins
@@ -286,15 +286,15 @@ module _ (nand : Nand) (allowance : ℕ) (torn : List ℕ) (s : State) (i : List
           }
 
       -- ---- finished
-      module _ (bytes' : (j : ℕ) → getD i' j 0 < 256) (next : ℕ) (nx : NextOf (8 * b) lens next) (buffer : List ℕ) (ok : isGone (reached .left) ≡ false) where
+      module _ (bytes' : (j : ℕ) → getD i' j 0 < 256) (buffer : List ℕ) (ok : isGone (reached .left) ≡ false) where
         enough : length (mountOps g ps) ≤ allowance
         enough = ltb-false allowance (length (mountOps g ps)) (sym gone-is ∙ ok)
 
         abbrev st : State
-        st = mountedState nand b G next buffer lens slots
+        st = mountedState nand b G free buffer lens slots
 
-        begun : Begun g st i' (rd .nodes)
-        begun =
+        settled : Settled g st i' (rd .nodes)
+        settled =
             let z = ran .size in
             let k = mount-clean g limit torn (omega (arith, fit .marks)) ps sizes allowance (rd .nodes) G (rd .means) enough .clean in
             record {
@@ -304,7 +304,7 @@ module _ (nand : Nand) (allowance : ℕ) (torn : List ℕ) (s : State) (i : List
               clean = subst (λ (l : List Page). steps g l ≡ stand [] (ordered (liveFrom g 0 l))) (sym pages-are) k;
               tree = rd .tree;
               lists = λ n l. rd .lists n (omega (arith, chip .blocks));
-              next = nx;
+              free = rd .numbers;
               pending = refl;
               count = refl;
               past = λ k l. getD-same 32 k 0;
@@ -321,7 +321,7 @@ module _ (nand : Nand) (allowance : ℕ) (torn : List ℕ) (s : State) (i : List
             let e = means-is in
             let p : viewsOf (rd .nodes) ≡ K = cc in
             let q : G ≡ H = cc in
-            begun-state st i' (rd .nodes) begun ∙ plain-same (viewsOf (rd .nodes)) K G H b (blocksOf g (length i)) p q (chip .blocks)
+            settled-state st i' (rd .nodes) settled ∙ plain-same (viewsOf (rd .nodes)) K G H b (blocksOf g (length i)) p q (chip .blocks)
 
         done-mounts : Mounts nand allowance torn s i (acceptedWith (reached .done) st) i'
         done-mounts =
@@ -342,7 +342,7 @@ module _ (nand : Nand) (allowance : ℕ) (torn : List ℕ) (s : State) (i : List
                 refused = λ q k m. absurd (never-invalid k m);
                 power = λ q K H m. record { enough = λ l. (refl, told); short = λ l. absurd (omega arith) };
                 stays = λ q K H m. stays K H m;
-                done = λ q K H m l. (is-done K H m, begun-good g st i' (rd .nodes) begun);
+                done = λ q K H m l. (is-done K H m, settled-good g st i' (rd .nodes) settled);
                 cut = λ q K H m l. absurd (omega arith);
                 zeros = λ e b. getD-same 32 b 0;
                 noErase = mount-erases g (pagesOf g i);
@@ -356,11 +356,11 @@ module _ (nand : Nand) (allowance : ℕ) (torn : List ℕ) (s : State) (i : List
             }
 
     -- an image that means nodes and G, marked: the state is made of what was read
-    pub marked-mounts : (lens slots : List ℕ) (G v : ℕ) → Read g i lens slots G v → (i' : List ℕ) → allowance < 2 ^ 32 → (p reached : Progress) → p ≡ atStart allowance
+    pub marked-mounts : (lens slots free : List ℕ) (G v : ℕ) → Read g i lens slots free G v → (i' : List ℕ) → allowance < 2 ^ 32 → (p reached : Progress) → p ≡ atStart allowance
         → Ran g torn (marksOf g v (pagesOf g i)) p reached i i' → ((j : ℕ) → getD i' j 0 < 256)
-        → (next : ℕ) → NextOf (8 * b) lens next → (buffer : List ℕ) (r : Wrote)
-        → r ≡ endedWith reached s (mountedState nand b G next buffer lens slots) → Mounts nand allowance torn s i r i'
-    marked-mounts lens slots G v rd i' low p reached from ran bytes' next nx buffer =
-        either-end reached s (mountedState nand b G next buffer lens slots) (λ (r : Wrote). Mounts nand allowance torn s i r i')
-        (λ t. cut-mounts lens slots G v rd i' low p reached from ran t)
-        (λ t. done-mounts lens slots G v rd i' low p reached from ran bytes' next nx buffer t)
+        → (buffer : List ℕ) (r : Wrote)
+        → r ≡ endedWith reached s (mountedState nand b G free buffer lens slots) → Mounts nand allowance torn s i r i'
+    marked-mounts lens slots free G v rd i' low p reached from ran bytes' buffer =
+        either-end reached s (mountedState nand b G free buffer lens slots) (λ (r : Wrote). Mounts nand allowance torn s i r i')
+        (λ t. cut-mounts lens slots free G v rd i' low p reached from ran t)
+        (λ t. done-mounts lens slots free G v rd i' low p reached from ran bytes' buffer t)

@@ -2,11 +2,13 @@
 use mathlib.Core.Path.{_≡_, ap, subst}
 use mathlib.Core.List.{List}
 use Prim.Native.Nat.{ℕ, _≤_}
+use native.Mathlib.Omega.{arith}
 use lib.ListN.{length}
 use Rattle.lists.proofs.Flats.{length-tab}
 use Rattle.chip.specs.Geometry.{Geometry, blocksOf, Nand, geometryOf}
-use Rattle.tree.specs.Tree.{Table}
+use Rattle.tree.specs.Tree.{Table, next}
 use Rattle.tree.specs.Shown.{shown}
+use Rattle.tree.proofs.Laws.{next-length}
 use Rattle.promise.specs.Plain.{Plain, resting}
 use Rattle.promise.specs.Calls.{stateOf}
 use Rattle.promise.specs.Steps.{Mounted}
@@ -19,8 +21,12 @@ pub present-size : (g : Geometry) (s : State) (i : List ℕ) → length (present
 unfolding presentOf shown
 present-size g s i = simp length-tab
 
+-- every number of a node is below the limit
+pub present-next : (g : Geometry) (s : State) (i : List ℕ) → next (presentOf g s i) ≤ limitOf s
+present-next g s i = omega (arith, next-length (presentOf g s i), present-size g s i)
+
 pub good-tree : (g : Geometry) (s : State) (i : List ℕ) → Good g s i → TreeOf (s .blocks) (presentOf g s i)
-good-tree g s i ok = record { tree = ok .tree; size = present-size g s i; numbers = subst (λ (n : ℕ). n ≤ limitOf s) (ok .next) (ok .numbers); levels = ok .levels }
+good-tree g s i ok = record { tree = ok .tree; size = present-size g s i; numbers = present-next g s i; levels = ok .levels }
 
 pub mounted-tree : (n : Nand) (K : Table) (G : ℕ) (s : State) (i : List ℕ) → Mounted index n K G s i → TreeOf (blocksOf (geometryOf n) (length i)) K
 unfolding stateOf resting

@@ -19,6 +19,7 @@ use Rattle.log.specs.Plan.{nodeAt}
 use Rattle.promise.specs.Calls.{invalid}
 use Rattle.promise.specs.Image.{viewsOf, imageMeaning}
 use Rattle.tree.specs.Step6.{step6}
+use Rattle.tree.specs.Free.{freeNumbers}
 use Rattle.log.specs.MountCode.{retireOps}
 use Rattle.store.specs.declared.check.Judged.{Judged}
 use Rattle.store.specs.declared.check.Judged.the-variants as J
@@ -34,22 +35,23 @@ isRead limit xs = all isSound (events limit xs) && all isWell (table limit (even
 abbrev pub isTree : ℕ → List Live → Bool
 isTree limit xs = step6 (viewsOf (table limit (events limit xs)))
 
--- all pass, and the arrays hold the list of every node
-pub record Passed (limit : ℕ) (xs : List Live) (lens slots : List ℕ) : Type 0 where
+-- all pass, and the arrays hold the list of every node and the numbers that no node has
+pub record Passed (limit : ℕ) (xs : List Live) (lens slots free : List ℕ) : Type 0 where
   pub read : isRead limit xs ≡ true
   pub tree : isTree limit xs ≡ true
   pub lists : (n : ℕ) → n < 256 → Stores lens slots n (nodeOf n (events limit xs) .pages)
+  pub numbers : free ≡ freeNumbers (viewsOf (table limit (events limit xs)))
 
 -- the answer says what they say
-abbrev pub Judges : ℕ → List Live → List ℕ → List ℕ → Judged → Type 0
-Judges limit xs lens slots J.Layout = isRead limit xs ≡ false
-Judges limit xs lens slots J.Shape = (isRead limit xs ≡ true) × (isTree limit xs ≡ false)
-Judges limit xs lens slots J.Tree = Passed limit xs lens slots
+abbrev pub Judges : ℕ → List Live → List ℕ → List ℕ → List ℕ → Judged → Type 0
+Judges limit xs lens slots free J.Layout = isRead limit xs ≡ false
+Judges limit xs lens slots free J.Shape = (isRead limit xs ≡ true) × (isTree limit xs ≡ false)
+Judges limit xs lens slots free J.Tree = Passed limit xs lens slots free
 
 -- for keys that are those of the standing pages of the image
-abbrev pub JudgesKeys : Geometry → List ℕ → List ℕ → ℕ → List ℕ → List ℕ → Judged → Type 0
-JudgesKeys g image keys limit lens slots r =
-    (v xs : List Live) → steps g (pagesOf g image) ≡ stand v xs → keys ≡ map keyOf xs → Judges limit xs lens slots r
+abbrev pub JudgesKeys : Geometry → List ℕ → List ℕ → ℕ → List ℕ → List ℕ → List ℕ → Judged → Type 0
+JudgesKeys g image keys limit lens slots free r =
+    (v xs : List Live) → steps g (pagesOf g image) ≡ stand v xs → keys ≡ map keyOf xs → Judges limit xs lens slots free r
 
 -- ---- the commit numbers of keys in order, of which the last `voids` are those of the void pages
 -- the commit number of the key at index j
@@ -75,17 +77,18 @@ refusedBy n = cond (eqb n 7) Blank Layout
 abbrev pub marksOf : Geometry → ℕ → List Page → List Op
 marksOf g v ps = cond (eqb v 0) [] (retireOps g v ps)
 
--- the image means these nodes and this number; the arrays hold their lists; the void pages are those of commit v, none for 0
-pub record Read (g : Geometry) (image lens slots : List ℕ) (G v : ℕ) : Type 0 where
+-- the image means these nodes and this number; the arrays hold their lists and the numbers that none of them has; the void pages are those of commit v, none for 0
+pub record Read (g : Geometry) (image lens slots free : List ℕ) (G v : ℕ) : Type 0 where
   pub nodes : List Node
   pub means : Views.meaning g (8 * blocksOf g (length image)) (pagesOf g image) ≡ Views.means nodes G
   pub tree : step6 (viewsOf nodes) ≡ true
   pub lists : (n : ℕ) → n < 8 * blocksOf g (length image) → Stores lens slots n (nodeAt nodes n .pages)
+  pub numbers : free ≡ freeNumbers (viewsOf nodes)
   pub marks : mountOps g (pagesOf g image) ≡ marksOf g v (pagesOf g image)
 
 -- the answer says what the image means
-abbrev pub Checks : Geometry → List ℕ → List ℕ → List ℕ → Checked → Type 0
-Checks g image lens slots Blank = imageMeaning g image ≡ invalid 7
-Checks g image lens slots Layout = imageMeaning g image ≡ invalid 8
-Checks g image lens slots Shape = imageMeaning g image ≡ invalid 9
-Checks g image lens slots (Means G v) = Read g image lens slots G v
+abbrev pub Checks : Geometry → List ℕ → List ℕ → List ℕ → List ℕ → Checked → Type 0
+Checks g image lens slots free Blank = imageMeaning g image ≡ invalid 7
+Checks g image lens slots free Layout = imageMeaning g image ≡ invalid 8
+Checks g image lens slots free Shape = imageMeaning g image ≡ invalid 9
+Checks g image lens slots free (Means G v) = Read g image lens slots free G v

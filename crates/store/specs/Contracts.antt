@@ -1,11 +1,11 @@
 -- What each call ensures: the records of the promise, read on the code's state and image, and what those leave out.
 use mathlib.Core.Path.{_≡_}
-use mathlib.Core.Bool.{not}
-use mathlib.Core.List.{List, [], _∷_}
-use Prim.Native.Nat.{ℕ, _+_, _*_, _<_, _≤_, max}
+use mathlib.Core.Bool.{not, cond}
+use mathlib.Core.List.{List}
+use Prim.Native.Nat.{ℕ, _*_, _<_, _≤_, max}
 use lib.Dec.{leb}
 use lib.ListN.{length, take, getD, replicate}
-use Rattle.lists.specs.Lists.{any, part, count, first}
+use Rattle.lists.specs.Lists.{part, count, first}
 use Rattle.chip.specs.Geometry.{Geometry, Nand, geometryOf, blocksOf}
 use Rattle.chip.specs.Page.{isFree}
 use Rattle.chip.specs.declared.power.Power.the-variants.{Left}
@@ -16,12 +16,13 @@ use Rattle.chip.specs.Erases.{figuresAfter}
 use Rattle.views.specs.Groups.{Distinct}
 use Rattle.views.specs.Table as Views
 use Rattle.views.specs.Table.{Node}
+use Rattle.views.specs.Stored.{isFreed, lengthOf}
 use Rattle.tree.specs.Tree.{Table, find, path}
 use Rattle.tree.specs.Shown.{pagesRead}
 use Rattle.log.specs.Format.{formatOps, formattedBy}
 use Rattle.log.specs.Mount.{mountOps, mountedBy}
 use Rattle.log.specs.Commit.{groupsOf}
-use Rattle.log.specs.Plan.{Plan, mostOps, nodeAt, opsOf, isEmpty}
+use Rattle.log.specs.Plan.{mostOps, nodeAt, opsOf, isEmpty}
 use Rattle.promise.specs.Plain.{UpdateCall, accepted, insertion, deletion, admission, commits, forecasts, lookedUp, refuses, startRefusal, orElse, when}
 use Rattle.promise.specs.Calls as P
 use Rattle.promise.specs.Calls.{Store, means}
@@ -89,16 +90,20 @@ pub record Mounts (nand : Nand) (allowance : ℕ) (torn : List ℕ) (s : State) 
   pub off : startRefusal (geometryOf nand) (length i) (length torn) ≡ 0 → (n : ℕ) → answerOf (r .answer) ≡ refuses n
       → r .state ≡ turnedOff s
 
--- the sum of the list lengths of these nodes; a node that is not on flash has length 0
-abbrev pub listLengths : List Node → List ℕ → ℕ
-listLengths nodes [] = 0
-listLengths nodes (n ∷ ns) = length (nodeAt nodes n .pages) + listLengths nodes ns
+-- the length of a node on flash: that of its list, 0 where it is freed there; a number that is not on flash has length 0
+abbrev pub flashLength : Node → ℕ
+flashLength x = cond (isFreed (x .now)) 0 (length (x .pages))
 
--- look up, on any state and any image: what P says of the key, and the sum of the list lengths on its path, at most 16
+-- the sum of these lengths
+abbrev pub listLengths : List Node → List ℕ → ℕ
+listLengths nodes ns = pagesRead (λ (n : ℕ). flashLength (nodeAt nodes n)) ns
+
+-- look up, on any state and any image: what P says of the key, and the sum of the lengths on flash of the nodes on its path, at most 16
 pub record Looks (k : ℕ) (s : State) (i : List ℕ) (r : Look) : Type 0 where
   pub says : P.LookUp index k s i (lookOf r) s i
   pub any : admission (geometryIn s) (s .on) (s .blocks) (length i) ≡ 0 → lookOf r ≡ lookedUp (find k (presentOf (geometryIn s) s i))
-  pub pages : admission (geometryIn s) (s .on) (s .blocks) (length i) ≡ 0 → pagesTold r ≡ pagesRead (s .lens) (s .slots) (path k (presentOf (geometryIn s) s i))
+  pub pages : admission (geometryIn s) (s .on) (s .blocks) (length i) ≡ 0 → pagesTold r
+      ≡ pagesRead (lengthOf (geometryIn s) (limitOf s) (pagesOf (geometryIn s) i) (s .lens) (s .slots)) (path k (presentOf (geometryIn s) s i))
   -- on a state that calls gave, the lists are those of step 5, as the image gives them
   pub lists : Good (geometryIn s) s i → admission (geometryIn s) (s .on) (s .blocks) (length i) ≡ 0 → (nodes : List Node) (G : ℕ)
       → Views.meaning (geometryIn s) (limitOf s) (pagesOf (geometryIn s) i) ≡ Views.means nodes G → pagesTold r ≡ listLengths nodes (path k (presentOf (geometryIn s) s i))
@@ -138,12 +143,9 @@ pub record Reports (b : ℕ) (s : State) (i : List ℕ) (r : Report) : Type 0 wh
   pub erases : reportRefusal r ≡ 0 → erasesTold r ≡ getD (s .erases) b 0
 
 -- ---- commit and forecast
--- the plan of a commit, and its operations
-abbrev pub thePlan : Geometry → State → List ℕ → Plan
-thePlan g s i = planAt g s i
-
+-- the operations of the plan of a commit
 abbrev pub theOps : Geometry → State → List ℕ → List Op
-theOps g s i = opsOf g (s .commit) (thePlan g s i)
+theOps g s i = opsOf g (s .commit) (planAt g s i)
 
 -- a commit that its tests pass, with updates pending, on any state and any image
 abbrev pub Proceeds : ℕ → List ℕ → State → List ℕ → Type 0
@@ -161,7 +163,7 @@ pub record Commits (allowance : ℕ) (torn : List ℕ) (s : State) (i : List ℕ
   -- on a good state, with room or without: a program only where the data is all 255
   pub legal : P.Committing index allowance torn s i → Legal (geometryIn s) (pagesOf (geometryIn s) i) (theOps (geometryIn s) s i)
   -- the units of one node stand in one page
-  pub once : P.Committing index allowance torn s i → Distinct (groupsOf (thePlan (geometryIn s) s i .written))
+  pub once : P.Committing index allowance torn s i → Distinct (groupsOf (planAt (geometryIn s) s i .written))
   pub off : answerOf (r .answer) ≡ refuses 10 → r .state ≡ turnedOff s
   pub bounds : KeepsBounds s (r .state)
 

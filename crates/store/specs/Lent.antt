@@ -9,11 +9,17 @@ use Rattle.promise.specs.Steps.{Step, Lends, Hands, boots}
 use Rattle.store.specs.declared.answer.Answer.{Answer}
 use Rattle.store.specs.declared.state.Numbers.{Numbers}
 use Rattle.store.specs.declared.state.State.{State}
+use Rattle.store.specs.declared.state.WroteParts.{WroteParts}
 use Rattle.store.specs.declared.step.Call.{Call}
 use Rattle.store.specs.Answers.{answerOf}
-use Rattle.store.specs.Contracts.{index}
-use Rattle.store.specs.Parts.{joined}
+use Rattle.store.specs.Contracts.{index, Commits}
+use Rattle.store.specs.Parts.{joined, withFree, wroteWith, wroteFree}
 use Rattle.store.specs.Step.{actOf, StepsBy}
+
+-- a commit on lent parts: it leaves the free numbers, and is the same call whatever they are
+pub record CommitsLent (allowance : ℕ) (torn : List ℕ) (n : Numbers) (buffer lens slots erases i : List ℕ) (r : WroteParts) (lens' slots' erases' i' : List ℕ) : Type 0 where
+  pub kept : r .numbers .free ≡ n .free
+  pub says : (free : List ℕ) → Commits allowance torn (joined (withFree n free) buffer lens slots erases) i (wroteWith (wroteFree r free) buffer lens' slots' erases') i'
 
 -- the parts of a state: its numbers, and the arrays lent
 pub record Parts : Type 0 where

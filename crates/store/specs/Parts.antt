@@ -1,4 +1,4 @@
--- A state in parts: its numbers by value, and its arrays, which the caller lends.
+-- A state in parts: its numbers by value, and its large arrays, which the caller lends.
 use mathlib.Core.Bool.{false}
 use mathlib.Core.List.{List}
 use Prim.Native.Nat.{ℕ, _*_}
@@ -21,7 +21,7 @@ joined n buffer lens slots erases =
       blocks = n .blocks;
       commit = n .commit;
       pending = n .pending;
-      next = n .next;
+      free = n .free;
       count = n .count;
       buffer = buffer;
       lens = lens;
@@ -31,7 +31,7 @@ joined n buffer lens slots erases =
 
 -- the numbers of a state
 abbrev pub numbersOf : State → Numbers
-numbersOf s = record { on = s .on; nand = s .nand; blocks = s .blocks; commit = s .commit; pending = s .pending; next = s .next; count = s .count }
+numbersOf s = record { on = s .on; nand = s .nand; blocks = s .blocks; commit = s .commit; pending = s .pending; free = s .free; count = s .count }
 
 -- what its nodes are read with: node numbers are below 8 × B
 abbrev pub scopeOf : Numbers → Scope
@@ -43,7 +43,11 @@ basisOf n = record { geometry = geometryOf (n .nand); count = n .count; blocks =
 
 -- the same numbers, off
 abbrev pub numbersOff : Numbers → Numbers
-numbersOff n = record { on = false; nand = n .nand; blocks = n .blocks; commit = n .commit; pending = n .pending; next = n .next; count = n .count }
+numbersOff n = record { on = false; nand = n .nand; blocks = n .blocks; commit = n .commit; pending = n .pending; free = n .free; count = n .count }
+
+-- the same numbers with these free numbers: look up, forecast, commit and block report do not read those
+abbrev pub withFree : Numbers → List ℕ → Numbers
+withFree n free = record { on = n .on; nand = n .nand; blocks = n .blocks; commit = n .commit; pending = n .pending; free = free; count = n .count }
 
 -- what an insert or a delete gives back, with the arrays that it leaves
 abbrev pub updatedWith : UpdatedParts → List ℕ → List ℕ → List ℕ → List ℕ → Updated
@@ -52,3 +56,7 @@ updatedWith r buffer lens slots erases = record { answer = r .answer; state = jo
 -- what a format, a mount or a commit gives back, with the arrays that it leaves
 abbrev pub wroteWith : WroteParts → List ℕ → List ℕ → List ℕ → List ℕ → Wrote
 wroteWith r buffer lens slots erases = record { answer = r .answer; ops = r .ops; state = joined (r .numbers) buffer lens slots erases }
+
+-- the same with these free numbers
+abbrev pub wroteFree : WroteParts → List ℕ → WroteParts
+wroteFree r free = record { answer = r .answer; ops = r .ops; numbers = withFree (r .numbers) free }

@@ -1,6 +1,6 @@
--- The lines of the requirement that are marked with a star, as one table: what the definitions give, and what the line says.
+-- The lines of the requirement that are marked with a star, and lines for the joins after deletes, as one table: what the definitions give, and what the line says.
 use mathlib.Core.List.{List, [], _∷_, _++_, map}
-use Prim.Native.Nat.{ℕ, zero, suc}
+use Prim.Native.Nat.{ℕ, zero, suc, _+_}
 use lib.ListN.{take, replicate}
 use Rattle.lists.specs.Lists.{flat}
 use Rattle.chip.specs.Geometry.{small}
@@ -10,9 +10,11 @@ use Rattle.pages.specs.declared.unit.Unit as U
 use Rattle.pages.specs.Units.{encode}
 use Rattle.pages.specs.Data.{laid, dataOf}
 use Rattle.pages.specs.Steps.{Live, Stood, refused, stand, steps}
-use Rattle.views.specs.Nodes.{Entry, entry, View, untouched, broken, view}
+use Rattle.views.specs.Nodes.{Entry, entry, View, untouched, freed, broken, view}
 use Rattle.views.specs.Table as Views
-use Rattle.tree.specs.Tree.{Table, inserted}
+use Rattle.tree.specs.Tree.{Table}
+use Rattle.tree.specs.Insert.{inserted}
+use Rattle.tree.specs.Delete.{delete}
 use Rattle.log.specs.Format.{formatData}
 use Rattle.promise.specs.Calls.{Meaning, invalid, means}
 use Rattle.promise.specs.Image.{bySix, checked}
@@ -26,9 +28,10 @@ pub record Line : Type 0 where
 abbrev pub pairOf : Entry → List ℕ
 pairOf e = e .key ∷ e .value ∷ []
 
--- a node: its level, then its keys, each with its value
+-- a node: its level, then its keys, each with its value; 255 where it is freed
 abbrev pub nodeLine : View → List ℕ
 nodeLine untouched = []
+nodeLine freed = 255 ∷ []
 nodeLine broken = []
 nodeLine (view l es) = l ∷ flat pairOf es
 
@@ -71,6 +74,33 @@ abbrev pub keys : ℕ → ℕ → List ℕ
 keys n zero = []
 keys n (suc c) = n ∷ n ∷ keys (suc n) c
 
+-- the same as entries
+unfoldable pub from : ℕ → ℕ → List Entry
+from n zero = []
+from n (suc c) = entry n n ∷ from (suc n) c
+
+-- node 0 over three leaves: x keys from 10 on, y from 30 on, z from 50 on
+abbrev pub three : ℕ → ℕ → ℕ → Table
+three x y z = view 1 (entry 0 1 ∷ entry 30 2 ∷ entry 50 3 ∷ []) ∷ view 0 (from 10 x) ∷ view 0 (from 30 y) ∷ view 0 (from 50 z) ∷ []
+
+-- entries of c children: keys k, k + 20, .., numbers n, n + 1, ..
+unfoldable pub row : ℕ → ℕ → ℕ → List Entry
+row k n zero = []
+row k n (suc c) = entry k n ∷ row (k + 20) (suc n) c
+
+-- c leaves of 8 keys each, from k, k + 20, .. on
+unfoldable pub rows : ℕ → ℕ → Table
+rows k zero = []
+rows k (suc c) = view 0 (from k 8) ∷ rows (k + 20) c
+
+-- node 0 over two nodes of level 1 with 8 leaves of 8 keys each
+abbrev pub wide : Table
+wide = view 2 (entry 0 1 ∷ entry 160 2 ∷ []) ∷ view 1 (row 0 3 8) ∷ view 1 (row 160 11 8) ∷ rows 0 16
+
+-- node 0 of level 2 over one node with two leaves of 2 and 3 keys
+abbrev pub tall : Table
+tall = view 2 (entry 0 1 ∷ []) ∷ view 1 (entry 0 2 ∷ entry 20 3 ∷ []) ∷ view 0 (from 1 2) ∷ view 0 (from 20 3) ∷ []
+
 -- node 0 with two leaves, from key 0 and from key 10; the second has a key below 10
 abbrev pub lowKey : Table
 lowKey = view 1 (entry 0 1 ∷ entry 10 2 ∷ []) ∷ view 0 (entry 3 5 ∷ []) ∷ view 0 (entry 9 5 ∷ []) ∷ []
@@ -102,4 +132,23 @@ starred =
     ∷ record { got = meaningLines (bySix (Views.meaning small 24 (levelFour ∷ []))); is = (8 ∷ []) ∷ [] }
     -- a key below its leaf's low bound
     ∷ record { got = meaningLines (checked lowKey 1); is = (9 ∷ []) ∷ [] }
+    -- a leaf joins its right neighbour
+    ∷ record { got = map nodeLine (delete 10 (three 8 8 8)); is = (1 ∷ 0 ∷ 1 ∷ 50 ∷ 3 ∷ []) ∷ (0 ∷ keys 11 7 ++ keys 30 8) ∷ (255 ∷ []) ∷ (0 ∷ keys 50 8) ∷ [] }
+    -- the last leaf joins its left neighbour
+    ∷ record { got = map nodeLine (delete 57 (three 8 8 8)); is = (1 ∷ 0 ∷ 1 ∷ 30 ∷ 2 ∷ []) ∷ (0 ∷ keys 10 8) ∷ (0 ∷ keys 30 8 ++ keys 50 7) ∷ (255 ∷ []) ∷ [] }
+    -- an entry moves over from the right neighbour
+    ∷ record { got = map nodeLine (delete 10 (three 8 10 8)); is = (1 ∷ 0 ∷ 1 ∷ 31 ∷ 2 ∷ 50 ∷ 3 ∷ []) ∷ (0 ∷ keys 11 7 ++ keys 30 1) ∷ (0 ∷ keys 31 9) ∷ (0 ∷ keys 50 8) ∷ [] }
+    -- and from the left neighbour to the last leaf
+    ∷ record { got = map nodeLine (delete 57 (three 8 10 8)); is = (1 ∷ 0 ∷ 1 ∷ 30 ∷ 2 ∷ 39 ∷ 3 ∷ []) ∷ (0 ∷ keys 10 8) ∷ (0 ∷ keys 30 9) ∷ (0 ∷ keys 39 1 ++ keys 50 7) ∷ [] }
+    -- with 8 entries left nothing happens
+    ∷ record { got = map nodeLine (delete 12 (three 9 8 8)); is = (1 ∷ 0 ∷ 1 ∷ 30 ∷ 2 ∷ 50 ∷ 3 ∷ []) ∷ (0 ∷ keys 10 2 ++ keys 13 6) ∷ (0 ∷ keys 30 8) ∷ (0 ∷ keys 50 8) ∷ [] }
+    -- a parent joins too, and node 0 takes over
+    ∷ record {
+      got = map nodeLine (delete 0 wide);
+      is = (1 ∷ flat pairOf (entry 0 3 ∷ row 40 5 6 ++ row 160 11 8)) ∷ (255 ∷ []) ∷ (255 ∷ []) ∷ (0 ∷ keys 1 7 ++ keys 20 8) ∷ (255 ∷ []) ∷ map nodeLine (rows 40 14);
+    }
+    -- node 0 takes over two levels
+    ∷ record { got = map nodeLine (delete 1 tall); is = (0 ∷ keys 2 1 ++ keys 20 3) ∷ (255 ∷ []) ∷ (255 ∷ []) ∷ (255 ∷ []) ∷ [] }
+    -- a freed number is taken again
+    ∷ record { got = map nodeLine (inserted 9 9 (inserted 8 8 (delete 10 (three 8 8 8)))); is = (1 ∷ 0 ∷ 1 ∷ 30 ∷ 2 ∷ 50 ∷ 3 ∷ []) ∷ (0 ∷ keys 8 2 ++ keys 11 7) ∷ (0 ∷ keys 30 8) ∷ (0 ∷ keys 50 8) ∷ [] }
     ∷ []

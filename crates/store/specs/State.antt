@@ -19,9 +19,9 @@ use Rattle.views.specs.Groups.{own}
 use Rattle.views.specs.Table as Views
 use Rattle.views.specs.Table.{Node, isWhole}
 use Rattle.views.specs.Stored.{storedList, listView}
-use Rattle.tree.specs.Tree as T
 use Rattle.tree.specs.Tree.{Table, entriesAt, rootLevel}
 use Rattle.tree.specs.Step6.{top, step6, Tree}
+use Rattle.tree.specs.Free.{freeNumbers}
 use Rattle.tree.specs.Shown.{shown}
 use Rattle.log.specs.Plan.{Plan, hasRoom, isEmpty, nodeAt, opsOf, spareBlocks, stuck}
 use Rattle.log.specs.Admissible.{Contents}
@@ -38,7 +38,7 @@ initial =
       blocks = 0;
       commit = 0;
       pending = 0;
-      next = 0;
+      free = replicate 4 0;
       count = 0;
       buffer = replicate 11520 0;
       lens = replicate 256 0;
@@ -55,7 +55,7 @@ turnedOff s =
       blocks = s .blocks;
       commit = s .commit;
       pending = s .pending;
-      next = s .next;
+      free = s .free;
       count = s .count;
       buffer = s .buffer;
       lens = s .lens;
@@ -111,14 +111,12 @@ pub record Good (g : Geometry) (s : State) (image : List ℕ) : Type 0 where
   pub few : s .count ≤ 60 * s .pending
   pub some : 0 < s .pending → 0 < s .count
   pub pending : s .pending ≤ 16
-  -- P is a tree with a root of level 3 at most; its keys and values have 32 bits; no view is broken
+  -- P is a tree with a root of level 3 at most; its keys and values have 32 bits; no view is broken; its free numbers are on record
   pub tree : Tree (presentOf g s image)
-  pub small : (n : ℕ) → All (λ (e : Entry). (e .key < top) × (e .value < top)) (entriesAt (presentOf g s image) n)
+  pub words : (n : ℕ) → All (λ (e : Entry). (e .key < top) × (e .value < top)) (entriesAt (presentOf g s image) n)
   pub whole : all isWhole (presentOf g s image) ≡ true
   pub levels : rootLevel (presentOf g s image) ≤ 3
-  -- the next number: the greatest number of a node, plus 1
-  pub next : s .next ≡ T.next (presentOf g s image)
-  pub numbers : s .next ≤ limitOf s
+  pub free : s .free ≡ freeNumbers (presentOf g s image)
   -- a block past the chip has no erase on record
   pub past : (b : ℕ) → s .blocks ≤ b → getD (s .erases) b 0 ≡ 0
 

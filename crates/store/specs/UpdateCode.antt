@@ -11,16 +11,16 @@ use Rattle.store.specs.Answers.{answerOf}
 use Rattle.store.specs.State.{geometryIn, presentOf, Good}
 use Rattle.store.specs.Contracts.{index, KeepsBounds}
 
--- the state after an update: the buffer, its count and the next number
-abbrev pub withUnits : State → List ℕ → ℕ → ℕ → State
-withUnits s buffer used x =
+-- the state after an update: the buffer, its count and the free numbers
+abbrev pub withUnits : State → List ℕ → ℕ → List ℕ → State
+withUnits s buffer used free =
     record {
       on = s .on;
       nand = s .nand;
       blocks = s .blocks;
       commit = s .commit;
       pending = s .pending + 1;
-      next = x;
+      free = free;
       count = used;
       buffer = buffer;
       lens = s .lens;

@@ -1,4 +1,4 @@
-// What an image means, by steps 1 to 6, with the node table read from it.
+// What an image means, by steps 1 to 6, with the node table and the free numbers read from it.
 ghost use mathlib.Core.Path.{_≡_};
 ghost use Prim.Native.Nat.{_-_, _/_, _%_, _<_, _≤_};
 ghost use lib.ListN.{length};
@@ -8,6 +8,7 @@ ghost use Rattle.store.specs.AdmitCode.{ChipOf};
 ghost use Rattle.store.specs.CheckCode.{commitAt, meansBy, Numbered, refusedBy, JudgesKeys, Checks};
 use chip::geometry::CHIP_PAGES;
 use chip::geometry::Geometry;
+use numbers::set;
 use pages::standing;
 use pages::standing::COMMIT;
 use pages::standing::Standing;
@@ -32,7 +33,7 @@ pub enum Checked {
     Means(u32, u32),
 }
 
-// Steps 4 to 6 on the standing pages, whose keys are order[from..to]; the node table is read into `lens` and `slots`.
+// Steps 4 to 6 on the standing pages, whose keys are order[from..to]; the node table is read into `lens` and `slots`, and the numbers that no node has into `free`.
 fn judge(
     geometry: Geometry,
     image: &[u8],
@@ -42,9 +43,10 @@ fn judge(
     limit: u32,
     lens: &mut [u32; 256],
     slots: &mut [u32; 1024],
+    free: &mut [u64; 4],
 ) -> Judged
     requires { ⌜ (length (now image) % pageSize geometry ≡ 0) × (length (now image) / pageSize geometry ≤ mostPages) × (from ≤ to) × (to ≤ mostPages) × (limit ≤ 256) × Fits geometry ⌝ }
-    ensures { λ r. ⌜ JudgesKeys geometry (now (image .entry)) (part from (to - from) (now (order .entry))) limit (now (lens .exit)) (now (slots .exit)) r ⌝ }
+    ensures { λ r. ⌜ JudgesKeys geometry (now (image .entry)) (part from (to - from) (now (order .entry))) limit (now (lens .exit)) (now (slots .exit)) (now (free .exit)) r ⌝ }
 {
     let well = read::read_nodes(geometry, image, order, from, to, limit, lens, slots);
     if !well {
@@ -52,7 +54,11 @@ fn judge(
     }
     let mut seen = [0; 256];
     let tree = check::is_tree(geometry, image, lens, slots, limit, &mut seen);
-    if tree { Judged::Tree } else { Judged::Shape }
+    if !tree {
+        return Judged::Shape;
+    }
+    set::gather(&seen, limit, free);
+    Judged::Tree
 }
 
 // The commit number of the page whose key is order[at], with the keys as a slice.
@@ -96,16 +102,17 @@ fn refused(number: u32) -> Checked
     }
 }
 
-// Steps 1 to 6; the node table is read into `lens` and `slots`.
+// Steps 1 to 6; the node table is read into `lens` and `slots`, and the numbers that no node has into `free`.
 pub fn check(
     geometry: Geometry,
     image: &[u8],
     blocks: usize,
     lens: &mut [u32; 256],
     slots: &mut [u32; 1024],
+    free: &mut [u64; 4],
 ) -> Checked
     requires { ⌜ ChipOf geometry blocks (length (now image)) × Fits geometry ⌝ }
-    ensures { λ r. ⌜ Checks geometry (now (image .entry)) (now (lens .exit)) (now (slots .exit)) r ⌝ }
+    ensures { λ r. ⌜ Checks geometry (now (image .entry)) (now (lens .exit)) (now (slots .exit)) (now (free .exit)) r ⌝ }
 {
     let mut order = [0; CHIP_PAGES];
     let limit = (8 * blocks) as u32;
@@ -113,7 +120,7 @@ pub fn check(
         Standing::Refused(n) => refused(n),
         Standing::Stands(first, voids) => {
             let to = CHIP_PAGES - voids;
-            match judge(geometry, image, &order, first, to, limit, lens, slots) {
+            match judge(geometry, image, &order, first, to, limit, lens, slots, free) {
                 Judged::Layout => Checked::Layout,
                 Judged::Shape => Checked::Shape,
                 Judged::Tree => passed(&order, voids),

@@ -3,7 +3,7 @@ ghost use lib.ListN.{length};
 ghost use Rattle.store.specs.declared.admit.Beginning.the-variants.{Plans};
 ghost use Rattle.store.specs.AdmitCode.{CommitBegins};
 ghost use Rattle.store.specs.Contracts.{Commits};
-ghost use Rattle.store.specs.Parts.{joined, wroteWith};
+ghost use Rattle.store.specs.Lent.{CommitsLent};
 use crate::admit;
 use crate::admit::Beginning;
 use crate::answer::Answer;
@@ -30,8 +30,8 @@ fn commit_pending(
     allowance: u32,
 ) -> WroteParts
     requires { ⌜ CommitBegins numbers (length (now image)) (length (now torn)) Plans ⌝ }
-    ensures { λ r. ⌜ Commits allowance (now (torn .entry)) (joined numbers (now (buffer .entry)) (now (lens .entry)) (now (slots .entry)) (now (erases .entry)))
-        (now (image .entry)) (wroteWith r (now (buffer .entry)) (now (lens .exit)) (now (slots .exit)) (now (erases .exit))) (now (image .exit)) ⌝ }
+    ensures { λ r. ⌜ CommitsLent allowance (now (torn .entry)) numbers (now (buffer .entry)) (now (lens .entry)) (now (slots .entry)) (now (erases .entry))
+        (now (image .entry)) r (now (lens .exit)) (now (slots .exit)) (now (erases .exit)) (now (image .exit)) ⌝ }
 {
     let basis = scope::basis_of(numbers);
     let start = progress::begin(allowance);
@@ -74,8 +74,8 @@ pub fn commit_lent(
     torn: &[u8],
     allowance: u32,
 ) -> WroteParts
-    ensures { λ r. ⌜ Commits allowance (now (torn .entry)) (joined numbers (now (buffer .entry)) (now (lens .entry)) (now (slots .entry)) (now (erases .entry)))
-        (now (image .entry)) (wroteWith r (now (buffer .entry)) (now (lens .exit)) (now (slots .exit)) (now (erases .exit))) (now (image .exit)) ⌝ }
+    ensures { λ r. ⌜ CommitsLent allowance (now (torn .entry)) numbers (now (buffer .entry)) (now (lens .entry)) (now (slots .entry)) (now (erases .entry))
+        (now (image .entry)) r (now (lens .exit)) (now (slots .exit)) (now (erases .exit)) (now (image .exit)) ⌝ }
 {
     match admit::commit_begins(numbers, image.len(), torn.len()) {
         Beginning::Ends(answer) => ending::quiet(numbers, answer),

@@ -2,7 +2,7 @@
 ghost use mathlib.Core.List.{List};
 ghost use Prim.Native.Nat.{ℕ};
 ghost use Rattle.store.specs.Contracts.{Looks};
-ghost use Rattle.store.specs.Parts.{joined};
+ghost use Rattle.store.specs.Parts.{joined, withFree};
 use crate::admit;
 use crate::admit::Admission;
 use crate::answer::Look;
@@ -22,7 +22,7 @@ pub fn look_up_lent<'a>(
     image: &[u8],
     key: u32,
 ) -> Look
-    ensures { λ r. ⌜ ((erases : List ℕ) → Looks key (joined numbers (now (buffer .entry)) (now (lens .entry)) (now (slots .entry)) erases) (now (image .entry)) r) ⌝ }
+    ensures { λ r. ⌜ ((free erases : List ℕ) → Looks key (joined (withFree numbers free) (now (buffer .entry)) (now (lens .entry)) (now (slots .entry)) erases) (now (image .entry)) r) ⌝ }
 {
     match admit::admit(numbers, image.len()) {
         Admission::Off => Look::Off,

@@ -8,7 +8,7 @@ ghost use Rattle.chip.specs.Counts.{nothing};
 ghost use Rattle.store.specs.declared.admit.Beginning.the-variants.{Plans};
 ghost use Rattle.store.specs.AdmitCode.{CommitBegins};
 ghost use Rattle.store.specs.Contracts.{Forecasts};
-ghost use Rattle.store.specs.Parts.{joined};
+ghost use Rattle.store.specs.Parts.{joined, withFree};
 use crate::admit;
 use crate::admit::Beginning;
 use crate::answer::Answer;
@@ -37,8 +37,8 @@ fn forecast_pending<'a>(
     image: &[u8],
 ) -> Forecast
     requires { ⌜ CommitBegins numbers (length (now image)) (pageSize (geometryOf (numbers .nand))) Plans ⌝ }
-    ensures { λ r. ⌜ ((erases : List ℕ)
-        → Forecasts (joined numbers (now (buffer .entry)) (now (lens .entry)) (now (slots .entry)) erases) (now (image .entry)) r) ⌝ }
+    ensures { λ r. ⌜ ((free erases : List ℕ)
+        → Forecasts (joined (withFree numbers free) (now (buffer .entry)) (now (lens .entry)) (now (slots .entry)) erases) (now (image .entry)) r) ⌝ }
 {
     let basis = scope::basis_of(numbers);
     let cost = forecast::forecast(image, lens, slots, buffer, basis);
@@ -50,7 +50,7 @@ fn forecast_pending<'a>(
     Forecast { answer, ops }
 }
 
-// Forecast on lent arrays, whatever the erases: it begins as a commit with a torn slice of the right length.
+// Forecast on lent arrays, whatever the free numbers and the erases: it begins as a commit with a torn slice of the right length.
 pub fn forecast_lent<'a>(
     numbers: Numbers,
     lens: &'a [u32; 256],
@@ -58,8 +58,8 @@ pub fn forecast_lent<'a>(
     buffer: &'a [u8; 11520],
     image: &[u8],
 ) -> Forecast
-    ensures { λ r. ⌜ ((erases : List ℕ)
-        → Forecasts (joined numbers (now (buffer .entry)) (now (lens .entry)) (now (slots .entry)) erases) (now (image .entry)) r) ⌝ }
+    ensures { λ r. ⌜ ((free erases : List ℕ)
+        → Forecasts (joined (withFree numbers free) (now (buffer .entry)) (now (lens .entry)) (now (slots .entry)) erases) (now (image .entry)) r) ⌝ }
 {
     let nand = numbers.nand;
     let torn = admit::page_size(nand);

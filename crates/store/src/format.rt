@@ -15,6 +15,7 @@ use chip::geometry;
 use chip::geometry::Nand;
 use chip::progress;
 use log;
+use numbers::set;
 
 // Format as the part named, on a lent node table and lent erases, with power for `allowance` operations: after it the node table has one empty leaf, node 0, on
 // page 0, and no block has an erase. The buffer's bytes stay, whatever they are.
@@ -38,19 +39,21 @@ pub fn format_lent(
     }
     let start = progress::begin(allowance);
     let reached = log::format::format(geometry, image, blocks, torn, start);
+    let mut l = [0; 256];
+    l[0] = 1;
+    let s = [0; 1024];
+    let e = [0; 32];
+    let mut free = [0; 4];
+    set::gather(&l, (8 * blocks) as u32, &mut free);
     let fresh = Numbers {
         on: true,
         nand,
         blocks,
         commit: 1,
         pending: 0,
-        next: 1,
+        free,
         count: 0,
     };
-    let mut l = [0; 256];
-    l[0] = 1;
-    let s = [0; 1024];
-    let e = [0; 32];
     ending::ended(numbers, lens, slots, erases, fresh, &l, &s, &e, reached)
 }
 

@@ -1,13 +1,12 @@
 // Mount: the image alone is read; after all checks the void pages get their obsolete mark, lowest place first.
 ghost use mathlib.Core.Path.{_≡_};
 ghost use mathlib.Core.List.{List};
-ghost use Prim.Native.Nat.{ℕ, _%_, _≤_};
+ghost use Prim.Native.Nat.{ℕ, _%_};
 ghost use lib.ListN.{length};
 ghost use Rattle.chip.specs.Geometry.{Fits, pageSize};
 ghost use Rattle.chip.specs.Chip.{pagesOf};
 ghost use Rattle.chip.specs.RunCode.{Ran};
 ghost use Rattle.store.specs.CheckCode.{marksOf};
-ghost use Rattle.store.specs.FreshCode.{NextOf};
 ghost use Rattle.store.specs.Contracts.{Mounts};
 ghost use Rattle.store.specs.Parts.{joined, wroteWith};
 use crate::admit;
@@ -26,29 +25,6 @@ use chip::geometry::Nand;
 use chip::progress;
 use chip::progress::Progress;
 use log;
-
-// The next node number, with the lengths as a slice.
-fn next_in(lens: &[u32], limit: u32) -> u32
-    requires { ⌜ (length (now lens) ≡ 256) × (limit ≤ 256) ⌝ }
-    ensures { λ r. ⌜ NextOf limit (now (lens .entry)) r ⌝ }
-{
-    let mut n = limit;
-    while n > 0 {
-        if lens[(n - 1) as usize] != 0 {
-            return n;
-        }
-        n -= 1;
-    }
-    0
-}
-
-// The next node number: one more than the greatest number of a node that has a list.
-fn next_number(lens: &[u32; 256], limit: u32) -> u32
-    requires { ⌜ limit ≤ 256 ⌝ }
-    ensures { λ r. ⌜ NextOf limit (now (lens .entry)) r ⌝ }
-{
-    next_in(lens, limit)
-}
 
 // The obsolete mark set on each page of the void commit; 0 says that there is none.
 fn retire(
@@ -89,20 +65,19 @@ pub fn mount_lent(
     let mut l = [0; 256];
     let mut s = [0; 1024];
     let e = [0; 32];
-    match check::check(geometry, image, blocks, &mut l, &mut s) {
+    let mut free = [0; 4];
+    match check::check(geometry, image, blocks, &mut l, &mut s, &mut free) {
         Checked::Blank => ending::refused(numbers, Answer::Blank),
         Checked::Layout => ending::refused(numbers, Answer::Layout),
         Checked::Shape => ending::refused(numbers, Answer::Shape),
         Checked::Means(commit, void) => {
-            let limit = (8 * blocks) as u32;
-            let next = next_number(&l, limit);
             let mounted = Numbers {
                 on: true,
                 nand,
                 blocks,
                 commit,
                 pending: 0,
-                next,
+                free,
                 count: 0,
             };
             let start = progress::begin(allowance);

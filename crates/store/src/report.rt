@@ -2,7 +2,7 @@
 ghost use mathlib.Core.List.{List};
 ghost use Prim.Native.Nat.{ℕ};
 ghost use Rattle.store.specs.Contracts.{Reports};
-ghost use Rattle.store.specs.Parts.{joined};
+ghost use Rattle.store.specs.Parts.{joined, withFree};
 use crate::admit;
 use crate::admit::Admission;
 use crate::answer::Report;
@@ -12,9 +12,9 @@ use crate::state::State;
 use chip::block;
 use chip::geometry;
 
-// The free pages and the erases of block `at`, whatever the buffer and the node table; 4 where it is not on the chip.
+// The free pages and the erases of block `at`, whatever the free numbers, the buffer and the node table; 4 where it is not on the chip.
 pub fn block_report_lent(numbers: Numbers, erases: &[u64; 32], image: &[u8], at: u32) -> Report
-    ensures { λ r. ⌜ ((buffer lens slots : List ℕ) → Reports at (joined numbers buffer lens slots (now (erases .entry))) (now (image .entry)) r) ⌝ }
+    ensures { λ r. ⌜ ((free buffer lens slots : List ℕ) → Reports at (joined (withFree numbers free) buffer lens slots (now (erases .entry))) (now (image .entry)) r) ⌝ }
 {
     match admit::admit(numbers, image.len()) {
         Admission::Off => Report::Off,

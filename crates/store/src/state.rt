@@ -9,7 +9,7 @@ use chip::progress::Counts;
 // The most units that the buffer holds.
 pub const UNITS: usize = 960;
 
-// On or off, the part, the number of blocks (B), the greatest commit number (G), the pending updates, the next node number, the units of the
+// On or off, the part, the number of blocks (B), the greatest commit number (G), the pending updates, the free node numbers as a set, the units of the
 // reservation buffer with their count, the node table: for each node the length of its list and its pages, and for each block its erases
 // since the last finished mount or format.
 pub struct State {
@@ -18,7 +18,7 @@ pub struct State {
     pub blocks: usize,
     pub commit: u32,
     pub pending: u32,
-    pub next: u32,
+    pub free: [u64; 4],
     pub count: usize,
     pub buffer: [u8; 11520],
     pub lens: [u32; 256],
@@ -26,14 +26,14 @@ pub struct State {
     pub erases: [u64; 32],
 }
 
-// A state but for its arrays, for a caller that lends those.
+// A state but for its large arrays, for a caller that lends those.
 pub struct Numbers {
     pub on: bool,
     pub nand: Nand,
     pub blocks: usize,
     pub commit: u32,
     pub pending: u32,
-    pub next: u32,
+    pub free: [u64; 4],
     pub count: usize,
 }
 
@@ -73,7 +73,7 @@ pub fn initial() -> State
         blocks: 0,
         commit: 0,
         pending: 0,
-        next: 0,
+        free: [0; 4],
         count: 0,
         buffer: [0; 11520],
         lens: [0; 256],
@@ -96,13 +96,14 @@ pub fn numbers_of(state: State) -> Numbers
     ensures { λ r. ⌜ r ≡ numbersOf state ⌝ }
 {
     let nand = state.nand;
+    let free = state.free;
     Numbers {
         on: state.on,
         nand,
         blocks: state.blocks,
         commit: state.commit,
         pending: state.pending,
-        next: state.next,
+        free,
         count: state.count,
     }
 }
@@ -118,13 +119,14 @@ fn join(
     ensures { λ r. ⌜ r ≡ joined numbers buffer lens slots erases ⌝ }
 {
     let nand = numbers.nand;
+    let free = numbers.free;
     State {
         on: numbers.on,
         nand,
         blocks: numbers.blocks,
         commit: numbers.commit,
         pending: numbers.pending,
-        next: numbers.next,
+        free,
         count: numbers.count,
         buffer,
         lens,

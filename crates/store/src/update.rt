@@ -17,8 +17,6 @@ use crate::state::State;
 use crate::state::Updated;
 use crate::state::UpdatedParts;
 use tree::delete;
-use tree::find;
-use tree::find::Hit;
 use tree::insert;
 
 // The most units that the buffer of a state that calls gave holds before an update: 60 for each of 15.
@@ -45,8 +43,8 @@ fn insert_admitted<'a>(
         };
     }
     let scope = scope::scope_of(numbers);
-    let next = numbers.next;
-    let r = insert::insert(image, lens, slots, buffer, scope, next, key, value);
+    let mut free = numbers.free;
+    let r = insert::insert(image, lens, slots, buffer, scope, &mut free, key, value);
     if r.refused {
         return UpdatedParts {
             answer: Answer::Nodes,
@@ -55,7 +53,7 @@ fn insert_admitted<'a>(
     }
     let mut n = numbers;
     n.count = r.count;
-    n.next = r.next;
+    n.free = free;
     n.pending = numbers.pending + 1;
     UpdatedParts {
         answer: Answer::Accepted,
@@ -83,23 +81,21 @@ fn delete_admitted<'a>(
         };
     }
     let scope = scope::scope_of(numbers);
-    let looked = find::find(image, lens, slots, buffer, scope, key);
-    let hit = looked.hit;
-    match hit {
-        Hit::Nothing => UpdatedParts {
+    let mut free = numbers.free;
+    let d = delete::delete(image, lens, slots, buffer, scope, &mut free, key);
+    if d.absent {
+        return UpdatedParts {
             answer: Answer::Absent,
             numbers,
-        },
-        Hit::At(_) => {
-            let leaf = looked.leaf;
-            let mut n = numbers;
-            n.count = delete::delete(image, lens, slots, buffer, scope, leaf, key);
-            n.pending = numbers.pending + 1;
-            UpdatedParts {
-                answer: Answer::Accepted,
-                numbers: n,
-            }
-        }
+        };
+    }
+    let mut n = numbers;
+    n.count = d.count;
+    n.free = free;
+    n.pending = numbers.pending + 1;
+    UpdatedParts {
+        answer: Answer::Accepted,
+        numbers: n,
     }
 }
 

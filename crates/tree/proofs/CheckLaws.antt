@@ -1,15 +1,16 @@
 -- The steps of step 6 in the code: the rules of one node, a walk over nodes with its counts, and the counts at the end. Assumes nothing.
-use mathlib.Core.Path.{_≡_, refl, sym, ap, _∙_}
+use mathlib.Core.Path.{_≡_, refl, sym, ap, ap₂, _∙_}
 use mathlib.Core.Logic.{⊎-elim}
-use mathlib.Core.Bool.{Bool, true, false, _&&_, not}
-use mathlib.Core.List.{List, [], _∷_, _++_}
+use mathlib.Core.Bool.{Bool, true, false, _&&_}
+use mathlib.Core.List.{List, [], _∷_, _++_, map}
 use Prim.Native.Nat.{ℕ, zero, suc, _+_, _<_, _≤_}
 use native.Mathlib.Numerals.{add-one}
 use native.Mathlib.Omega.{arith}
 use lib.Dec.{leb, eqb}
 use lib.ListN.{length, take, drop, getD, set, replicate, length-take, drop-of-length-le, List·getD-eq-default}
 use lib.Seq.{slice-cons, getD-set-same, getD-set-other}
-use borrow.Author.Tests.{eq-eqb, ne-eqb, le-leb, lt-leb, lt-ltb, le-ltb}
+use borrow.Author.Tests.{eq-eqb, ne-eqb, le-leb, lt-leb, lt-ltb, le-ltb, eqb-true}
+use Rattle.lists.specs.Lists.{tab}
 use Rattle.lists.proofs.Places.{getD-same}
 use Rattle.lists.proofs.Tests.{cases, clash, and-left, and-right, and-intro, below-or-not, same-or-not}
 use Rattle.lists.proofs.Flats.{length-tab}
@@ -17,7 +18,7 @@ use Rattle.chip.specs.Geometry.{Geometry}
 use Rattle.chip.specs.Chip.{pagesOf}
 use Rattle.views.specs.declared.node.Node.{Node}
 use Rattle.views.specs.declared.fold.Stage.{Stage}
-use Rattle.views.specs.declared.fold.Stage.the-variants.{Untouched, Broken, Full}
+use Rattle.views.specs.declared.fold.Stage.the-variants.{Untouched, Freed, Broken, Full}
 use Rattle.views.specs.Nodes.{Entry, entry, View, untouched, broken}
 use Rattle.views.specs.NodeCode as C
 use Rattle.views.specs.FoldCode.{viewAt}
@@ -25,9 +26,10 @@ use Rattle.views.specs.Stored.{storedList, listView, bufferView}
 use Rattle.views.proofs.NodeLaws.{length-entries}
 use Rattle.tree.specs.Tree.{entriesOf, there, Table, at, entriesAt, rootLevel, firstKey}
 use Rattle.tree.specs.Step6.{top, isLevel, keysIn, areSubtrees, isSubtree, reached, times, onceFrom, step6}
+use Rattle.tree.specs.Free.{isOpen}
 use Rattle.tree.specs.Shown.{shown}
 use Rattle.tree.specs.FindCode.{entriesFrom}
-use Rattle.tree.specs.CheckCode.{pagesTable, startsAt, obeysAt, ownAt, under, Twice, Walks, MarksNumber, countsFrom}
+use Rattle.tree.specs.CheckCode.{pagesTable, startsAt, obeysAt, ownAt, under, Twice, Walks, MarksNumber, countsFrom, ChecksTree}
 use Rattle.tree.proofs.Shape.{times-append, hit-same}
 use Rattle.tree.proofs.Step6.{at-length, BranchRules, branch-rules, once-at}
 use Rattle.tree.proofs.Paths.{level-there}
@@ -71,6 +73,7 @@ obeys-branch (suc l) lo hi es h = refl
 -- ---- a view that is a node's
 pub level-entries : (l : ℕ) (s : Stage) (n : Node) → isLevel l (viewAt s n) ≡ true → entriesOf (viewAt s n) ≡ C.entriesOf n
 level-entries l Untouched n h = clash h refl
+level-entries l Freed n h = clash h refl
 level-entries l Broken n h = clash h refl
 level-entries l Full n h = refl
 
@@ -293,18 +296,31 @@ counts-once : (n : ℕ) (t : Table) (s ns : List ℕ) → ((j : ℕ) → getD s 
 counts-once n [] s ns h = refl
 counts-once n (w ∷ t) s ns h = rw (h n, counts-once (suc n) t s ns h)
 
+-- where each node is counted once, the numbers that no node has are those with count 0
+counts-open : (n : ℕ) (t : Table) (s : List ℕ) → countsFrom n t s ≡ true → map isOpen t ≡ tab n (length t) (λ (m : ℕ). eqb (getD s m 0) 0)
+counts-open n [] s h = refl
+counts-open n (w ∷ t) s h =
+    let a = eqb (getD s n 0) (there w) in
+    let b = countsFrom (suc n) t s in
+    ap₂ (λ (x : Bool) (xs : List Bool). x ∷ xs)
+    (ap (λ (m : ℕ). eqb m 0) (sym (eqb-true (getD s n 0) (there w) (and-left a b h))))
+    (counts-open (suc n) t s (and-right a b h))
+
 -- ---- the whole of step 6
 module _ (t : Table) (l : ℕ) (s u : List ℕ) (el : l ≡ rootLevel t) (es : s ≡ replicate 256 0) where
   -- a tree is reached: what is left are the counts
-  pub tree-counts : (r : Bool) → Walks t (isSubtree l t 0 0 top) (reached l t 0) s u true → r ≡ countsFrom 0 t u → r ≡ step6 t
+  tree-step : (r : Bool) → Walks t (isSubtree l t 0 0 top) (reached l t 0) s u true → r ≡ countsFrom 0 t u → r ≡ step6 t
   unfolding step6
-  tree-counts r w e =
+  tree-step r w e =
       let a : isSubtree (rootLevel t) t 0 0 top ≡ true = rw el at (w .passes refl) in
       let o = sub-own (rootLevel t) t 0 0 top a in
       let b = and-left (isLevel (rootLevel t) (at t 0)) (obeysAt (rootLevel t) 0 top (entriesAt t 0)) o in
       let z : (j : ℕ) → getD s j 0 ≡ 0 = λ j. ap (λ (x : List ℕ). getD x j 0) es ∙ getD-same 256 j 0 in
       let k = counts-once 0 t u (reached (rootLevel t) t 0) (λ j. w .counts refl j ∙ omega (arith, z j, ap (λ (m : ℕ). times j (reached m t 0)) el)) in
       e ∙ k ∙ sym (rw (b, a))
+
+  pub tree-counts : (r : Bool) → Walks t (isSubtree l t 0 0 top) (reached l t 0) s u true → r ≡ countsFrom 0 t u → ChecksTree t u r
+  tree-counts r w e = record { is = tree-step r w e; counted = λ q. counts-open 0 t u (sym e ∙ q) }
 
   once-twice : {A : Type 0} (ns : List ℕ) → onceFrom 0 t ns ≡ true → Twice t s ns → A
   once-twice ns o d =
@@ -316,9 +332,9 @@ module _ (t : Table) (l : ℕ) (s u : List ℕ) (el : l ≡ rootLevel t) (es : s
       (below-or-not j (length t))
 
   -- no tree is reached
-  pub no-tree : Walks t (isSubtree l t 0 0 top) (reached l t 0) s u false → false ≡ step6 t
+  no-step : Walks t (isSubtree l t 0 0 top) (reached l t 0) s u false → false ≡ step6 t
   unfolding step6
-  no-tree w =
+  no-step w =
       let r = rootLevel t in
       let a = isLevel r (at t 0) in
       let b = isSubtree r t 0 0 top in
@@ -327,3 +343,6 @@ module _ (t : Table) (l : ℕ) (s u : List ℕ) (el : l ≡ rootLevel t) (es : s
       cases (a && (b && o))
       (λ h. let k = and-right a (b && o) h in once-twice (reached r t 0) (and-right b o k) (w′ .stops refl (and-left b o k)))
       (λ h. sym h)
+
+  pub no-tree : Walks t (isSubtree l t 0 0 top) (reached l t 0) s u false → ChecksTree t u false
+  no-tree w = record { is = no-step w; counted = λ e. clash e refl }

@@ -4,11 +4,12 @@ use mathlib.Core.Bool.{Bool, true, false, cond}
 use mathlib.Core.List.{List, [], _∷_, _++_}
 use Prim.Native.Nat.{ℕ, suc, _+_, _<_, _≤_}
 use native.Mathlib.Omega.{arith}
+use lib.Dec.{ltb, eqb}
 use lib.ListN.{length}
 use borrow.Author.Tests.{lt-ltb, le-ltb, eq-eqb, ne-eqb}
 use Rattle.views.specs.Nodes.{Entry, entry, Above, Rising, insertEntry, deleteEntry}
 use Rattle.tree.specs.Tree.{found, absent, lookup, firstKey}
-use Rattle.lists.proofs.Tests.{three}
+use Rattle.lists.proofs.Tests.{cases, three}
 
 -- the keys rise from lo to below hi
 abbrev pub Between : ℕ → ℕ → List Entry → Type 0
@@ -159,3 +160,18 @@ above-between i hi (e ∷ es) h = (h .0, above-between (e .key) hi es (h .1))
 pub rising-between : (lo hi : ℕ) (es : List Entry) → Between lo hi es → Rising es
 rising-between lo hi [] h = tt
 rising-between lo hi (e ∷ es) h = above-between (e .key) hi es (h .1)
+
+-- an insert takes no entry, a delete at most one
+pub insert-least : (k v : ℕ) (es : List Entry) → length es ≤ length (insertEntry k v es)
+insert-least k v [] = omega arith
+insert-least k v (e ∷ es) =
+    cases (ltb (e .key) k)
+    (λ t. rw t (omega (arith, insert-least k v es)))
+    (λ t. cases (eqb (e .key) k) (λ q. rw (t, q) (omega arith)) (λ q. rw (t, q) (omega arith)))
+
+pub delete-least : (k : ℕ) (es : List Entry) → length es ≤ suc (length (deleteEntry k es))
+delete-least k [] = omega arith
+delete-least k (e ∷ es) =
+    cases (ltb (e .key) k)
+    (λ t. rw t (omega (arith, delete-least k es)))
+    (λ t. cases (eqb (e .key) k) (λ q. rw (t, q) (omega arith)) (λ q. rw (t, q) (omega arith)))

@@ -4,8 +4,10 @@ use mathlib.Core.Bool.{true, false}
 use mathlib.Core.List.{List, [], _∷_}
 use Prim.Native.Nat.{ℕ, zero, suc}
 use Rattle.views.specs.Nodes.{Entry, entry, View, untouched, view}
-use Rattle.tree.specs.Tree.{Table, found, absent, find, fitOrSplit, gain, halve, raise, insertAt, inserted, done, refusal, allowed, insert, delete, deleteAt}
+use Rattle.tree.specs.Tree.{Table, found, absent, find}
 use Rattle.tree.specs.Step6.{step6}
+use Rattle.tree.specs.Insert.{fitOrSplit, gain, halve, raise, insertAt, inserted, done, refusal, allowed, insert}
+use Rattle.tree.specs.Delete.{delete, deleteAt}
 
 -- keys n to n + c - 1, each with its own number for a value
 unfoldable pub countingFrom : ℕ → ℕ → List Entry

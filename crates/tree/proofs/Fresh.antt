@@ -6,12 +6,14 @@ use native.Mathlib.Omega.{arith}
 use lib.ListN.{length, length-append}
 use Rattle.lists.proofs.Flats.{map-append}
 use Rattle.views.specs.Nodes.{Entry, entry, insertEntry}
-use Rattle.tree.specs.Tree.{Table, at, entriesOf, entriesAt, rootLevel, child, Up, gains, insertAt}
+use Rattle.tree.specs.Tree.{Table, at, entriesOf, entriesAt, rootLevel, child}
 use Rattle.tree.specs.Step6.{top, times, Tree}
+use Rattle.tree.specs.Insert.{Up, gains, insertAt}
 use Rattle.tree.specs.InsertCode.{Fresh}
 use Rattle.tree.proofs.Shape.{Kid, Shape, number, entryOf, rest, nums, startOf, Sub, start-first, there-le, hit-same}
-use Rattle.tree.proofs.Grow.{Grown, insert-after, Under, under, under-sub, under-count, inserts}
-use Rattle.tree.proofs.Steps.{level-at}
+use Rattle.tree.proofs.Children.{Grown, insert-after, Under, under, under-sub, under-count}
+use Rattle.tree.proofs.InsertAt.{inserts}
+use Rattle.tree.proofs.Shaped.{level-at}
 use Rattle.tree.proofs.Step6.{shape-of}
 
 -- an entry in the place behind e
@@ -47,8 +49,8 @@ module _ (k v : ℕ) (t : Table) where
           let uc = under-count t l lo hi (s .number) k (s .kids) w in
           let sub = under-sub t l lo hi (s .number) k (s .kids) w in
           let one : (j : ℕ) → times j (nums l (w .kid .sub)) ≤ 1 = λ j. omega (arith, once j, uc j) in
-          let no : times 0 (nums l (w .kid .sub)) ≡ 0 = omega (arith, uc 0) in
-          let G = inserts k v t l (w .kid .key) (startOf hi (w .after)) (w .kid .sub) sub one no (w .low) (w .high) in (
+          let none : times 0 (nums l (w .kid .sub)) ≡ 0 = omega (arith, uc 0) in
+          let G = inserts k v t l (w .kid .key) (startOf hi (w .after)) (w .kid .sub) sub one none (w .low) (w .high) .grown in (
             λ j m u e. gains-one k (insertEntry k v) t l lo hi (s .number) (s .kids) w j m u
                 (subst (λ (q : Up). Grown (insertEntry k v) t q l (w .kid .key) (startOf hi (w .after)) (w .kid .sub)) (ap (λ (i : ℕ). insertAt l i k v t) (sym (w .child)) ∙ e) G),
             rw (w .child) (ih (w .kid .key) (startOf hi (w .after)) (w .kid .sub) sub one (omega arith) (w .low) (w .high)),

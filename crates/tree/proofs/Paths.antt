@@ -1,16 +1,16 @@
--- The way down to a leaf: on a tree it leads through nodes that are there, of falling level, and a delete is done at its end. Assumes nothing.
+-- The way down to a leaf: on a tree it leads through nodes that are there, of falling level. Assumes nothing.
 use mathlib.Core.Path.{_≡_, refl, ap, subst}
 use mathlib.Core.Bool.{true}
 use Prim.Native.Nat.{ℕ, zero, suc, _<_, _≤_}
 use native.Mathlib.Omega.{arith}
 use borrow.Author.Tests.{eq-eqb}
 use Rattle.lists.specs.Lists.{All, none, more}
-use Rattle.views.specs.Nodes.{View, view, deleteEntry}
-use Rattle.tree.specs.Tree.{there, Table, at, put, entriesAt, rootLevel, child, pathAt, path, leafAt, deleteAt}
+use Rattle.views.specs.Nodes.{View}
+use Rattle.tree.specs.Tree.{there, Table, at, rootLevel, child, pathAt, path}
 use Rattle.tree.specs.Step6.{top, isLevel, Leads, Tree}
 use Rattle.tree.proofs.Shape.{Shape, number, startOf, Sub}
-use Rattle.tree.proofs.Grow.{Under, under, under-sub}
-use Rattle.tree.proofs.Steps.{level-at}
+use Rattle.tree.proofs.Children.{Under, under, under-sub}
+use Rattle.tree.proofs.Shaped.{level-at}
 use Rattle.tree.proofs.Step6.{shape-of, is-node}
 
 leads-sub : (k : ℕ) (t : Table) (l lo hi : ℕ) (s : Shape l) → Sub 16 t l lo hi s → lo ≤ k → k < hi → Leads l (number l s) k t
@@ -37,8 +37,3 @@ pathAt-there (suc l) n k t h = more (level-there (suc l) (at t n) (h .0)) (pathA
 pub path-there : (k : ℕ) (t : Table) → Tree t → k < top → All (λ (m : ℕ). there (at t m) ≡ 1) (path k t)
 unfolding path
 path-there k t g h = pathAt-there (rootLevel t) 0 k t (leads k t g h)
-
-pub delete-leaf : (l n k : ℕ) (t : Table) → deleteAt l n k t ≡ put (leafAt l n k t) (view 0 (deleteEntry k (entriesAt t (leafAt l n k t)))) t
-unfolding deleteAt
-delete-leaf zero n k t = refl
-delete-leaf (suc l) n k t = delete-leaf l (child t n k) k t

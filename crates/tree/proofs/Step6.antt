@@ -11,13 +11,13 @@ use lib.ListN.{length}
 use borrow.Author.Tests.{eq-eqb, le-leb, lt-ltb, leb-true, ltb-true, eqb-true}
 use Rattle.lists.specs.Lists.{flat}
 use Rattle.lists.proofs.Tests.{and-left, and-right}
-use Rattle.views.specs.Nodes.{Entry, View, untouched, broken, view, Above, Rising}
+use Rattle.views.specs.Nodes.{Entry, View, untouched, freed, broken, view, Above, Rising}
 use Rattle.tree.specs.Tree.{there, Table, at, entriesOf, entriesAt, firstKey, rootLevel, recordsAt}
 use Rattle.tree.specs.Step6.{top, times, isLevel, keysIn, areSubtrees, isSubtree, reached, onceFrom, step6, NodeFits, Tree}
 use Rattle.lists.proofs.Tests.{below-or-not, same-or-not}
 use Rattle.tree.proofs.Entries.{Between, between-le, between-down, rising-between}
 use Rattle.tree.proofs.Shape.{Kid, Shape, number, entryOf, tops, rest, nums, recs, numsOf, startOf, Starts, Kids, Held, Inner, Sub, times-append, hit-other, start-first, sub-out}
-use Rattle.tree.proofs.Steps.{Shaped, top-at, level-at}
+use Rattle.tree.proofs.Shaped.{Shaped, top-at, level-at}
 
 -- the lists that the table reads along are the shape's
 module _ {B : Type 0} (t : Table) (l : ℕ) (f : ℕ → List B) (g : Shape l → List B) where
@@ -93,6 +93,7 @@ rises-within lo hi (e ∷ es) r g h =
 pub is-node : (l : ℕ) (s : View) → isLevel l s ≡ true → s ≡ view l (entriesOf s)
 is-node l untouched h = let z : _≡_ {A = Bool} false true = h in cc
 is-node l broken h = let z : _≡_ {A = Bool} false true = h in cc
+is-node l freed h = let z : _≡_ {A = Bool} false true = h in cc
 is-node l (view m es) h = rw (eqb-true m l h)
 
 abbrev read : (l : ℕ) → Table → ℕ → Shape l
@@ -255,6 +256,7 @@ inner-view t (suc l) lo hi m s h g =
 empty-view : (s : View) → there s ≤ 0 → NodeFits (entriesOf s)
 empty-view untouched h = record { rising = tt; few = omega arith }
 empty-view broken h = record { rising = tt; few = omega arith }
+empty-view freed h = record { rising = tt; few = omega arith }
 empty-view (view l es) h = absurd (omega arith)
 
 pub tree-views : (t : Table) → Shaped t → (n : ℕ) → NodeFits (entriesAt t n)

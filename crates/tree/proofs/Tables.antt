@@ -8,7 +8,7 @@ use lib.Dec.{eqb}
 use lib.ListN.{length}
 use borrow.Author.Tests.{eq-eqb, ne-eqb}
 use Rattle.lists.specs.Lists.{bit}
-use Rattle.views.specs.Nodes.{Entry, View, untouched, broken, view}
+use Rattle.views.specs.Nodes.{Entry, View, untouched, freed, broken, view}
 use Rattle.tree.specs.Tree.{there, Table, at, put, next, nextOver}
 use Rattle.lists.proofs.Tests.{same-or-not, below-or-not}
 
@@ -65,6 +65,7 @@ over-mono : (m n : ℕ) (s : View) → m ≤ n → nextOver m s ≤ nextOver n s
 over-mono zero zero s h = omega arith
 over-mono zero (suc n) untouched h = omega arith
 over-mono zero (suc n) broken h = omega arith
+over-mono zero (suc n) freed h = omega arith
 over-mono zero (suc n) (view l es) h = omega arith
 over-mono (suc m) zero s h = absurd (omega arith)
 over-mono (suc m) (suc n) s h = omega arith
@@ -72,6 +73,7 @@ over-mono (suc m) (suc n) s h = omega arith
 over-node : (m l : ℕ) (s : View) (es : List Entry) → (nextOver m s ≤ nextOver m (view l es)) × (1 ≤ nextOver m (view l es))
 over-node zero l untouched es = (omega arith, omega arith)
 over-node zero l broken es = (omega arith, omega arith)
+over-node zero l freed es = (omega arith, omega arith)
 over-node zero l (view k ds) es = (omega arith, omega arith)
 over-node (suc m) l s es = (omega arith, omega arith)
 
@@ -107,12 +109,18 @@ over-pos (suc m) s h = refl
 over-le : (m : ℕ) (s : View) → nextOver m s ≤ suc m
 over-le zero untouched = omega arith
 over-le zero broken = omega arith
+over-le zero freed = omega arith
 over-le zero (view l es) = omega arith
 over-le (suc m) s = omega arith
+
+pub next-length : (t : Table) → next t ≤ length t
+next-length [] = omega arith
+next-length (x ∷ t) = omega (arith, over-le (next t) x, next-length t)
 
 over-max : (m l : ℕ) (s : View) (es : List Entry) → nextOver m (view l es) ≡ max (nextOver m s) 1
 over-max zero l untouched es = refl
 over-max zero l broken es = refl
+over-max zero l freed es = refl
 over-max zero l (view k ds) es = refl
 over-max (suc m) l s es = omega arith
 

@@ -2,16 +2,18 @@
 use mathlib.Core.Path.{_≡_}
 use mathlib.Core.Logic.{_⊎_}
 use mathlib.Core.Bool.{Bool, true, false, _&&_}
-use mathlib.Core.List.{List, [], _∷_}
+use mathlib.Core.List.{List, [], _∷_, map}
 use Prim.Native.Nat.{ℕ, zero, suc, _+_, _≤_}
 use lib.Dec.{leb, eqb}
 use lib.ListN.{length, getD}
 use Rattle.lists.specs.Lists.{flat}
 use Rattle.chip.specs.Geometry.{Geometry}
 use Rattle.chip.specs.Chip.{pagesOf}
+use Rattle.numbers.specs.NumberSet.{uncounted}
 use Rattle.views.specs.Nodes.{Entry, View}
 use Rattle.tree.specs.Tree.{entriesOf, there, Table, at, firstKey}
-use Rattle.tree.specs.Step6.{isLevel, keysIn, reached, times}
+use Rattle.tree.specs.Step6.{isLevel, keysIn, reached, times, step6}
+use Rattle.tree.specs.Free.{isOpen}
 use Rattle.tree.specs.Shown.{shown}
 
 -- the table that the pages alone show
@@ -57,3 +59,8 @@ pub record MarksNumber (size n : ℕ) (before after : List ℕ) (r : Bool) : Typ
 abbrev pub countsFrom : ℕ → Table → List ℕ → Bool
 countsFrom n [] counts = true
 countsFrom n (w ∷ t) counts = eqb (getD counts n 0) (there w) && countsFrom (suc n) t counts
+
+-- step 6 of a table, and where it passes the numbers that no node has by their counts
+pub record ChecksTree (t : Table) (counts : List ℕ) (r : Bool) : Type 0 where
+  pub is : r ≡ step6 t
+  pub counted : r ≡ true → map isOpen t ≡ uncounted (length t) counts

@@ -1,7 +1,16 @@
 pub mod Tree
 pub mod Step6
+pub mod Insert
+pub mod Delete
+pub mod Thick
 pub mod Units
+pub mod InsertUnits
+pub mod DeleteUnits
+pub mod Free
 pub mod Shown
 pub mod FindCode
 pub mod CheckCode
+pub mod UpdateCode
 pub mod InsertCode
+pub mod BalanceCode
+pub mod DeleteCode

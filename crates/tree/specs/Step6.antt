@@ -6,7 +6,7 @@ use Prim.Native.Nat.{ℕ, zero, suc, _^_, _≤_}
 use lib.Dec.{ltb, leb, eqb}
 use lib.ListN.{length}
 use Rattle.lists.specs.Lists.{count, flat}
-use Rattle.views.specs.Nodes.{Entry, View, untouched, broken, view, Rising}
+use Rattle.views.specs.Nodes.{Entry, View, untouched, freed, broken, view, Rising}
 use Rattle.tree.specs.Tree.{there, Table, at, entriesAt, rootLevel, child, firstKey}
 
 -- the root has no end: every key is below it
@@ -16,6 +16,7 @@ top = 2 ^ 32
 -- a node of level l
 abbrev pub isLevel : ℕ → View → Bool
 isLevel l untouched = false
+isLevel l freed = false
 isLevel l broken = false
 isLevel l (view m es) = eqb m l
 

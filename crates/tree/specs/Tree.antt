@@ -1,25 +1,27 @@
--- The tree: the views of the nodes by number; to find a key, to insert and to delete.
-use mathlib.Core.Bool.{cond, _&&_}
+-- The tree: the views of the nodes by number; to find a key.
+use mathlib.Core.Bool.{Bool, true, false, cond}
 use mathlib.Core.List.{List, [], _∷_}
-use Prim.Native.Nat.{ℕ, zero, suc}
+use Prim.Native.Nat.{ℕ, zero, suc, _+_}
 use lib.Dec.{leb, eqb}
-use lib.ListN.{length, take, drop}
 use Rattle.lists.specs.Lists.{flat}
-use Rattle.views.specs.Nodes.{Entry, entry, View, untouched, broken, view, insertEntry, deleteEntry}
+use Rattle.views.specs.Nodes.{Entry, View, untouched, freed, broken, view}
 
 abbrev pub levelOf : View → ℕ
 levelOf untouched = 0
+levelOf freed = 0
 levelOf broken = 0
 levelOf (view l es) = l
 
 abbrev pub entriesOf : View → List Entry
 entriesOf untouched = []
+entriesOf freed = []
 entriesOf broken = []
 entriesOf (view l es) = es
 
 -- 1 where a node is, 0 where none is
 abbrev pub there : View → ℕ
 there untouched = 0
+there freed = 0
 there broken = 0
 there (view l es) = 1
 
@@ -42,7 +44,7 @@ put (suc n) w (x ∷ t) = x ∷ put n w t
 abbrev pub entriesAt : Table → ℕ → List Entry
 entriesAt t n = entriesOf (at t n)
 
--- the next number: the greatest number of a node, plus 1
+-- the greatest number of a node, plus 1
 abbrev pub nextOver : ℕ → View → ℕ
 nextOver zero w = there w
 nextOver (suc m) w = suc (suc m)
@@ -51,6 +53,26 @@ abbrev pub next : Table → ℕ
 next [] = 0
 next (w ∷ t) = nextOver (next t) w
 
+-- the least number that is free or unused
+abbrev pub leastOver : ℕ → View → ℕ
+leastOver m untouched = 0
+leastOver m freed = 0
+leastOver m broken = 0
+leastOver m (view l es) = suc m
+
+abbrev pub least : Table → ℕ
+least [] = 0
+least (w ∷ t) = leastOver (least t) w
+
+-- how many numbers have a node
+abbrev pub nodes : Table → ℕ
+nodes [] = 0
+nodes (w ∷ t) = there w + nodes t
+
+-- the second least number
+abbrev pub least2 : Table → ℕ
+least2 t = least (put (least t) (view 0 []) t)
+
 abbrev pub rootLevel : Table → ℕ
 rootLevel t = levelOf (at t 0)
 
@@ -58,6 +80,10 @@ rootLevel t = levelOf (at t 0)
 pub data Found : Type 0 where
   absent : Found
   found : ℕ → Found
+
+abbrev pub isAbsent : Found → Bool
+isAbsent absent = true
+isAbsent (found v) = false
 
 abbrev pub lookup : ℕ → List Entry → Found
 lookup k [] = absent
@@ -104,63 +130,3 @@ recordsAt (suc l) t n = flat (λ (e : Entry). recordsAt l t (e .value)) (entries
 
 unfoldable pub records : Table → List Entry
 records t = recordsAt (rootLevel t) t 0
-
--- ---- to insert
--- what an insert under a node leaves: the table, and the entry that the parent gains, if any
-pub data Up : Type 0 where
-  stop : Table → Up
-  gains : ℕ → ℕ → Table → Up
-
-abbrev pub tableOf : Up → Table
-tableOf (stop t) = t
-tableOf (gains k m t) = t
-
--- the first 9 in key order to node n, the others to node m
-unfoldable pub halve : ℕ → ℕ → ℕ → List Entry → Table → Table
-halve l n m es t = put m (view l (drop 9 es)) (put n (view l (take 9 es)) t)
-
--- node 0 becomes one level higher: the 9 go to number m, the 8 to m + 1
-unfoldable pub raise : ℕ → ℕ → List Entry → Table → Table
-raise l m es t = put 0 (view (suc l) (entry 0 m ∷ entry (firstKey 0 (drop 9 es)) (suc m) ∷ [])) (halve l m (suc m) es t)
-
--- node n of level l is to hold es: up to 16 it does, with 17 it splits
-unfoldable pub fitOrSplit : ℕ → ℕ → List Entry → Table → Up
-fitOrSplit l n es t =
-    cond (leb (length es) 16) (stop (put n (view l es) t))
-    (cond (eqb n 0) (stop (raise l (next t) es t)) (gains (firstKey 0 (drop 9 es)) (next t) (halve l n (next t) es t)))
-
--- node n of level l gains (k, v)
-unfoldable pub gain : ℕ → ℕ → ℕ → ℕ → Table → Up
-gain l n k v t = fitOrSplit l n (insertEntry k v (entriesAt t n)) t
-
--- the parent gains what its child gave up, by the same rule
-abbrev pub pass : ℕ → ℕ → Up → Up
-pass l n (stop t) = stop t
-pass l n (gains k m t) = gain l n k m t
-
-unfoldable pub insertAt : ℕ → ℕ → ℕ → ℕ → Table → Up
-insertAt zero n k v t = gain 0 n k v t
-insertAt (suc l) n k v t = pass (suc l) n (insertAt l (child t n k) k v t)
-
--- the table after an insert, however many numbers it takes
-unfoldable pub inserted : ℕ → ℕ → Table → Table
-inserted k v t = tableOf (insertAt (rootLevel t) 0 k v t)
-
-pub data TreeStep : Type 0 where
-  refusal : ℕ → TreeStep
-  done : Table → TreeStep
-
--- 5: a node number of `limit` or more, or a root above level 3
-unfoldable pub allowed : ℕ → Table → TreeStep
-allowed limit t = cond (leb (next t) limit && leb (rootLevel t) 3) (done t) (refusal 5)
-
-unfoldable pub insert : ℕ → ℕ → ℕ → Table → TreeStep
-insert limit k v t = allowed limit (inserted k v t)
-
--- ---- to delete: the leaf's entry goes; nodes never join
-unfoldable pub deleteAt : ℕ → ℕ → ℕ → Table → Table
-deleteAt zero n k t = put n (view 0 (deleteEntry k (entriesAt t n))) t
-deleteAt (suc l) n k t = deleteAt l (child t n k) k t
-
-unfoldable pub delete : ℕ → Table → Table
-delete k t = deleteAt (rootLevel t) 0 k t

@@ -6,9 +6,9 @@ ghost use Rattle.chip.specs.Geometry.{Fits, pageSize};
 ghost use Rattle.views.specs.FoldCode.{viewOf};
 ghost use Rattle.views.specs.NodeCode.{entriesOf};
 ghost use Rattle.tree.specs.Tree as T;
-ghost use Rattle.tree.specs.Step6.{isLevel, keysIn, areSubtrees, isSubtree, reached, step6};
+ghost use Rattle.tree.specs.Step6.{isLevel, keysIn, areSubtrees, isSubtree, reached};
 ghost use Rattle.tree.specs.FindCode.{entriesFrom};
-ghost use Rattle.tree.specs.CheckCode.{pagesTable, startsAt, obeysAt, ownAt, under, Walks, MarksNumber, countsFrom};
+ghost use Rattle.tree.specs.CheckCode.{pagesTable, startsAt, obeysAt, ownAt, under, Walks, MarksNumber, countsFrom, ChecksTree};
 use crate::find::node_or_empty;
 use chip::geometry::Geometry;
 use views::fold::Folded;
@@ -26,6 +26,7 @@ fn presence(f: Folded) -> u32
     let stage = f.stage;
     match stage {
         Stage::Untouched => 0,
+        Stage::Freed => 0,
         Stage::Broken => 0,
         Stage::Full => 1,
     }
@@ -38,6 +39,7 @@ fn is_level(f: Folded, level: u32) -> bool
     let stage = f.stage;
     match stage {
         Stage::Untouched => false,
+        Stage::Freed => false,
         Stage::Broken => false,
         Stage::Full => f.node.level == level,
     }
@@ -238,7 +240,7 @@ fn all_once(
     true
 }
 
-// Step 6 on the table of the pages; `seen` is room to count in.
+// Step 6 on the table of the pages; where it passes, `seen` has 1 for each number of a node and 0 for the others.
 pub fn is_tree(
     geometry: Geometry,
     image: &[u8],
@@ -248,7 +250,7 @@ pub fn is_tree(
     seen: &mut [u32; 256],
 ) -> bool
     requires { ⌜ (length (now image) % pageSize geometry ≡ 0) × Fits geometry ⌝ }
-    ensures { λ r. ⌜ r ≡ step6 (pagesTable geometry (now (image .entry)) (now (lens .entry)) (now (slots .entry)) limit) ⌝ }
+    ensures { λ r. ⌜ ChecksTree (pagesTable geometry (now (image .entry)) (now (lens .entry)) (now (slots .entry)) limit) (now (seen .exit)) r ⌝ }
 {
     let f = list_view(geometry, image, lens, slots, 0, limit);
     let n = node_or_empty(f);

@@ -6,17 +6,17 @@ ghost use Rattle.chip.specs.Geometry.{Fits, pageSize};
 ghost use Rattle.chip.specs.Chip.{pagesOf};
 ghost use Rattle.views.specs.FoldCode.{viewOf};
 ghost use Rattle.views.specs.NodeCode.{entriesOf};
-ghost use Rattle.views.specs.Stored.{storedList};
+ghost use Rattle.views.specs.Stored.{lengthOf};
 ghost use Rattle.tree.specs.Tree as T;
 ghost use Rattle.tree.specs.Shown.{shown};
-ghost use Rattle.tree.specs.FindCode.{hitOf, ShowsView, Finds, Answers};
+ghost use Rattle.tree.specs.FindCode.{hitOf, ShowsView, ShowsRead, Finds, Answers};
 use views::fold::Folded;
 use views::fold::Stage;
 use views::node;
 use views::node::Node;
 use views::view::Scope;
 use views::view::node_view;
-use views::view::used_slots;
+use views::view::read_node;
 
 // What a leaf holds for a key: its value, or nothing.
 pub enum Hit {
@@ -24,10 +24,9 @@ pub enum Hit {
     Nothing,
 }
 
-// What a key has, the number of its leaf, and how many pages were read on the way to it.
+// What a key has, and how many pages were read on the way to it.
 pub struct Looked {
     pub hit: Hit,
-    pub leaf: u32,
     pub pages: u32,
 }
 
@@ -73,6 +72,7 @@ pub fn node_or_empty(f: Folded) -> Node
     let stage = f.stage;
     match stage {
         Stage::Untouched => node::reset(0),
+        Stage::Freed => node::reset(0),
         Stage::Broken => node::reset(0),
         Stage::Full => f.node,
     }
@@ -95,14 +95,34 @@ pub fn node_at(
     node_or_empty(f)
 }
 
-// How many pages the list of node `number` has, as they are read: at most 4.
-pub fn list_pages(lens: &[u32; 256], slots: &[u32; 1024], number: u32) -> u32
-    ensures { λ r. ⌜ (r ≡ length (storedList (now (lens .entry)) (now (slots .entry)) number)) × (r ≤ 4) ⌝ }
-{
-    used_slots(lens, slots, number) as u32
+// A node, and its length on flash.
+pub struct NodeRead {
+    node: Node,
+    pages: u32,
 }
 
-// The way from node `number` of level `level`, which `n` shows, down to the leaf of `key`.
+// Node `number` with its length on flash.
+fn read_at(
+    image: &[u8],
+    lens: &[u32; 256],
+    slots: &[u32; 1024],
+    buffer: &[u8; 11520],
+    scope: Scope,
+    number: u32,
+) -> NodeRead
+    requires { ⌜ (length (now image) % pageSize (scope .geometry) ≡ 0) × Fits (scope .geometry) ⌝ }
+    ensures { λ r. ⌜ ShowsRead (T.at (shown (scope .geometry) (scope .limit) (pagesOf (scope .geometry) (now (image .entry))) (now (lens .entry)) (now (slots .entry)) (scope .count)
+        (now (buffer .entry))) number)
+        (lengthOf (scope .geometry) (scope .limit) (pagesOf (scope .geometry) (now (image .entry))) (now (lens .entry)) (now (slots .entry)) number) r ⌝ }
+{
+    let r = read_node(image, lens, slots, buffer, scope, number);
+    let f = r.folded;
+    let pages = r.pages;
+    let node = node_or_empty(f);
+    NodeRead { node, pages }
+}
+
+// The way from node `number` of level `level`, which `read` shows, down to the leaf of `key`.
 fn find_at(
     image: &[u8],
     lens: &[u32; 256],
@@ -111,39 +131,32 @@ fn find_at(
     scope: Scope,
     level: u32,
     number: u32,
-    n: Node,
+    read: NodeRead,
     key: u32,
 ) -> Looked
     requires { ⌜ (length (now image) % pageSize (scope .geometry) ≡ 0) × (level ≤ 3)
-        × ShowsView (T.at (shown (scope .geometry) (scope .limit) (pagesOf (scope .geometry) (now image)) (now lens) (now slots) (scope .count) (now buffer)) number) n × Fits (scope .geometry) ⌝ }
-    ensures { λ r. ⌜ Finds (now (lens .entry)) (now (slots .entry)) level number key
+        × ShowsRead (T.at (shown (scope .geometry) (scope .limit) (pagesOf (scope .geometry) (now image)) (now lens) (now slots) (scope .count) (now buffer)) number)
+        (lengthOf (scope .geometry) (scope .limit) (pagesOf (scope .geometry) (now image)) (now lens) (now slots) number) read × Fits (scope .geometry) ⌝ }
+    ensures { λ r. ⌜ Finds (lengthOf (scope .geometry) (scope .limit) (pagesOf (scope .geometry) (now (image .entry))) (now (lens .entry)) (now (slots .entry))) level number key
         (shown (scope .geometry) (scope .limit) (pagesOf (scope .geometry) (now (image .entry))) (now (lens .entry)) (now (slots .entry)) (scope .count) (now (buffer .entry))) r ⌝ }
 {
-    let pages = list_pages(lens, slots, number);
+    let pages = read.pages;
+    let n = read.node;
     if level == 0 {
         let hit = lookup(n, key);
-        return Looked {
-            hit,
-            leaf: number,
-            pages,
-        };
+        return Looked { hit, pages };
     }
     let c = child(n, key);
-    let m = node_at(image, lens, slots, buffer, scope, c);
+    let m = read_at(image, lens, slots, buffer, scope, c);
     let low = level - 1;
     let r = find_at(image, lens, slots, buffer, scope, low, c, m, key);
     let hit = r.hit;
-    let leaf = r.leaf;
     let more = r.pages;
     let sum = pages + more;
-    Looked {
-        hit,
-        leaf,
-        pages: sum,
-    }
+    Looked { hit, pages: sum }
 }
 
-// What `key` has, its leaf, and how many pages the way from the root to it read: at most 16.
+// What `key` has, and how many pages the way from the root to it read: at most 16.
 pub fn find(
     image: &[u8],
     lens: &[u32; 256],
@@ -153,10 +166,11 @@ pub fn find(
     key: u32,
 ) -> Looked
     requires { ⌜ (length (now image) % pageSize (scope .geometry) ≡ 0) × Fits (scope .geometry) ⌝ }
-    ensures { λ r. ⌜ Answers (now (lens .entry)) (now (slots .entry)) key
+    ensures { λ r. ⌜ Answers (lengthOf (scope .geometry) (scope .limit) (pagesOf (scope .geometry) (now (image .entry))) (now (lens .entry)) (now (slots .entry))) key
         (shown (scope .geometry) (scope .limit) (pagesOf (scope .geometry) (now (image .entry))) (now (lens .entry)) (now (slots .entry)) (scope .count) (now (buffer .entry))) r ⌝ }
 {
-    let n = node_at(image, lens, slots, buffer, scope, 0);
+    let root = read_at(image, lens, slots, buffer, scope, 0);
+    let n = root.node;
     let level = n.level;
-    find_at(image, lens, slots, buffer, scope, level, 0, n, key)
+    find_at(image, lens, slots, buffer, scope, level, 0, root, key)
 }

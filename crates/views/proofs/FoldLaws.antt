@@ -1,7 +1,7 @@
 -- One update of a view that is folded in two arrays, and the turns of the loop over its units. Assumes nothing.
 use mathlib.Core.Path.{_≡_, refl, sym, ap, ap₂, _∙_, subst}
 use mathlib.Core.Logic.{⊎-elim}
-use mathlib.Core.Bool.{Bool, false, cond}
+use mathlib.Core.Bool.{Bool, true, false, cond}
 use mathlib.Core.List.{List, _∷_}
 use Prim.Native.Nat.{ℕ, zero, suc, _+_, _*_, _-_, _<_, _≤_}
 use native.Mathlib.Omega.{arith}
@@ -15,7 +15,7 @@ use Rattle.pages.specs.declared.unit.Update.the-variants.{Insert, Delete, Reset
 use Rattle.pages.specs.declared.unit.Unit as U
 use Rattle.pages.specs.declared.unit.Decoded.{Decoded}
 use Rattle.pages.specs.declared.unit.Decoded.the-variants.{Good, Bad}
-use Rattle.pages.specs.Units.{decode, decodes, half, word}
+use Rattle.pages.specs.Units.{decode, decodes, half, isResetValue, word}
 use Rattle.views.specs.declared.fold.Shape.{Shape}
 use Rattle.views.specs.declared.fold.Stage.the-variants.{Broken, Full}
 use Rattle.views.specs.Nodes.{View, broken, insertEntry, deleteEntry, apply}
@@ -118,8 +118,8 @@ laid-insert b k m = (record { node = m; update = Insert (word b 4) (word b 8) },
 pub laid-delete : (b : List ℕ) → getD b 0 0 ≡ 2 → word b 8 ≡ 0 → IsLaid b
 laid-delete b k v m = (record { node = m; update = Delete (word b 4) }, rw (k, v), refl)
 
-pub laid-reset : (b : List ℕ) → getD b 0 0 ≡ 3 → word b 4 ≡ 0 → word b 8 ≤ 3 → IsLaid b
-laid-reset b k e v m = (record { node = m; update = Reset (word b 8) }, rw (k, e, le-leb (word b 8) 3 v), refl)
+pub laid-reset : (b : List ℕ) → getD b 0 0 ≡ 3 → word b 4 ≡ 0 → isResetValue (word b 8) ≡ true → IsLaid b
+laid-reset b k e v m = (record { node = m; update = Reset (word b 8) }, rw (k, e, v), refl)
 
 -- a unit of another node
 pub passed : (limit n : ℕ) (b : List ℕ) (m : ℕ) → getD b 1 0 ≡ 0 → m ≡ half b 2 → (m ≡ n → ⊥) → m < limit → IsLaid b → IsPassed limit n b

@@ -23,8 +23,9 @@ use Rattle.pages.specs.Units.{decodes, encode, Valid}
 use Rattle.pages.specs.Data.{headOf, dataOf}
 use Rattle.pages.specs.Steps.{Live}
 use Rattle.pages.proofs.HeaderLaws.{laid-head, data-units}
+use Rattle.views.specs.Nodes.{View, untouched, apply}
 use Rattle.views.specs.Table.{Event, eventAt, eventsOf, events, isGood, isSound, Node, joins, listed, updated, turnUnit, turn, fresh, nodeOf}
-use Rattle.views.proofs.Entries.{RisingView, FewView, apply-rising, apply-few}
+use Rattle.views.proofs.Entries.{LevelView, RisingView, FewView, apply-level, apply-rising, apply-few}
 
 -- ---- an event knows its page
 mapped-at : (p : ℕ) (ds : List Decoded) → All (λ (e : Event). e .place ≡ p) (map (eventAt p) ds)
@@ -73,30 +74,29 @@ pub node-append : (n : ℕ) (es fs : List Event) → nodeOf n (es ++ fs) ≡ fol
 unfolding nodeOf
 node-append n es fs = foldl-append (turn n) fresh es fs
 
--- ---- the entries of every node rise, and are at most 16
-turn-rising : (n p : ℕ) (d : Decoded) (s : Node) → RisingView (s .now) → RisingView (turnUnit n p d s .now)
-turn-rising n p (Good u) s h = cases (eqb (u .node) n) (λ t. rw t (apply-rising (s .now) (u .update) h)) (λ t. rw t h)
-turn-rising n p Bad s h = h
+-- ---- what every update keeps holds of every node
+module _ (P : View → Type 0) (first : P untouched) (keeps : (w : View) (u : Update) → P w → P (apply w u)) where
+  turn-keeps : (n p : ℕ) (d : Decoded) (s : Node) → P (s .now) → P (turnUnit n p d s .now)
+  turn-keeps n p (Good u) s h = cases (eqb (u .node) n) (λ t. rw t (keeps (s .now) (u .update) h)) (λ t. rw t h)
+  turn-keeps n p Bad s h = h
 
-turn-few : (n p : ℕ) (d : Decoded) (s : Node) → FewView (s .now) → FewView (turnUnit n p d s .now)
-turn-few n p (Good u) s h = cases (eqb (u .node) n) (λ t. rw t (apply-few (s .now) (u .update) h)) (λ t. rw t h)
-turn-few n p Bad s h = h
+  fold-keeps : (n : ℕ) (es : List Event) (s : Node) → P (s .now) → P (foldl (turn n) s es .now)
+  fold-keeps n [] s h = h
+  fold-keeps n (e ∷ es) s h = fold-keeps n es (turn n s e) (turn-keeps n (e .place) (e .unit) s h)
 
-fold-rising : (n : ℕ) (es : List Event) (s : Node) → RisingView (s .now) → RisingView (foldl (turn n) s es .now)
-fold-rising n [] s h = h
-fold-rising n (e ∷ es) s h = fold-rising n es (turn n s e) (turn-rising n (e .place) (e .unit) s h)
+  node-keeps : (n : ℕ) (es : List Event) → P (nodeOf n es .now)
+  unfolding nodeOf
+  node-keeps n es = fold-keeps n es fresh first
 
-fold-few : (n : ℕ) (es : List Event) (s : Node) → FewView (s .now) → FewView (foldl (turn n) s es .now)
-fold-few n [] s h = h
-fold-few n (e ∷ es) s h = fold-few n es (turn n s e) (turn-few n (e .place) (e .unit) s h)
+-- no level is 255, the entries rise, and are at most 16
+pub node-level : (n : ℕ) (es : List Event) → LevelView (nodeOf n es .now)
+node-level = node-keeps LevelView tt apply-level
 
 pub node-rising : (n : ℕ) (es : List Event) → RisingView (nodeOf n es .now)
-unfolding nodeOf
-node-rising n es = fold-rising n es fresh tt
+node-rising = node-keeps RisingView tt apply-rising
 
 pub node-few : (n : ℕ) (es : List Event) → FewView (nodeOf n es .now)
-unfolding nodeOf
-node-few n es = fold-few n es fresh tt
+node-few = node-keeps FewView tt apply-few
 
 -- ---- pages that no list names
 module _ (hit : ℕ → Bool) where

@@ -14,11 +14,11 @@ use Rattle.lists.proofs.Flats.{all-tab}
 use Rattle.pages.specs.declared.unit.Update.{Update}
 use Rattle.pages.specs.declared.unit.Update.the-variants.{Insert, Delete, Reset}
 use Rattle.pages.specs.declared.unit.Unit as U
-use Rattle.views.specs.Nodes.{Entry, Rising, View, view, apply, anew}
+use Rattle.views.specs.Nodes.{Entry, Rising, View, freed, view, apply, anew}
 use Rattle.views.specs.Table.{Event, Node, joins, listed, updated, turn, nodeOf, isWhole, isWell}
 use Rattle.views.specs.Groups.{own, present, Group, eventIn, eventsIn, isReset, Without, Distinct}
-use Rattle.views.proofs.Entries.{RisingView, FewView, updates-rising, updates-few, rebuilt}
-use Rattle.views.proofs.Folds.{node-append, node-rising, node-few}
+use Rattle.views.proofs.Entries.{LevelView, RisingView, FewView, updates-level, updates-rising, updates-few, rebuilt}
+use Rattle.views.proofs.Folds.{node-append, node-level, node-rising, node-few}
 
 -- ---- the buffer, unit after unit
 pub own-append : (n : ℕ) (us vs : List U.Unit) → own n (us ++ vs) ≡ own n us ++ own n vs
@@ -80,27 +80,30 @@ present-groups n qs s us d h k =
     (All-map (λ q f e. updates-now (q .place) s (q .updates) ∙ f e) h)
     (λ w. rw (k w))
 
--- a group's two forms: the node's own buffered units, or a reset and the entries after the buffer
+-- a group's forms: the node's own buffered units, or a reset and the entries after the buffer, or the reset that frees it
 pub own-group : (n : ℕ) (w : View) (us : List U.Unit) (vs : List Update) → vs ≡ own n us → foldl apply w vs ≡ present n w us
 own-group n w us vs e = ap (foldl apply w) e
 
-pub anew-group : (n : ℕ) (w : View) (us : List U.Unit) (l : ℕ) (es : List Entry) → RisingView w → FewView w → present n w us ≡ view l es
+pub anew-group : (n : ℕ) (w : View) (us : List U.Unit) (l : ℕ) (es : List Entry) → LevelView w → RisingView w → FewView w → present n w us ≡ view l es
     → foldl apply w (anew l es) ≡ present n w us
-anew-group n w us l es r f e =
+anew-group n w us l es d r f e =
+    let c : l ≡ 255 → ⊥ = subst LevelView e (updates-level w (own n us) d) in
     let a : Rising es = subst RisingView e (updates-rising w (own n us) r) in
     let b : length es ≤ 16 = subst FewView e (updates-few w (own n us) f) in
-    rebuilt w l es a b ∙ sym e
+    rebuilt w l es c a b ∙ sym e
 
 -- the form of a group for a node whose view was w before the buffer us
 pub data Form (w : View) (us : List U.Unit) (q : Group) : Type 0 where
   buffered : q .updates ≡ own (q .node) us → Form w us q
   rewritten : (l : ℕ) (es : List Entry) → present (q .node) w us ≡ view l es → q .updates ≡ anew l es → Form w us q
+  emptied : present (q .node) w us ≡ freed → q .updates ≡ anew 255 [] → Form w us q
 
-form-now : (n : ℕ) (w : View) (us : List U.Unit) (q : Group) → RisingView w → FewView w → Form w us q → q .node ≡ n
+form-now : (n : ℕ) (w : View) (us : List U.Unit) (q : Group) → LevelView w → RisingView w → FewView w → Form w us q → q .node ≡ n
     → foldl apply w (q .updates) ≡ present n w us
-form-now n w us q r f (buffered e) i = own-group n w us (q .updates) (e ∙ ap (λ (m : ℕ). own m us) i)
-form-now n w us q r f (rewritten l es e o) i =
-    ap (foldl apply w) o ∙ anew-group n w us l es r f (ap (λ (m : ℕ). present m w us) (sym i) ∙ e)
+form-now n w us q d r f (buffered e) i = own-group n w us (q .updates) (e ∙ ap (λ (m : ℕ). own m us) i)
+form-now n w us q d r f (rewritten l es e o) i =
+    ap (foldl apply w) o ∙ anew-group n w us l es d r f (ap (λ (m : ℕ). present m w us) (sym i) ∙ e)
+form-now n w us q d r f (emptied e o) i = ap (foldl apply w) o ∙ sym e ∙ ap (λ (m : ℕ). present m w us) i
 
 -- the units of a further commit at the end, each node with buffered units in one group: each view is the one after the buffer
 pub commit-now : (n : ℕ) (es : List Event) (qs : List Group) (us : List U.Unit) → Distinct qs
@@ -109,7 +112,7 @@ pub commit-now : (n : ℕ) (es : List Event) (qs : List Group) (us : List U.Unit
 commit-now n es qs us d h k =
     rw (node-append n es (eventsIn qs))
     (present-groups n qs (nodeOf n es) us d
-    (All-map (λ q f i. form-now n (nodeOf n es .now) us q (node-rising n es) (node-few n es) (f i) i) h) k)
+    (All-map (λ q f i. form-now n (nodeOf n es .now) us q (node-level n es) (node-rising n es) (node-few n es) (f i) i) h) k)
 
 -- ---- lists of pages
 joins-again : (p : ℕ) (ps : List ℕ) → joins p (joins p ps) ≡ joins p ps

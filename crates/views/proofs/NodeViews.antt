@@ -4,23 +4,26 @@ use mathlib.Core.Bool.{true, cond}
 use mathlib.Core.List.{List, [], _∷_, map, foldl}
 use Prim.Native.Nat.{ℕ, zero, suc, _<_, _≤_}
 use native.Mathlib.Omega.{arith}
-use lib.Dec.{ltb, leb, eqb}
+use lib.Dec.{leb, eqb}
 use lib.ListN.{take, drop, getD}
-use borrow.Author.Tests.{le-leb, eqb-true, leb-true, ltb-true}
+use borrow.Author.Tests.{le-leb, eqb-true}
 use Rattle.lists.specs.Lists.{all}
 use Rattle.lists.proofs.Tests.{cases}
 use Rattle.chip.specs.Geometry.{Geometry}
 use Rattle.chip.specs.Page.{Page}
 use Rattle.pages.specs.declared.unit.Update.{Update}
-use Rattle.pages.specs.declared.unit.Update.the-variants.{Insert, Delete}
+use Rattle.pages.specs.declared.unit.Update.the-variants.{Insert, Delete, Reset}
 use Rattle.pages.specs.declared.unit.Unit as U
-use Rattle.pages.specs.declared.unit.Decoded.the-variants.{Good}
-use Rattle.pages.specs.Units.{half, word, decodeKind, decode, decodes}
+use Rattle.pages.specs.declared.unit.Decoded.{Decoded}
+use Rattle.pages.specs.declared.unit.Decoded.the-variants.{Bad, Good}
+use Rattle.pages.specs.Units.{isResetValue, decode, decodes}
 use Rattle.pages.specs.Data.{headOf}
-use Rattle.views.specs.Nodes.{View, untouched, broken, view, apply}
+use Rattle.pages.proofs.UnitLaws.{ValidReset, told}
+use Rattle.views.specs.Nodes.{View, untouched, freed, broken, view, apply}
 use Rattle.views.specs.Groups.{own, present}
 use Rattle.views.specs.Table.{isGood}
 use Rattle.views.specs.Stored.{turnView, viewAfter, storedList, viewOver, pageView, listView, bufferView, nodeView}
+use Rattle.views.proofs.Entries.{by-valid}
 use Rattle.views.proofs.ViewLaws.{updatesOf, view-is}
 
 -- ---- a buffer of units
@@ -43,35 +46,25 @@ buffer-good limit n count bytes w us h e =
 module _ (limit n : ℕ) (P : View → Type 0) (first : P untouched) (bad : P broken)
     (inserts : (w : View) (k v : ℕ) → n < limit → P w → P (apply w (Insert k v)))
     (deletes : (w : View) (k : ℕ) → n < limit → P w → P (apply w (Delete k)))
-    (resets : (l : ℕ) → n < limit → l ≤ 3 → P (view l [])) where
-  -- a unit of node m
-  own-kept : (m : ℕ) (w x : View) → P w → (m ≡ n → P x) → P (cond (eqb m n) x w)
-  own-kept m w x h k = cases (eqb m n) (λ e. rw e (k (eqb-true m n e))) (λ e. rw e h)
-
-  kind-kept : (m : ℕ) (w : View) → m < limit → P w → (kind k v : ℕ) → P (turnView n w (decodeKind m kind k v))
-  kind-kept m w q h kind k v =
-      cases (eqb kind 1) (λ a. rw a (own-kept m w (apply w (Insert k v)) h (λ z. inserts w k v (omega arith) h)))
-      (λ a. cases (eqb kind 2)
-      (λ b. cases (eqb v 0) (λ e. rw (a, b, e) (own-kept m w (apply w (Delete k)) h (λ z. deletes w k (omega arith) h))) (λ e. rw (a, b, e) h))
-      (λ b. cases (eqb kind 3)
-      (λ p. cases (eqb k 0)
-      (λ e. cases (leb v 3) (λ r. rw (a, b, p, e, r) (own-kept m w (view v []) h (λ z. resets v (omega arith) (leb-true v 3 r)))) (λ r. rw (a, b, p, e, r) h))
-      (λ e. rw (a, b, p, e) h))
-      (λ p. rw (a, b, p) h)))
+    (resets : (l : ℕ) → n < limit → l ≤ 3 → P (view l []))
+    (frees : n < limit → isResetValue 255 ≡ true → P freed) where
+  -- an update of the node
+  update-kept : (w : View) (u : Update) → n < limit → ValidReset u → P w → P (apply w u)
+  update-kept w (Insert k v) q r h = inserts w k v q h
+  update-kept w (Delete k) q r h = deletes w k q h
+  update-kept w (Reset l) q r h = by-valid P w l r (frees q) (resets l q)
 
   -- 12 bytes, a unit or not
-  turn-kept : (w : View) (b : List ℕ) → P w → P (turnView n w (decode limit b))
-  unfolding decode
-  turn-kept w b h =
-      cases (eqb (getD b 1 0) 0)
-      (λ e. cases (ltb (half b 2) limit)
-      (λ q. rw (e, q) (kind-kept (half b 2) w (ltb-true (half b 2) limit q) h (getD b 0 0) (word b 4) (word b 8)))
-      (λ q. rw (e, q) h))
-      (λ e. rw e h)
+  turn-kept : (w : View) (b : List ℕ) (d : Decoded) → decode limit b ≡ d → P w → P (turnView n w d)
+  turn-kept w b (Good u) e h =
+      let t = told limit b u e in
+      cases (eqb (u .node) n)
+      (λ s. rw s (update-kept w (u .update) (omega (arith, t .below, eqb-true (u .node) n s)) (t .reset) h)) (λ s. rw s h)
+  turn-kept w b Bad e h = h
 
   after-kept : (count : ℕ) (b : List ℕ) (w : View) → P w → P (viewAfter n w (decodes limit count b))
   after-kept zero b w h = h
-  after-kept (suc m) b w h = after-kept m (drop 12 b) (turnView n w (decode limit b)) (turn-kept w b h)
+  after-kept (suc m) b w h = after-kept m (drop 12 b) (turnView n w (decode limit b)) (turn-kept w b (decode limit b) refl h)
 
   over-kept : (count : ℕ) (b : List ℕ) (w : View) → P w → P (viewOver n w (decodes limit count b))
   over-kept count b w h = cases (all isGood (decodes limit count b)) (λ e. rw e (after-kept count b w h)) (λ e. rw e bad)

@@ -1,6 +1,6 @@
 -- One pass over pages: their units noted one after the other, page after page. Assumes nothing.
 use mathlib.Core.Path.{_≡_, refl, sym, ap, ap₂, _∙_, subst}
-use mathlib.Core.Bool.{Bool, true, false, cond, _&&_}
+use mathlib.Core.Bool.{Bool, true, false, _&&_}
 use mathlib.Core.List.{List, [], _∷_, _++_, map, foldl, foldl-append, append-nil}
 use Prim.Native.Nat.{ℕ, zero, suc, _+_, _-_, _*_, _/_, _%_, _≤_, _<_}
 use native.Mathlib.Nat.{add-sub-cancel-left}
@@ -9,7 +9,7 @@ use native.Mathlib.Omega.{arith}
 use lib.Dec.{ltb, leb, eqb}
 use lib.ListN.{length, take, drop, getD, replicate, length-drop, drop-of-length-le, getD-replicate}
 use lib.Seq.{take-suc, drop-cons, drop-drop, take-take, take-all}
-use borrow.Author.Tests.{ltb-true, lt-ltb, le-ltb, le-leb, lt-leb}
+use borrow.Author.Tests.{lt-ltb, le-ltb, le-leb, lt-leb}
 use Rattle.lists.specs.Lists.{all, flat, part}
 use Rattle.lists.proofs.Tests.{cases}
 use Rattle.lists.proofs.Flats.{flat-append, all-append}
@@ -18,7 +18,7 @@ use Rattle.chip.proofs.ImageLaws.{length-pages, page-at}
 use Rattle.pages.specs.declared.unit.Unit as U
 use Rattle.pages.specs.declared.unit.Decoded.{Decoded}
 use Rattle.pages.specs.declared.unit.Decoded.the-variants.{Good, Bad}
-use Rattle.pages.specs.Units.{half, word, decodeKind, decode, decodes}
+use Rattle.pages.specs.Units.{half, decode, decodes}
 use Rattle.views.specs.Table.{Event, eventAt, eventsOf, events, isGood, isSound, Node, listed, turnUnit, turn}
 use Rattle.views.specs.Stored.{Stores}
 use Rattle.views.specs.PassCode.{Becomes, Turned, Notes, pageAt, isReadable, pagesAt, allReadable, Passes}
@@ -33,34 +33,6 @@ turned-unit p u d l s r t e b m h x st =
     let q : turnUnit m p d x ≡ turnUnit m p (Good u) x = ap (λ (y : Decoded). turnUnit m p y x) e in
     subst (λ (y : Node). Stores r t m (y .pages)) (sym q)
     (cases (eqb (u .node) m) (λ c. rw c (rw c at k)) (λ c. rw c (rw c at k)))
-
--- what is read is no unit, or one of a node below limit
-data Below (limit : ℕ) : Decoded → Type 0 where
-  unit : {u : U.Unit} → u .node < limit → Below limit (Good u)
-  none : Below limit Bad
-
-either : {limit : ℕ} {x y : Decoded} (b : Bool) → Below limit x → Below limit y → Below limit (cond b x y)
-either true p q = p
-either false p q = q
-
-kind-below : (limit n kind k v : ℕ) → n < limit → Below limit (decodeKind n kind k v)
-kind-below limit n kind k v h =
-    either (eqb kind 1) (unit h)
-    (either (eqb kind 2) (either (eqb v 0) (unit h) none)
-    (either (eqb kind 3) (either (eqb k 0) (either (leb v 3) (unit h) none) none) none))
-
-decode-below : (limit : ℕ) (b : List ℕ) → Below limit (decode limit b)
-unfolding decode
-decode-below limit b =
-    cases (ltb (half b 2) limit)
-    (λ t. either (eqb (getD b 1 0) 0) (rw t (kind-below limit (half b 2) (getD b 0 0) (word b 4) (word b 8) (ltb-true (half b 2) limit t))) none)
-    (λ t. either (eqb (getD b 1 0) 0) (rw t none) none)
-
-below-unit : {limit : ℕ} (u : U.Unit) → Below limit (Good u) → u .node < limit
-below-unit u (unit h) = h
-
-pub unit-below : (limit : ℕ) (b : List ℕ) (u : U.Unit) (d : Decoded) → d ≡ decode limit b → d ≡ Good u → u .node < limit
-unit-below limit b u d e q = below-unit u (subst (Below limit) (sym e ∙ q) (decode-below limit b))
 
 -- ---- the units of a page
 -- as many as are read

@@ -1,5 +1,6 @@
 -- The steps of reading a node's view again: a page, a slot of the node's list, the buffer. Assumes nothing.
-use mathlib.Core.Path.{_≡_, sym, ap, ap₂, _∙_}
+use mathlib.Core.Path.{_≡_, refl, sym, ap, ap₂, _∙_}
+use mathlib.Core.Bool.{cond}
 use mathlib.Core.List.{List, [], _∷_, foldl}
 use Prim.Native.Nat.{ℕ, suc, _+_, _*_, _-_, _/_, _<_, _≤_, min}
 use native.Mathlib.Nat.{add-sub-cancel-left}
@@ -14,11 +15,14 @@ use Rattle.chip.specs.Page.{Page}
 use Rattle.chip.specs.Chip.{pagesOf}
 use Rattle.chip.proofs.ImageLaws.{length-pages, page-at}
 use Rattle.pages.specs.Units.{half, decodes}
+use Rattle.views.specs.declared.node.Node.{Node}
+use Rattle.views.specs.declared.fold.Stage.{Stage}
+use Rattle.views.specs.declared.fold.Stage.the-variants.{Untouched, Freed, Broken, Full}
 use Rattle.views.specs.declared.fold.Folded.{Folded}
 use Rattle.views.specs.declared.fold.Shape.{Shape}
 use Rattle.views.specs.Nodes.{View, broken}
-use Rattle.views.specs.FoldCode.{foldedIn, Stands, StandsIn}
-use Rattle.views.specs.Stored.{storedList, viewOver, pageView, listView, bufferView}
+use Rattle.views.specs.FoldCode.{viewAt, isFreedStage, foldedIn, Stands, StandsIn}
+use Rattle.views.specs.Stored.{storedList, viewOver, pageView, listView, isFreed, lengthOf, bufferView}
 
 -- ---- a page
 -- the units of a page from its data area, and from the page
@@ -98,6 +102,20 @@ module _ (lens slots : List ℕ) (n : ℕ) where
         → afterPages g limit pages n w (drop i (storedList lens slots n)) ≡ listView g limit pages n (storedList lens slots n)
         → w ≡ listView g limit pages n (storedList lens slots n)
     slots-done h left = ap (afterPages g limit pages n w) (sym (drop-of-length-le (storedList lens slots n) {i = i} h)) ∙ left
+
+-- ---- the length of a node on flash
+freed-stage : (s : Stage) (x : Node) → isFreed (viewAt s x) ≡ isFreedStage s
+freed-stage Untouched x = refl
+freed-stage Freed x = refl
+freed-stage Broken x = refl
+freed-stage Full x = refl
+
+-- how many pages its list has, and none where they leave it freed
+pub counted : (g : Geometry) (limit : ℕ) (pages : List Page) (lens slots : List ℕ) (n : ℕ) (s : Stage) (x : Node) (used : ℕ)
+    → viewAt s x ≡ listView g limit pages n (storedList lens slots n) → used ≡ length (storedList lens slots n)
+    → cond (isFreedStage s) 0 used ≡ lengthOf g limit pages lens slots n
+unfolding lengthOf
+counted g limit pages lens slots n s x used e l = rw (← e, freed-stage s x, l)
 
 -- ---- the buffer
 module _ (limit n count : ℕ) (bytes : List ℕ) (w : View) where

@@ -1,7 +1,7 @@
 -- How the code folds the units of one node: the view that its structs and arrays show.
 use mathlib.Core.Path.{_≡_}
-use mathlib.Core.Bool.{false}
-use mathlib.Core.List.{List}
+use mathlib.Core.Bool.{Bool, true, false, cond}
+use mathlib.Core.List.{List, []}
 use Prim.Native.Nat.{ℕ, _*_, _-_, _<_, _≤_}
 use lib.Dec.{eqb}
 use lib.ListN.{drop, getD, length, take}
@@ -10,17 +10,24 @@ use Rattle.pages.specs.declared.unit.Decoded.the-variants.{Good}
 use Rattle.pages.specs.Units.{decode, decodeKind, word}
 use Rattle.views.specs.declared.node.Node.{Node}
 use Rattle.views.specs.declared.fold.Stage.{Stage}
-use Rattle.views.specs.declared.fold.Stage.the-variants.{Untouched, Broken, Full}
+use Rattle.views.specs.declared.fold.Stage.the-variants.{Untouched, Freed, Broken, Full}
 use Rattle.views.specs.declared.fold.Folded.{Folded}
 use Rattle.views.specs.declared.fold.Shape.{Shape}
-use Rattle.views.specs.Nodes.{View, untouched, broken, view}
+use Rattle.views.specs.Nodes.{View, untouched, freed, broken, view}
 use Rattle.views.specs.NodeCode.{entriesOf}
 
 -- the view that a stage and a node show
 abbrev pub viewAt : Stage → Node → View
 viewAt Untouched n = untouched
+viewAt Freed n = freed
 viewAt Broken n = broken
 viewAt Full n = view (n .level) (entriesOf n)
+
+abbrev pub isFreedStage : Stage → Bool
+isFreedStage Untouched = false
+isFreedStage Freed = true
+isFreedStage Broken = false
+isFreedStage Full = false
 
 abbrev pub viewOf : Folded → View
 viewOf f = viewAt (f .stage) (f .node)
@@ -43,6 +50,11 @@ pub record StandsIn (r : Shape) (ks vs : List ℕ) (w : View) : Type 0 where
   pub room : r .len ≤ 16
   pub keys : length ks ≡ 17
   pub values : length vs ≡ 17
+
+-- the view after a reset with this value, whatever the arrays hold
+pub record IsReset (value : ℕ) (r : Shape) : Type 0 where
+  pub is : (ks vs : List ℕ) → viewIn r ks vs ≡ cond (eqb value 255) freed (view value [])
+  pub room : r .len ≤ 16
 
 -- kind, key and value of the bytes obey the layout, whatever the node
 abbrev pub IsLaid : List ℕ → Type 0

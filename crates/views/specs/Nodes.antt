@@ -34,9 +34,10 @@ abbrev pub deleteEntry : ℕ → List Entry → List Entry
 deleteEntry k [] = []
 deleteEntry k (e ∷ es) = cond (ltb (e .key) k) (e ∷ deleteEntry k es) (cond (eqb (e .key) k) es (e ∷ es))
 
--- no unit yet; units without a reset, or above 16 entries since the last one; a level and entries
+-- no unit yet; freed by its last reset; units without a reset or after one that frees, or above 16 entries since the last one; a level and entries
 pub data View : Type 0 where
   untouched : View
+  freed : View
   broken : View
   view : ℕ → List Entry → View
 
@@ -44,11 +45,13 @@ pub data View : Type 0 where
 abbrev pub within : ℕ → List Entry → View
 within l es = cond (leb (length es) 16) (view l es) broken
 
--- what one update makes of a view; a reset gives an empty view whatever was there
+-- what one update makes of a view; a reset gives an empty view whatever was there, or frees the node
 abbrev pub apply : View → Update → View
-apply w (Reset l) = view l []
+apply w (Reset l) = cond (eqb l 255) freed (view l [])
 apply untouched (Insert k v) = broken
 apply untouched (Delete k) = broken
+apply freed (Insert k v) = broken
+apply freed (Delete k) = broken
 apply broken (Insert k v) = broken
 apply broken (Delete k) = broken
 apply (view l es) (Insert k v) = within l (insertEntry k v es)

@@ -1,6 +1,6 @@
 -- The node table as it is stored in arrays, and a node's view read from its pages and then from the buffer. Defined for any arrays.
 use mathlib.Core.Path.{_≡_}
-use mathlib.Core.Bool.{cond}
+use mathlib.Core.Bool.{Bool, true, false, cond}
 use mathlib.Core.List.{List, [], foldl, reverse}
 use Prim.Native.Nat.{ℕ, _*_, _≤_, min}
 use lib.Dec.{leb, eqb}
@@ -12,7 +12,7 @@ use Rattle.pages.specs.declared.unit.Decoded.{Decoded}
 use Rattle.pages.specs.declared.unit.Decoded.the-variants.{Good, Bad}
 use Rattle.pages.specs.Units.{decodes}
 use Rattle.pages.specs.Data.{headOf}
-use Rattle.views.specs.Nodes.{View, untouched, broken, apply}
+use Rattle.views.specs.Nodes.{View, untouched, freed, broken, view, apply}
 use Rattle.views.specs.Table.{isGood}
 
 -- the pages of node n, the oldest first: its length says how many of its four slots are used
@@ -47,6 +47,16 @@ pageView g limit n w x =
 -- the view of node n from the pages at these places, in this order; a place that is not on the chip adds nothing
 abbrev pub listView : Geometry → ℕ → List Page → ℕ → List ℕ → View
 listView g limit pages n ps = foldl (λ (w : View) (p : ℕ). pageView g limit n w (getD pages p [])) untouched ps
+
+abbrev pub isFreed : View → Bool
+isFreed untouched = false
+isFreed freed = true
+isFreed broken = false
+isFreed (view l es) = false
+
+-- the length of node n on flash: how many pages its list has, 0 where its pages leave it freed
+unfoldable pub lengthOf : Geometry → ℕ → List Page → List ℕ → List ℕ → ℕ → ℕ
+lengthOf g limit pages lens slots n = cond (isFreed (listView g limit pages n (storedList lens slots n))) 0 (length (storedList lens slots n))
 
 -- a view after the units of the buffer, of which there are at most 960
 unfoldable pub bufferView : ℕ → ℕ → ℕ → List ℕ → View → View

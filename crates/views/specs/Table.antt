@@ -14,7 +14,7 @@ use Rattle.pages.specs.declared.unit.Decoded.the-variants.{Good, Bad}
 use Rattle.pages.specs.Units.{decodes}
 use Rattle.pages.specs.Data.{headOf}
 use Rattle.pages.specs.Steps.{Live, commit, lastFrom, Stood, refused, stand, steps}
-use Rattle.views.specs.Nodes.{View, untouched, broken, view, apply}
+use Rattle.views.specs.Nodes.{View, untouched, freed, broken, view, apply}
 
 -- what stands at a place of a page: a unit, or 12 bytes that are none
 pub record Event : Type 0 where
@@ -81,6 +81,7 @@ table limit es = tab 0 limit (λ (n : ℕ). nodeOf n es)
 
 abbrev pub isWhole : View → Bool
 isWhole untouched = true
+isWhole freed = true
 isWhole broken = false
 isWhole (view l es) = true
 

@@ -21,7 +21,7 @@ pub fn push_unit(buffer: &mut [u8; 11520], count: usize, unit: Unit)
 }
 
 // An insert for each entry of a node, behind the `count` units that the buffer holds.
-fn push_entries(buffer: &mut [u8; 11520], count: usize, number: u32, node: Node)
+pub fn push_entries(buffer: &mut [u8; 11520], count: usize, number: u32, node: Node)
     requires { ⌜ (number < 65536) × (node .len ≤ 17) × (count + node .len ≤ 960) ⌝ }
     ensures { λ _. ⌜ now (buffer .exit) ≡ pushed (now (buffer .entry)) count (entryUnits number (entriesOf node)) ⌝ }
 {

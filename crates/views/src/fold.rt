@@ -7,7 +7,7 @@ ghost use Rattle.pages.specs.Units.{decodes};
 ghost use Rattle.pages.specs.declared.unit.Update.the-variants.{Insert, Delete};
 ghost use Rattle.pages.specs.declared.unit.Decoded.the-variants.{Good};
 ghost use Rattle.views.specs.Nodes.{apply};
-ghost use Rattle.views.specs.FoldCode.{viewIn, StandsIn, IsLaid, IsPassed, Skips};
+ghost use Rattle.views.specs.FoldCode.{viewIn, StandsIn, IsReset, IsLaid, IsPassed, Skips};
 ghost use Rattle.views.specs.Stored.{turnView, viewOver};
 use crate::node;
 use crate::node::Node;
@@ -15,12 +15,14 @@ use pages::unit::Decoded;
 use pages::unit::Unit;
 use pages::unit::Update;
 use pages::unit::decode_unit;
+use pages::unit::is_reset_value;
 use pages::unit::read_half;
 use pages::unit::read_word;
 
-// No unit yet; units without a reset, or above 16 entries since the last one; a level and entries.
+// No unit yet; freed by its last reset; units without a reset or after one that frees, or above 16 entries since the last one; a level and entries.
 pub enum Stage {
     Untouched,
+    Freed,
     Broken,
     Full,
 }
@@ -58,6 +60,7 @@ fn insert(s: Shape, keys: &mut [u32], values: &mut [u32], key: u32, value: u32) 
     let stage = s.stage;
     match stage {
         Stage::Untouched => spoil(s),
+        Stage::Freed => spoil(s),
         Stage::Broken => spoil(s),
         Stage::Full => {
             let len = node::put(keys, values, s.len, key, value);
@@ -82,6 +85,7 @@ fn delete(s: Shape, keys: &mut [u32], values: &mut [u32], key: u32) -> Shape
     let stage = s.stage;
     match stage {
         Stage::Untouched => spoil(s),
+        Stage::Freed => spoil(s),
         Stage::Broken => spoil(s),
         Stage::Full => {
             let len = node::take_out(keys, values, s.len, key);
@@ -94,6 +98,24 @@ fn delete(s: Shape, keys: &mut [u32], values: &mut [u32], key: u32) -> Shape
     }
 }
 
+// A node after a reset: without entries, or freed.
+fn reset(value: u32) -> Shape
+    ensures { λ r. ⌜ IsReset value r ⌝ }
+{
+    if value == 255 {
+        return Shape {
+            stage: Stage::Freed,
+            level: 0,
+            len: 0,
+        };
+    }
+    Shape {
+        stage: Stage::Full,
+        level: value,
+        len: 0,
+    }
+}
+
 // A node after one more of its units.
 fn apply(s: Shape, keys: &mut [u32], values: &mut [u32], u: Update) -> Shape
     requires { ⌜ (length (now keys) ≡ 17) × (length (now values) ≡ 17) × (s .len ≤ 16) ⌝ }
@@ -102,11 +124,7 @@ fn apply(s: Shape, keys: &mut [u32], values: &mut [u32], u: Update) -> Shape
     match u {
         Update::Insert(key, value) => insert(s, keys, values, key, value),
         Update::Delete(key) => delete(s, keys, values, key),
-        Update::Reset(level) => Shape {
-            stage: Stage::Full,
-            level,
-            len: 0,
-        },
+        Update::Reset(value) => reset(value),
     }
 }
 
@@ -144,7 +162,7 @@ fn is_laid(bytes: &[u8]) -> bool
     }
     if kind == 3 {
         if read_word(bytes, 4) == 0 {
-            return value <= 3;
+            return is_reset_value(value);
         }
     }
     false

@@ -1,12 +1,14 @@
 // A node's view read again: from the pages of its list, the oldest first, and then from the buffer.
 ghost use mathlib.Core.Path.{_≡_};
+ghost use mathlib.Core.Bool.{cond};
 ghost use mathlib.Core.List.{[]};
 ghost use Prim.Native.Nat.{_+_, _*_, _%_, _<_, _≤_};
 ghost use lib.ListN.{length, getD};
 ghost use Rattle.chip.specs.Geometry.{Fits, pageSize};
 ghost use Rattle.chip.specs.Chip.{pagesOf};
-ghost use Rattle.views.specs.FoldCode.{viewIn, foldedIn, Stands, StandsIn};
+ghost use Rattle.views.specs.FoldCode.{viewIn, foldedIn, Stands, StandsIn, isFreedStage};
 ghost use Rattle.views.specs.Stored.{storedList, pageView, listView, bufferView, nodeView};
+ghost use Rattle.views.specs.ReadCode.{ReadNode};
 use crate::fold;
 use crate::fold::Folded;
 use crate::fold::Shape;
@@ -20,6 +22,12 @@ pub struct Scope {
     pub geometry: Geometry,
     pub count: usize,
     pub limit: u32,
+}
+
+// A node's view, and its length on flash: how many pages its list has, none where they leave it freed.
+pub struct Reading {
+    pub folded: Folded,
+    pub pages: u32,
 }
 
 // A node after the units of a page; broken where the page claims more units than it holds.
@@ -187,18 +195,31 @@ fn buffer_view(
     }
 }
 
-// The view of `node`: from its pages, and then from the first units of the buffer, as many as the scope says.
-pub fn node_view(
+// How many pages the list of a node has that its pages leave in `stage`; none where it is freed.
+fn counted_pages(stage: Stage, used: usize) -> u32
+    requires { ⌜ used ≤ 4 ⌝ }
+    ensures { λ r. ⌜ (r ≡ cond (isFreedStage stage) 0 used) × (r ≤ 4) ⌝ }
+{
+    match stage {
+        Stage::Untouched => used as u32,
+        Stage::Freed => 0,
+        Stage::Broken => used as u32,
+        Stage::Full => used as u32,
+    }
+}
+
+// The view of `node`: from its pages, and then from the first units of the buffer, as many as the scope says; and its length on flash.
+pub fn read_node(
     image: &[u8],
     lens: &[u32; 256],
     slots: &[u32; 1024],
     buffer: &[u8; 11520],
     scope: Scope,
     node: u32,
-) -> Folded
+) -> Reading
     requires { ⌜ (length (now image) % pageSize (scope .geometry) ≡ 0) × Fits (scope .geometry) ⌝ }
-    ensures { λ r. ⌜ Stands r (nodeView (scope .geometry) (scope .limit) (pagesOf (scope .geometry) (now (image .entry))) (now (lens .entry)) (now (slots .entry)) (scope .count)
-        (now (buffer .entry)) node) ⌝ }
+    ensures { λ r. ⌜ ReadNode (scope .geometry) (scope .limit) (pagesOf (scope .geometry) (now (image .entry))) (now (lens .entry)) (now (slots .entry)) (scope .count)
+        (now (buffer .entry)) node r ⌝ }
 {
     let geometry = scope.geometry;
     let limit = scope.limit;
@@ -214,6 +235,27 @@ pub fn node_view(
         node,
         limit,
     );
+    let used = used_slots(lens, slots, node);
+    let stage = s.stage;
+    let pages = counted_pages(stage, used);
     let t = buffer_view(s, &mut keys, &mut values, buffer, scope.count, node, limit);
-    whole(t, keys, values)
+    let folded = whole(t, keys, values);
+    Reading { folded, pages }
+}
+
+// The view of `node` alone.
+pub fn node_view(
+    image: &[u8],
+    lens: &[u32; 256],
+    slots: &[u32; 1024],
+    buffer: &[u8; 11520],
+    scope: Scope,
+    node: u32,
+) -> Folded
+    requires { ⌜ (length (now image) % pageSize (scope .geometry) ≡ 0) × Fits (scope .geometry) ⌝ }
+    ensures { λ r. ⌜ Stands r (nodeView (scope .geometry) (scope .limit) (pagesOf (scope .geometry) (now (image .entry))) (now (lens .entry)) (now (slots .entry)) (scope .count)
+        (now (buffer .entry)) node) ⌝ }
+{
+    let r = read_node(image, lens, slots, buffer, scope, node);
+    r.folded
 }

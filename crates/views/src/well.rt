@@ -19,6 +19,7 @@ fn is_whole(f: Folded) -> bool
     let stage = f.stage;
     match stage {
         Stage::Untouched => true,
+        Stage::Freed => true,
         Stage::Broken => false,
         Stage::Full => true,
     }

@@ -1,5 +1,6 @@
 //! Makers of images: valid ones that no commit of a store wrote, and damaged ones with a single fault.
 mod draft;
+mod fault_freed;
 mod fault_pages;
 mod fault_tree;
 mod fault_units;
@@ -43,6 +44,12 @@ pub fn valid_of(random: &mut Random, geometry: Geometry, blocks: usize) -> (Vec<
     (history::draft(random, geometry, blocks, &tree).render(), tree)
 }
 
+/// A valid image of several levels whose nodes have few entries each, down to one, and the tree that it was built to mean.
+pub fn thin_of(random: &mut Random, geometry: Geometry, blocks: usize) -> (Vec<u8>, Tree) {
+    let tree = grow::thin(random, blocks);
+    (history::draft(random, geometry, blocks, &tree).render(), tree)
+}
+
 /// A valid image whose tree is full, or almost, on the path of a key that it does not have, and that key.
 pub fn full_path(random: &mut Random, geometry: Geometry, blocks: usize) -> (Vec<u8>, u32) {
     let (tree, key) = steep::tree(random, blocks);
@@ -83,7 +90,7 @@ pub fn damaged_by(random: &mut Random, geometry: Geometry, blocks: usize, fault:
 /// All faults.
 pub fn faults() -> Vec<Fault> {
     let mut all = Vec::new();
-    for (name, refusal, make) in fault_pages::FAULTS.iter().chain(fault_units::FAULTS) {
+    for (name, refusal, make) in fault_pages::FAULTS.iter().chain(fault_units::FAULTS).chain(fault_freed::FAULTS) {
         all.push(Fault { name, refusal: *refusal, make: Make::Pages(*make) });
     }
     for (name, make) in fault_tree::FAULTS {

@@ -1,8 +1,8 @@
-//! What an image means: steps 1 to 6 of document 01, sentence by sentence.
+//! What an image means: steps 1 to 6 of document 01, sentence by sentence, with freed nodes as note 1 of document 02 has them.
 use super::chip::{self, OBSOLETE, VALID};
 use super::geometry::Geometry;
 use super::tree::{Node, Tree, FULL};
-use super::unit::{self, Deed, HEAD, UNIT};
+use super::unit::{self, Deed, FREED, HEAD, UNIT};
 
 /// Refusal of steps 1 and 3: no page to read from.
 pub const NOTHING: u32 = 7;
@@ -20,10 +20,26 @@ pub struct Meaning {
     pub tree: Tree,
     /// The greatest standing commit number.
     pub greatest: u32,
-    /// The list of each node number: places of the standing pages with its units from its last reset on.
+    /// The list of each node number: places of the standing pages with its units from its last reset on. That of a freed node
+    /// is the page of this reset.
     pub lists: Vec<Vec<usize>>,
     /// The void pages by place, lowest first.
     pub void: Vec<usize>,
+}
+
+impl Meaning {
+    /// Whether a number is that of a freed node.
+    pub fn freed(&self, number: usize) -> bool {
+        self.tree.nodes[number].is_none() && !self.lists[number].is_empty()
+    }
+
+    /// The length that look up takes for a number: that of its list, 0 if it is unused or freed.
+    pub fn length(&self, number: usize) -> usize {
+        if self.freed(number) {
+            return 0;
+        }
+        self.lists[number].len()
+    }
 }
 
 /// The head of a page that passes its own rules of step 2, with its place on the chip.
@@ -50,7 +66,7 @@ pub fn meaning(geometry: Geometry, image: &[u8], blocks: usize) -> Result<Meanin
         return Err(BROKEN);
     }
     let greatest = standing[standing.len() - 1].commit;
-    let (nodes, lists) = views.into_iter().map(|view| (view.node, view.list)).unzip();
+    let (nodes, lists) = views.into_iter().map(|view| (view.stage.node(), view.list)).unzip();
     let tree = Tree { nodes };
     if !step_six(&tree) {
         return Err(NO_TREE);
@@ -121,15 +137,36 @@ fn step_three(heads: &[Head]) -> Result<(&[Head], Vec<usize>), u32> {
     Ok((standing, void))
 }
 
+/// What the units of a number make of it.
+#[derive(Clone, Default)]
+enum Stage {
+    /// It has no units.
+    #[default]
+    Unused,
+    /// It has units and no reset.
+    NoReset,
+    /// Its last reset has value 255.
+    Freed,
+    /// It is a node, whose last reset has a level.
+    Held(Node),
+}
+
+impl Stage {
+    /// The node, if it is one that is not freed.
+    fn node(self) -> Option<Node> {
+        match self {
+            Stage::Held(node) => Some(node),
+            _ => None,
+        }
+    }
+}
+
 /// A node's view: what its units from its last reset on make of it, and its list.
 #[derive(Clone, Default)]
 struct View {
-    /// Whether the node has units.
-    has_units: bool,
-    /// The node, once it has a reset.
-    node: Option<Node>,
-    /// Whether a unit after the last reset left more than 16 entries.
-    above: bool,
+    stage: Stage,
+    /// Whether a unit after the last reset left more than 16 entries or stands after a value of 255.
+    broken: bool,
     /// The places of the standing pages with its units from its last reset on.
     list: Vec<usize>,
 }
@@ -137,23 +174,33 @@ struct View {
 impl View {
     /// Takes the node's following unit, read from the page at a place.
     fn take(&mut self, deed: Deed, place: usize) {
-        self.has_units = true;
-        if let Deed::Reset(level) = deed {
-            self.node = Some(Node::empty(level));
-            self.above = false;
-            self.list.clear();
-        }
-        let Some(node) = &mut self.node else { return };
         match deed {
-            Deed::Insert(key, value) => node.put(key, value),
-            Deed::Delete(key) => {
+            Deed::Reset(FREED) => self.reset(Stage::Freed),
+            Deed::Reset(level) => self.reset(Stage::Held(Node::empty(level))),
+            Deed::Insert(key, value) => self.change(|node| node.put(key, value)),
+            Deed::Delete(key) => self.change(|node| {
                 node.take(key);
-            }
-            Deed::Reset(_) => {}
+            }),
         }
-        self.above |= node.entries.len() > FULL;
-        if self.list.last() != Some(&place) {
+        if !matches!(self.stage, Stage::NoReset) && self.list.last() != Some(&place) {
             self.list.push(place);
+        }
+    }
+
+    /// A reset: what the units before it made of the node counts nothing.
+    fn reset(&mut self, stage: Stage) {
+        *self = View { stage, broken: false, list: Vec::new() };
+    }
+
+    /// An insert or a delete.
+    fn change(&mut self, change: impl FnOnce(&mut Node)) {
+        match &mut self.stage {
+            Stage::Unused | Stage::NoReset => self.stage = Stage::NoReset,
+            Stage::Freed => self.broken = true,
+            Stage::Held(node) => {
+                change(node);
+                self.broken |= node.entries.len() > FULL;
+            }
         }
     }
 }
@@ -168,14 +215,13 @@ fn step_four(geometry: Geometry, image: &[u8], standing: &[Head], limit: usize) 
             views[unit.node as usize].take(unit.deed, head.place);
         }
     }
-    let bad = |view: &View| view.has_units && (view.node.is_none() || view.above);
-    if views.iter().any(bad) {
+    if views.iter().any(|view| view.broken || matches!(view.stage, Stage::NoReset)) {
         return Err(BROKEN);
     }
     Ok(views)
 }
 
-/// Step 6: whether the nodes are a tree.
+/// Step 6: whether the nodes that are not freed are a tree. Node 0 freed, or a value that names a freed node, is none.
 fn step_six(tree: &Tree) -> bool {
     let Some(Some(root)) = tree.nodes.first() else { return false };
     let mut reached = vec![false; tree.nodes.len()];

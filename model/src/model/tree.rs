@@ -1,11 +1,12 @@
-//! The tree of document 01, 'Tree steps': find, insert and delete on nodes known by number.
+//! The tree of document 01, 'Tree steps', with the joins of note 1 of document 02: find, insert and delete on nodes known by number.
+mod join;
+
+use super::unit::TOP;
 
 /// Entries that a node has room for.
 pub const FULL: usize = 16;
 /// Entries that stay when a node of 17 splits.
 const STAY: usize = 9;
-/// The greatest level of a root.
-const TOP: u32 = 3;
 
 /// A node: its level, 0 for a leaf, and its entries in key order.
 #[derive(Clone, Debug, PartialEq, Eq)]
@@ -14,7 +15,7 @@ pub struct Node {
     pub entries: Vec<(u32, u32)>,
 }
 
-/// A tree: the node of each number below 8 B, when it has a reset.
+/// A tree: the node of each number below 8 B, none where the number is free or unused.
 #[derive(Clone, Debug, PartialEq, Eq)]
 pub struct Tree {
     pub nodes: Vec<Option<Node>>,
@@ -94,18 +95,7 @@ impl Tree {
         self.node(self.leaf_of(key)).value(key)
     }
 
-    /// Deletes a key; tells whether it was there.
-    pub fn delete(&mut self, key: u32) -> bool {
-        let leaf = self.leaf_of(key);
-        self.node_mut(leaf).take(key)
-    }
-
-    /// The next number: the greatest number with a reset, plus 1.
-    fn next(&self) -> usize {
-        self.nodes.iter().rposition(|node| node.is_some()).map_or(0, |greatest| greatest + 1)
-    }
-
-    /// Inserts (key, value). False, and no change, when that needs a number of 8 B or more or a root above level 3.
+    /// Inserts (key, value). False, and no change, when that needs more numbers than are left or a root above level 3.
     pub fn insert(&mut self, key: u32, value: u32) -> bool {
         let leaf = self.leaf_of(key);
         let node = self.node_mut(leaf);
@@ -121,7 +111,7 @@ impl Tree {
         fits
     }
 
-    /// Whether an insert fits: it needs no number of 8 B or more and no root above level 3.
+    /// Whether an insert fits: it needs no more numbers than are left and no root above level 3.
     pub fn insert_fits(&self, key: u32, value: u32) -> bool {
         let node = self.node(self.leaf_of(key));
         node.entries.len() < FULL || node.value(key).is_some() || self.clone().insert(key, value)
@@ -146,14 +136,14 @@ impl Tree {
         self.split(number).map(Some)
     }
 
-    /// Gives the next number to a node; none when the number is 8 B or more.
+    /// Gives the least number that is free or unused to a node; none when there is none.
     fn give(&mut self, node: Node) -> Option<u32> {
-        let number = self.next();
-        *self.nodes.get_mut(number)? = Some(node);
+        let number = self.nodes.iter().position(Option::is_none)?;
+        self.nodes[number] = Some(node);
         Some(number as u32)
     }
 
-    /// Splits a node of 17 that is not node 0: the first 9 stay, 8 go to the next number. Answers the parent's entry.
+    /// Splits a node of 17 that is not node 0: the first 9 stay, 8 go to a new node. Answers the parent's entry.
     fn split(&mut self, number: u32) -> Option<(u32, u32)> {
         let node = self.node_mut(number);
         let moved = Node { level: node.level, entries: node.entries.split_off(STAY) };
@@ -161,7 +151,7 @@ impl Tree {
         Some((smallest, self.give(moved)?))
     }
 
-    /// Splits node 0: the 9 go to the next number n, the 8 to n + 1, node 0 becomes one level higher with both.
+    /// Splits node 0: the 9 go to the least number, the 8 to the one after it, node 0 becomes one level higher with both.
     fn split_root(&mut self) -> bool {
         let mut first = self.node(0).clone();
         if first.level == TOP {
@@ -170,9 +160,9 @@ impl Tree {
         let level = first.level;
         let second = Node { level, entries: first.entries.split_off(STAY) };
         let smallest = second.entries[0].0;
-        let Some(n) = self.give(first) else { return false };
-        let Some(after) = self.give(second) else { return false };
-        self.nodes[0] = Some(Node { level: level + 1, entries: vec![(0, n), (smallest, after)] });
+        let Some(smaller) = self.give(first) else { return false };
+        let Some(greater) = self.give(second) else { return false };
+        self.nodes[0] = Some(Node { level: level + 1, entries: vec![(0, smaller), (smallest, greater)] });
         true
     }
 }

@@ -5,6 +5,10 @@ use super::geometry::Geometry;
 pub const UNIT: usize = 12;
 /// Bytes of a page before its units.
 pub const HEAD: usize = 8;
+/// The greatest level.
+pub const TOP: u32 = 3;
+/// The value of a reset that frees its node: note 1 of document 02.
+pub const FREED: u32 = 255;
 
 /// What a unit does to its node.
 #[derive(Clone, Copy, Debug, PartialEq, Eq)]
@@ -13,7 +17,7 @@ pub enum Deed {
     Insert(u32, u32),
     /// Kind 2: deletes the key.
     Delete(u32),
-    /// Kind 3: resets the node to empty at a level.
+    /// Kind 3: resets the node to empty at a level, or frees it.
     Reset(u32),
 }
 
@@ -63,7 +67,7 @@ pub fn decode(bytes: &[u8], limit: usize) -> Option<Unit> {
     let deed = match bytes[0] {
         1 => Deed::Insert(key, value),
         2 if value == 0 => Deed::Delete(key),
-        3 if key == 0 && value <= 3 => Deed::Reset(value),
+        3 if key == 0 && (value <= TOP || value == FREED) => Deed::Reset(value),
         _ => return None,
     };
     Some(Unit { node, deed })

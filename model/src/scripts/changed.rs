@@ -8,10 +8,11 @@ use crate::model::geometry::Geometry;
 use crate::model::unit::{half, HEAD, UNIT};
 use crate::random::Random;
 
-/// A page of a node's list: that of node 0 in one of three cases, else of any node; none where the node has no list.
+/// A page of a node's list: that of node 0 in one of three cases, else of any number that has one; none where there is none.
 fn listed(random: &mut Random, writer: &Writer) -> Option<(u32, usize)> {
     let state = writer.probe().state();
-    let node = if random.once_in(3) { 0 } else { random.below(u64::from(state.next.max(1))) as u32 };
+    let numbers: Vec<u32> = state.listed().collect();
+    let node = if random.once_in(3) { 0 } else { *numbers.get(random.index(numbers.len()))? };
     let list = state.list(node);
     let place = *list.get(random.index(list.len()))? as usize;
     let page = writer.geometry().page();
@@ -51,7 +52,7 @@ fn wound_unit(random: &mut Random, writer: &mut Writer, at: usize) {
         2 => (2, (random.below(40) as u16).to_le_bytes().to_vec()),
         3 => (4, (random.next() as u32).to_le_bytes().to_vec()),
         4 => (4, vec![0; 4]),
-        _ if reset => (8, vec![random.below(5) as u8]),
+        _ if reset => (8, vec![[0, 1, 2, 3, 4, 255][random.index(6)]]),
         5 => (0, [[3, 0].as_slice(), &writer.probe().image()[at + 2..at + 4], &[0; 4], &[random.below(4) as u8, 0, 0, 0]].concat()),
         _ => (8, child(random).to_le_bytes().to_vec()),
     };

@@ -31,7 +31,7 @@ fn short(random: &mut Random, geometry: Geometry, tries: usize, make: &dyn Fn(&m
 }
 
 /// A valid image that no format began.
-fn valid_image(random: &mut Random, geometry: Geometry) -> Vec<u8> {
+pub fn valid_image(random: &mut Random, geometry: Geometry) -> Vec<u8> {
     loop {
         if let Some(image) = short(random, geometry, 2, &|random, n| Some(foreign::valid(random, geometry, n))) {
             return image;
@@ -39,11 +39,22 @@ fn valid_image(random: &mut Random, geometry: Geometry) -> Vec<u8> {
     }
 }
 
-/// An image of one of three kinds that no format began: valid, with pages that no list names, with nodes in all blocks but the spare ones.
+/// A valid image whose nodes have few entries each.
+pub fn thin_image(random: &mut Random, geometry: Geometry) -> Vec<u8> {
+    loop {
+        if let Some(image) = short(random, geometry, 2, &|random, n| Some(foreign::thin_of(random, geometry, n).0)) {
+            return image;
+        }
+    }
+}
+
+/// An image of one of four kinds that no format began: valid, with few entries a node, with pages that no list names, with nodes in all
+/// blocks but the spare ones.
 pub fn any_image(random: &mut Random, geometry: Geometry) -> Vec<u8> {
-    match random.below(4) {
+    match random.below(5) {
         0 => spent_image(random, geometry),
         1 => spread::image(random, geometry),
+        2 => thin_image(random, geometry),
         _ => valid_image(random, geometry),
     }
 }

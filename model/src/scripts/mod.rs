@@ -7,6 +7,7 @@ pub mod edges;
 pub mod erases;
 pub mod forecast;
 pub mod images;
+pub mod joins;
 pub mod lines;
 pub mod parts;
 pub mod pays;
@@ -26,7 +27,7 @@ pub struct Kind {
 }
 
 /// All kinds of scripts for the probe.
-pub const KINDS: [Kind; 15] = [
+pub const KINDS: [Kind; 16] = [
     Kind { name: "calls", make: calls::make },
     Kind { name: "valid", make: images::valid },
     Kind { name: "steep", make: images::steep },
@@ -42,6 +43,7 @@ pub const KINDS: [Kind; 15] = [
     Kind { name: "pays", make: pays::make },
     Kind { name: "forecast", make: forecast::make },
     Kind { name: "parts", make: parts::make },
+    Kind { name: "joins", make: joins::make },
 ];
 
 impl Kind {

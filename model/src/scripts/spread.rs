@@ -37,7 +37,7 @@ fn nodes(writer: &Writer) -> Vec<Node> {
         let inserts = view.entries().iter().map(|&entry| unit(Deed::Insert(key_of(entry), value_of(entry))));
         [unit(Deed::Reset(view.level))].into_iter().chain(inserts).collect()
     };
-    (0..state.next).map(node).collect()
+    state.in_use().map(node).collect()
 }
 
 /// Nodes put into pages, one behind the other.

@@ -57,7 +57,7 @@ impl Leaf {
 /// The leaves of the store.
 fn leaves(writer: &Writer) -> Vec<Leaf> {
     let (state, image) = (writer.probe().state(), writer.probe().image());
-    let views = (0..state.next).map(|n| (n, state.view(image, n)));
+    let views = state.in_use().map(|n| (n, state.view(image, n)));
     let leaves = views.filter(|(_, view)| view.stage == Stage::Full && view.level == 0);
     let leaf = |n: u32, keys| Leaf { keys, list: state.list(n).len(), pending: state.buffered().iter().any(|unit| node_of(unit) == n) };
     leaves.map(|(n, view)| leaf(n, view.entries().iter().map(|&entry| key_of(entry)).collect())).collect()

@@ -12,17 +12,15 @@ pub struct Look {
 }
 
 impl State {
-    /// The number of the leaf of `key`, its view, and the pages read on the way to it.
-    pub fn leaf(&self, image: &[u8], key: u32) -> (u32, View, u32) {
-        let mut number = 0;
-        let mut view = self.view(image, number);
-        let mut pages = self.list(number).len();
+    /// The view of the leaf of `key`, and the pages read on the way to it.
+    fn leaf(&self, image: &[u8], key: u32) -> (View, u32) {
+        let (mut view, mut pages) = self.view_and_pages(image, 0);
         for _ in 0..view.level {
-            number = view.child(key);
-            view = self.view(image, number);
-            pages += self.list(number).len();
+            let (child, more) = self.view_and_pages(image, view.child(key));
+            view = child;
+            pages += more;
         }
-        (number, view, pages as u32)
+        (view, pages as u32)
     }
 
     /// The value of `key` in P with the pages read: 2, 1, 4.
@@ -30,7 +28,7 @@ impl State {
         if let Err(refusal) = self.admit(image) {
             return Look { refusal, value: 0, pages: 0 };
         }
-        let (_, view, pages) = self.leaf(image, key);
+        let (view, pages) = self.leaf(image, key);
         match view.lookup(key) {
             Some(value) => Look { refusal: 0, value, pages },
             None => Look { refusal: 4, value: 0, pages },

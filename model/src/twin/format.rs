@@ -2,6 +2,7 @@
 
 use super::chip::Chip;
 use super::geometry::{Geometry, AREA};
+use super::numbers::Numbers;
 use super::state::State;
 use super::told::{Counts, Told};
 use super::unit::{encode, put_header, Header, Update};
@@ -35,7 +36,7 @@ impl State {
         self.blocks = blocks;
         self.commit = 1;
         self.pending = 0;
-        self.next = 1;
+        self.free = Numbers::fresh(self.limit());
         self.count = 0;
         self.lens = [0; 256];
         self.lens[0] = 1;

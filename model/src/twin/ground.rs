@@ -54,7 +54,7 @@ impl State {
     /// The blocks that hold a page of some node's list, as a set.
     fn listed_blocks(&self) -> u32 {
         let bit = |place: u32| 1u32.checked_shl(self.geometry.block_of(place as usize) as u32).unwrap_or(0);
-        (0..self.limit()).flat_map(|n| self.list(n)).fold(0, |set, &place| set | bit(place))
+        self.listed().flat_map(|n| self.list(n)).fold(0, |set, &place| set | bit(place))
     }
 
     /// The head block, which holds the last page in order of all live ones, and the set of blocks with a page of commit G.

@@ -3,12 +3,15 @@
 
 pub mod chip;
 pub mod commit;
+pub mod delete;
 pub mod find;
 pub mod forecast;
 pub mod format;
 pub mod geometry;
 pub mod ground;
+pub mod insert;
 pub mod mount;
+pub mod numbers;
 pub mod plan;
 pub mod ready;
 pub mod report;

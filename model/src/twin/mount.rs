@@ -2,6 +2,7 @@
 
 use super::chip::{Chip, Mark};
 use super::geometry::{Geometry, PLACES};
+use super::numbers::Numbers;
 use super::standing::{place_of, Standing};
 use super::state::State;
 use super::told::{Counts, Told};
@@ -36,11 +37,10 @@ impl State {
         self.commit = standing.commit();
         self.pending = 0;
         self.count = 0;
-        self.next = self.lens[..8 * blocks].iter().rposition(|&len| len != 0).map_or(0, |n| n as u32 + 1);
         chip.told(counts)
     }
 
-    /// Steps 1 to 6 by the state's geometry; the node table is read from the standing pages.
+    /// Steps 1 to 6 by the state's geometry; the node table and the numbers in use are read from the standing pages.
     fn read<'a>(&mut self, image: &[u8], limit: u32, keys: &'a mut [u64; PLACES]) -> Result<Standing<'a>, u32> {
         let standing = Standing::of(self.geometry, image, keys)?;
         self.lens = [0; 256];
@@ -62,10 +62,10 @@ impl State {
                 return Err(8);
             }
         }
-        if is_tree(&views[..limit as usize]) {
-            Ok(standing)
-        } else {
-            Err(9)
+        if !is_tree(&views[..limit as usize]) {
+            return Err(9);
         }
+        self.free = Numbers::of(&views, limit);
+        Ok(standing)
     }
 }

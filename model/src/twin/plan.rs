@@ -2,7 +2,7 @@
 
 use super::ground::Ground;
 use super::state::{State, BUFFER};
-use super::unit::{decode, encode, node_of, Update, UNIT};
+use super::unit::{decode, encode, node_of, Update, FREED, UNIT};
 use super::view::{key_of, value_of, Stage, View};
 
 /// The buffered units by node: `order[start[n]..start[n + 1]]` are the indexes of those of node n.
@@ -76,13 +76,16 @@ impl Plan {
         }
     }
 
-    /// A node's units where it is written anew; none where it has no view.
+    /// A node's units where it is written anew: freed, its reset alone; none where it is untouched or broken.
     fn keep(&mut self, n: usize, view: &View) {
         self.read[n] = true;
-        if view.stage == Stage::Full {
-            put_node(&mut self.units[WHOLE * n..][..view.len + 1], n as u32, view);
-            self.whole[n] = view.len as u8 + 1;
-        }
+        let reset = match view.stage {
+            Stage::Full => view.level,
+            Stage::Freed => FREED,
+            Stage::Untouched | Stage::Broken => return,
+        };
+        put_node(&mut self.units[WHOLE * n..][..view.len + 1], n as u32, reset, view);
+        self.whole[n] = view.len as u8 + 1;
     }
 
     /// The first page with room for this many units.
@@ -237,8 +240,8 @@ impl State {
 }
 
 /// A node written anew: a reset and an insert for each entry.
-fn put_node(out: &mut [[u8; UNIT]], number: u32, view: &View) {
-    out[0] = encode(number, Update::Reset(view.level));
+fn put_node(out: &mut [[u8; UNIT]], number: u32, reset: u32, view: &View) {
+    out[0] = encode(number, Update::Reset(reset));
     for (unit, &e) in out[1..].iter_mut().zip(view.entries()) {
         *unit = encode(number, Update::Insert(key_of(e), value_of(e)));
     }

@@ -1,14 +1,16 @@
 //! The state of the store, and a node's view read through it.
 
 use super::geometry::{Geometry, SMALL};
+use super::numbers::Numbers;
 use super::unit::{encode, is_unit, node_of, units_of, Update, UNIT};
-use super::view::{key_of, value_of, View};
+use super::view::{key_of, value_of, Stage, View};
 
 /// Units that the reservation buffer holds at most, 60 for each of 16 pending updates.
 pub const BUFFER: usize = 960;
 
-/// On or off, the geometry, B, G, the pending updates, the next node number, the reservation buffer with its count of units, the node table: for each
-/// node the length of its list and its pages; and for each block the erases done since the last finished mount or format.
+/// On or off, the geometry, B, G, the pending updates, the numbers in use by nodes of P, the reservation buffer with its count of units,
+/// the node table: for each number the length of its list and its pages; and for each block the erases done since the last finished mount or
+/// format.
 #[derive(Clone, PartialEq, Eq)]
 pub struct State {
     pub on: bool,
@@ -16,7 +18,7 @@ pub struct State {
     pub blocks: usize,
     pub commit: u32,
     pub pending: u32,
-    pub next: u32,
+    pub free: Numbers,
     pub count: usize,
     pub buffer: [u8; BUFFER * UNIT],
     pub lens: [u32; 256],
@@ -40,7 +42,7 @@ impl State {
             blocks: 0,
             commit: 0,
             pending: 0,
-            next: 0,
+            free: Numbers::NONE,
             count: 0,
             buffer: [0; BUFFER * UNIT],
             lens: [0; 256],
@@ -52,6 +54,11 @@ impl State {
     /// The node numbers are below this.
     pub fn limit(&self) -> u32 {
         8 * self.blocks as u32
+    }
+
+    /// The numbers that nodes of P have, the least first.
+    pub fn in_use(&self) -> impl Iterator<Item = u32> + '_ {
+        (0..self.limit()).filter(|&number| !self.free.has(number))
     }
 
     /// The tests 2 and 1 of the calls that take no torn slice.
@@ -72,6 +79,11 @@ impl State {
             Some(&len) => &self.slots[4 * n..4 * n + len.min(4) as usize],
             None => &[],
         }
+    }
+
+    /// The numbers that have a list: those of nodes on flash, and those freed there.
+    pub fn listed(&self) -> impl Iterator<Item = u32> + '_ {
+        (0..self.limit()).filter(|&n| !self.list(n).is_empty())
     }
 
     /// The units of the reservation buffer.
@@ -98,10 +110,16 @@ impl State {
 
     /// A node's view from its pages and then from the buffer.
     pub fn view(&self, image: &[u8], number: u32) -> View {
+        self.view_and_pages(image, number).0
+    }
+
+    /// A node's view, and the length of its number's list on flash, 0 where it is freed there.
+    pub fn view_and_pages(&self, image: &[u8], number: u32) -> (View, usize) {
         let limit = self.limit();
         let mut view = self.stored(image, number, limit);
+        let pages = if view.stage == Stage::Freed { 0 } else { self.list(number).len() };
         view.fold(self.buffered(), number, limit);
-        view
+        (view, pages)
     }
 
     /// A unit behind those of the buffer.
@@ -109,6 +127,13 @@ impl State {
         let at = self.count * UNIT;
         self.buffer[at..at + UNIT].copy_from_slice(&encode(number, update));
         self.count += 1;
+    }
+
+    /// A unit behind those of the buffer, where there is room and the node number fits in it.
+    pub fn push_fitting(&mut self, number: u32, update: Update) {
+        if self.count < BUFFER && number < 65536 {
+            self.push(number, update);
+        }
     }
 
     /// A node written anew behind the units of the buffer: a reset and its entries.
@@ -126,7 +151,7 @@ impl State {
     }
 
     /// The page joins the list of a node unless it is the newest there already. A list of more than 4 pages has length 5.
-    fn join(&mut self, n: usize, place: u32) {
+    fn append(&mut self, n: usize, place: u32) {
         let len = self.lens[n] as usize;
         match len {
             0 => self.begin(n, place),
@@ -147,7 +172,7 @@ impl State {
             }
             match unit[0] {
                 3 => self.begin(node_of(unit) as usize, place),
-                _ => self.join(node_of(unit) as usize, place),
+                _ => self.append(node_of(unit) as usize, place),
             }
         }
         true

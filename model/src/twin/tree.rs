@@ -34,7 +34,7 @@ impl Walk<'_> {
     }
 }
 
-/// Step 6 on the views of all nodes: each node with a reset is reached from node 0 exactly once.
+/// Step 6 on the views of all nodes: each is reached from node 0 exactly once. What is freed is no node.
 pub fn is_tree(views: &[View]) -> bool {
     let mut walk = Walk { views, seen: [false; 256] };
     let level = views[0].level;

@@ -9,12 +9,23 @@ pub const UNIT: usize = 12;
 /// Bytes of a page's header.
 pub const HEADER: usize = 8;
 
+/// The value of a reset that frees its node.
+pub const FREED: u32 = 255;
+
+/// The greatest level of a node.
+pub const TOP: u32 = 3;
+
 /// What a unit does to its node.
 #[derive(Clone, Copy, PartialEq, Eq, Debug)]
 pub enum Update {
     Insert(u32, u32),
     Delete(u32),
     Reset(u32),
+}
+
+/// Whether a reset may have this value: a level, or the one that frees.
+fn is_reset(value: u32) -> bool {
+    value <= TOP || value == FREED
 }
 
 /// The little-endian number of the two bytes at `at`.
@@ -39,7 +50,7 @@ pub fn is_unit(unit: &[u8; UNIT], limit: u32) -> bool {
     let good = match head & 0xFFFF {
         1 => true,
         2 => word(unit, 8) == 0,
-        3 => word(unit, 4) == 0 && word(unit, 8) <= 3,
+        3 => word(unit, 4) == 0 && is_reset(word(unit, 8)),
         _ => false,
     };
     good && head >> 16 < limit
@@ -55,7 +66,7 @@ pub fn decode(unit: &[u8; UNIT], limit: u32) -> Option<Update> {
     match half(unit, 0) {
         1 => Some(Update::Insert(key, value)),
         2 if value == 0 => Some(Update::Delete(key)),
-        3 if key == 0 && value <= 3 => Some(Update::Reset(value)),
+        3 if key == 0 && is_reset(value) => Some(Update::Reset(value)),
         _ => None,
     }
 }
@@ -65,7 +76,7 @@ pub fn encode(node: u32, update: Update) -> [u8; UNIT] {
     let (kind, key, value) = match update {
         Update::Insert(key, value) => (1, key, value),
         Update::Delete(key) => (2, key, 0),
-        Update::Reset(level) => (3, 0, level),
+        Update::Reset(value) => (3, 0, value),
     };
     let mut unit = [0; UNIT];
     unit[0] = kind;

@@ -1,12 +1,14 @@
 //! A node's view: what its units make of it.
 
-use super::unit::{decode, is_unit, node_of, Update, UNIT};
+use super::unit::{decode, is_unit, node_of, Update, FREED, UNIT};
 
-/// No unit yet; units without a reset, above 16 entries since the last one, or bytes that are no unit; a level and entries.
+/// No unit yet; units without a reset or behind one that frees, above 16 entries since the last one, or bytes that are no unit; freed by the
+/// last unit; a level and entries.
 #[derive(Clone, Copy, PartialEq, Eq, Debug)]
 pub enum Stage {
     Untouched,
     Broken,
+    Freed,
     Full,
 }
 
@@ -58,6 +60,11 @@ impl View {
         (key_of(last) == key).then(|| value_of(last))
     }
 
+    /// The place of the entry for `key`: that of the greatest key not above it, 0 where there is none.
+    pub fn place(&self, key: u32) -> usize {
+        self.reach(key).saturating_sub(1)
+    }
+
     /// The child for `key`: the value of the greatest entry key not above it, 0 where there is none.
     pub fn child(&self, key: u32) -> u32 {
         self.entries[..self.reach(key)].last().map_or(0, |&e| value_of(e))
@@ -80,7 +87,7 @@ impl View {
     }
 
     /// Without `key`, if it is there.
-    fn delete(&mut self, key: u32) {
+    pub fn delete(&mut self, key: u32) {
         let at = self.reach(key);
         if at > 0 && key_of(self.entries[at - 1]) == key {
             self.entries.copy_within(at..self.len, at - 1);
@@ -88,10 +95,12 @@ impl View {
         }
     }
 
-    /// No entries, at a level.
-    fn reset(&mut self, level: u32) {
-        self.stage = Stage::Full;
-        self.level = level;
+    /// No entries, at a level; freed with the value for that.
+    fn reset(&mut self, value: u32) {
+        (self.stage, self.level) = match value {
+            FREED => (Stage::Freed, 0),
+            level => (Stage::Full, level),
+        };
         self.len = 0;
     }
 
@@ -106,7 +115,7 @@ impl View {
     #[inline]
     pub fn apply(&mut self, update: Update) {
         match update {
-            Update::Reset(level) => self.reset(level),
+            Update::Reset(value) => self.reset(value),
             _ if self.stage != Stage::Full => self.stage = Stage::Broken,
             Update::Delete(key) => self.delete(key),
             Update::Insert(key, value) => {

@@ -24,11 +24,11 @@ fn valid_images_mean_their_tree() {
     assert!(void > 50 && longest == 4 && most == 170);
 }
 
-/// Each of the 61 faults gives the refusal intended, on chips of several sizes.
+/// Each of the 71 faults gives the refusal intended, on chips of several sizes.
 #[test]
 fn damaged_images_give_the_refusal_intended() {
     let mut random = Random::new(72);
-    assert_eq!(faults().len(), 61);
+    assert_eq!(faults().len(), 71);
     for fault in faults() {
         for round in 0..9 {
             let blocks = if round == 0 { 32 } else { 3 + random.index(3) };

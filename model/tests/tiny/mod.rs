@@ -1,6 +1,7 @@
 //! A tiny store behind the probe's protocol, for tests of the judge: a commit writes all nodes into one erased block.
 mod erases;
 mod forecast;
+mod joins;
 mod parts;
 
 use model::model::chip::{self, Operation, Power, OBSOLETE, VALID};
@@ -106,6 +107,22 @@ pub enum Bug {
     CallsTakeNamedSize,
     ReportNone32,
     ReportOf32,
+    RightKept,
+    KeyNotRenewed,
+    GreatestPlusOne,
+    FreedLeftOut,
+    TakesOverOnce,
+    TakesOverAfterJoins,
+    LooksLeft,
+    JoinsAt15,
+    LooksAtSix,
+    MovesTwo,
+    ParentsStay,
+    FreedNotTaken,
+    FreedHasLength,
+    NewHasNoLength,
+    MountRefusesFreed,
+    MountLosesFreed,
 }
 
 impl Bug {
@@ -188,6 +205,28 @@ impl Bug {
 }
 
 impl Bug {
+    /// The faults of a store in joins, numbers and freed nodes.
+    pub const JOINS: [Bug; 16] = [
+        Bug::RightKept,
+        Bug::KeyNotRenewed,
+        Bug::GreatestPlusOne,
+        Bug::FreedLeftOut,
+        Bug::TakesOverOnce,
+        Bug::TakesOverAfterJoins,
+        Bug::LooksLeft,
+        Bug::JoinsAt15,
+        Bug::LooksAtSix,
+        Bug::MovesTwo,
+        Bug::ParentsStay,
+        Bug::FreedNotTaken,
+        Bug::FreedHasLength,
+        Bug::NewHasNoLength,
+        Bug::MountRefusesFreed,
+        Bug::MountLosesFreed,
+    ];
+}
+
+impl Bug {
     /// The faults of a store that is told parts by frame 17.
     pub const PARTS: [Bug; 16] = [
         Bug::MountKeepsPart,
@@ -213,6 +252,8 @@ impl Bug {
 #[derive(Clone)]
 struct State {
     tree: Tree,
+    /// The numbers taken by nodes since the last commit or mount.
+    taken: Vec<usize>,
     pending: u32,
     number: u32,
     blocks: usize,
@@ -307,7 +348,7 @@ impl Tiny {
         let erased = (0..blocks).all(|block| power.run(image, &Operation::Erase(block)));
         let reset = encode(&Unit { node: 0, deed: Deed::Reset(0) });
         let finished = erased && chip::write_page(image, &mut power, 0, &page_data(self.geometry, 1, 0, 1, &[reset]));
-        self.state = finished.then(|| State { tree: Tree::leaf(blocks), pending: 0, number: 1, blocks });
+        self.state = finished.then(|| State { tree: Tree::leaf(blocks), taken: Vec::new(), pending: 0, number: 1, blocks });
         let mut told = power.told();
         self.formatted();
         if self.is(Bug::ImageByteOnFormat) {
@@ -341,12 +382,15 @@ impl Tiny {
             return format!("{refusal:02X}");
         }
         let (early, five, loses) = (self.is(Bug::EarlyThree), self.is(Bug::EarlyFive), self.is(Bug::LosesUpdate));
+        let given = self.given();
         let state = self.state.as_mut().unwrap();
         if state.pending == 16 - early as u32 {
             return "03".to_string();
         }
         let held = state.tree.clone();
-        if !state.tree.insert(key, value) || (five && state.tree.nodes.iter().flatten().count() > 20) {
+        let inserted = joins::insert(&mut state.tree, key, value, &given);
+        state.taken.extend((0..held.nodes.len()).filter(|number| held.nodes[*number].is_none() && state.tree.nodes[*number].is_some()));
+        if !inserted || (five && state.tree.nodes.iter().flatten().count() > 20) {
             state.tree = held;
             return "05".to_string();
         }
@@ -365,7 +409,7 @@ impl Tiny {
         if let Some(refusal) = self.refused(false) {
             return format!("{refusal:02X}");
         }
-        let order = self.is(Bug::AbsentBeforePending);
+        let (order, bug) = (self.is(Bug::AbsentBeforePending), self.bug);
         let state = self.state.as_mut().unwrap();
         if order && state.tree.find(key).is_none() {
             return "04".to_string();
@@ -373,7 +417,7 @@ impl Tiny {
         if state.pending == 16 {
             return "03".to_string();
         }
-        if !state.tree.delete(key) {
+        if !joins::delete(&mut state.tree, key, bug) {
             return "04".to_string();
         }
         state.pending += 1;
@@ -387,8 +431,8 @@ impl Tiny {
         }
         let state = self.state.as_ref().unwrap();
         let path = state.tree.path(key);
-        let lists = meaning(self.geometry, self.image(), state.blocks).map(|means| means.lists).unwrap_or(vec![vec![]; 256]);
-        let pages: usize = path.iter().map(|number| lists[*number as usize].len()).sum();
+        let means = meaning(self.geometry, self.image(), state.blocks).ok();
+        let pages: usize = path.iter().map(|number| self.length(means.as_ref(), *number as usize)).sum();
         let pages = pages + self.is(Bug::WrongPagesRead) as usize;
         match state.tree.find(key) {
             Some(value) => format!("00{:08X}{pages:02X}", value ^ self.is(Bug::WrongValue) as u32),
@@ -435,7 +479,7 @@ impl Tiny {
             return reply(7, Counts::NONE);
         }
         self.state = None;
-        let mut means = match meaning(self.geometry, self.image(), blocks) {
+        let mut means = match self.read(blocks) {
             Ok(means) => means,
             Err(refusal) => return reply(refusal, Counts::NONE),
         };
@@ -455,7 +499,7 @@ impl Tiny {
             return reply(10, told);
         }
         if !self.is(Bug::MountLeavesOff) {
-            self.state = Some(State { tree: means.tree, pending: 0, number: means.greatest, blocks });
+            self.state = Some(State { tree: means.tree, taken: Vec::new(), pending: 0, number: means.greatest, blocks });
             self.mounted();
         }
         reply(0, told)
@@ -518,6 +562,7 @@ impl Tiny {
         let state = self.state.as_mut().unwrap();
         state.number = number;
         state.pending = 0;
+        state.taken.clear();
         reply(0, self.finished_counts(power.told(), allowance))
     }
 
@@ -545,14 +590,10 @@ impl Tiny {
         }
     }
 
-    /// The units of all nodes of the present tree, page by page.
+    /// The units of all nodes of the present tree and of those freed, page by page.
     fn pages(&self) -> Vec<Vec<[u8; UNIT]>> {
         let mut pages: Vec<Vec<[u8; UNIT]>> = vec![Vec::new()];
-        let tree = &self.state.as_ref().unwrap().tree;
-        for (number, node) in tree.nodes.iter().enumerate().filter_map(|(number, node)| node.as_ref().map(|node| (number, node))) {
-            let unit = |deed| encode(&Unit { node: number as u16, deed });
-            let mut units = vec![unit(Deed::Reset(node.level))];
-            units.extend(node.entries.iter().map(|entry| unit(Deed::Insert(entry.0, entry.1))));
+        for (number, mut units) in self.snapshot() {
             if pages.last().unwrap().len() + units.len() > self.geometry.room {
                 pages.push(Vec::new());
             }

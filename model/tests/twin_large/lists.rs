@@ -63,7 +63,7 @@ impl List {
         let (state, mut image, mut read) = (&self.store.state, self.store.image.clone(), State::new());
         assert_eq!(read.mount(LARGE, &mut image, &TORN, MOUNT).counts.total(), 0);
         assert!(image == self.store.image && read.on);
-        assert_eq!((read.geometry, read.blocks, read.commit, read.next), (LARGE, state.blocks, state.commit, state.next));
+        assert_eq!((read.geometry, read.blocks, read.commit, read.free), (LARGE, state.blocks, state.commit, state.free));
         assert!((0..256).all(|n| read.list(n) == state.list(n)));
     }
 
@@ -93,7 +93,7 @@ fn lists(seed: u64, blocks: usize, rounds: usize, ranges: &[u64]) {
         let f = &list.figures;
         assert!(f.erases > 0 && f.most_operations <= 4000);
         let average = f64::from(f.pages) / f64::from(f.commits);
-        println!("{blocks} blocks, {range} keys, next node {}: {average:.3} pages a commit, {f:?}", list.store.state.next);
+        println!("{blocks} blocks, {range} keys, {} nodes: {average:.3} pages a commit, {f:?}", list.store.state.in_use().count());
     }
 }
 

@@ -21,7 +21,8 @@ fn anew(store: &Store, number: u32) -> Vec<u8> {
 fn spread(store: &Store) -> Vec<u8> {
     let mut image = vec![255; BLOCKS * LARGE.block()];
     for block in 0..HELD {
-        let units: Vec<u8> = (block..store.state.next).step_by(HELD as usize).flat_map(|number| anew(store, number)).collect();
+        let units: Vec<u8> =
+            store.state.in_use().skip(block as usize).step_by(HELD as usize).flat_map(|number| anew(store, number)).collect();
         let page = &mut image[block as usize * LARGE.block()..][..LARGE.page()];
         put_header(page, Header { commit: block + 1, index: 0, count: 1 }, units.len() / 12);
         page[8..8 + units.len()].copy_from_slice(&units);
@@ -51,7 +52,7 @@ fn all_nodes() {
     let mut store = made(&mut random);
     store.updates(&mut random, 9000, 8);
     let counts = store.state.forecast(&store.image).counts;
-    println!("a snapshot of {} nodes: {counts:?}, {} operations", store.state.next, counts.total());
+    println!("a snapshot of {} nodes: {counts:?}, {} operations", store.state.in_use().count(), counts.total());
     assert!(counts.programs > 10 && counts.programs <= 4 * BLOCKS as u32 && counts.total() <= ENOUGH);
     cuts::cut_at(&store, &[0x5A; LARGE.page()], &mut random, 2600);
     store.commit();

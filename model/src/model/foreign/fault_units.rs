@@ -30,7 +30,7 @@ pub const FAULTS: &[(&str, u32, Maker)] = &[
 ];
 
 /// The meaning of a draft that is not damaged yet.
-fn meaning(draft: &Draft) -> Option<Meaning> {
+pub fn meaning(draft: &Draft) -> Option<Meaning> {
     image::meaning(draft.geometry, &draft.render(), draft.blocks).ok()
 }
 
@@ -81,7 +81,7 @@ fn of_kind(draft: &Draft, random: &mut Random, kind: u8) -> Option<(usize, usize
 }
 
 /// Sets the key or value of a standing reset.
-fn set_reset(draft: &mut Draft, random: &mut Random, from: usize, number: u32) -> bool {
+pub fn set_reset(draft: &mut Draft, random: &mut Random, from: usize, number: u32) -> bool {
     let Some((at, place)) = of_kind(draft, random, 3) else { return false };
     draft.pages[at].units[place][from..from + 4].copy_from_slice(&number.to_le_bytes());
     true
@@ -175,7 +175,9 @@ fn broken_early(draft: &mut Draft, random: &mut Random) -> bool {
 /// Fault of step 4: units of a number without a reset.
 fn no_reset(draft: &mut Draft, random: &mut Random) -> bool {
     let Some(means) = meaning(draft) else { return false };
-    let Some(node) = (0..8 * draft.blocks).rev().find(|number| means.tree.nodes[*number].is_none()) else { return false };
+    let Some(node) = (0..8 * draft.blocks).rev().find(|number| means.tree.nodes[*number].is_none() && !means.freed(*number)) else {
+        return false;
+    };
     name_node(draft, random, node as u16)
 }
 
@@ -206,7 +208,7 @@ fn root_resets_out(draft: &mut Draft, random: &mut Random) -> bool {
 /// Units that bring a node whose list is short from its entries to 17.
 fn to_seventeen(draft: &Draft, random: &mut Random) -> Option<Vec<Unit>> {
     let means = meaning(draft)?;
-    let short: Vec<usize> = (0..means.lists.len()).filter(|number| (1..4).contains(&means.lists[*number].len())).collect();
+    let short: Vec<usize> = (0..means.lists.len()).filter(|number| (1..4).contains(&means.length(*number))).collect();
     if short.is_empty() {
         return None;
     }
@@ -242,7 +244,7 @@ fn seventeen_then_sixteen(draft: &mut Draft, random: &mut Random) -> bool {
 /// Brings a node's list to a length by commits of one page, each a delete of an absent key.
 fn lengthen(draft: &mut Draft, random: &mut Random, length: usize) -> bool {
     let Some(means) = meaning(draft) else { return false };
-    let held: Vec<usize> = (0..means.lists.len()).filter(|number| !means.lists[*number].is_empty()).collect();
+    let held: Vec<usize> = (0..means.lists.len()).filter(|number| means.length(*number) > 0).collect();
     let number = held[random.index(held.len())];
     let key = absent_key(draft, random);
     let unit = Unit { node: number as u16, deed: Deed::Delete(key) };

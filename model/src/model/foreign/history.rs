@@ -1,17 +1,18 @@
-//! Writes a tree over several commits: units that later resets override, replaced keys, deletes of absent keys,
+//! Writes a tree over several commits: units that later resets override, replaced keys, deletes of absent keys, freed nodes,
 //! nodes spread over up to 4 pages, pages at random places among rubbish.
 use super::draft::{self, Draft, Page};
 use crate::model::chip::{OBSOLETE, USED, VALID};
 use crate::model::geometry::Geometry;
 use crate::model::tree::{Node, Tree, FULL};
-use crate::model::unit::{self, Deed, Unit, UNIT};
+use crate::model::unit::{self, Deed, Unit, FREED, UNIT};
 use crate::random::Random;
 use std::collections::BTreeMap;
 
-/// A draft whose meaning is a given tree, if the tree obeys step 6.
+/// A draft whose meaning is a given tree, if the tree obeys step 6. Some of the other numbers are freed in it.
 pub fn draft(random: &mut Random, geometry: Geometry, blocks: usize, tree: &Tree) -> Draft {
     loop {
-        if let Some(slots) = slots(random, geometry, blocks, tree) {
+        let freed = freed(random, tree);
+        if let Some(slots) = slots(random, geometry, blocks, tree, &freed) {
             let mut pages = commits(random, geometry, slots);
             pages.extend(void_commit(random, geometry, &pages, blocks));
             let mut places: Vec<usize> = (0..blocks * geometry.pages).collect();
@@ -23,6 +24,13 @@ pub fn draft(random: &mut Random, geometry: Geometry, blocks: usize, tree: &Tree
             return Draft { geometry, blocks, pages, others, patches: Vec::new() };
         }
     }
+}
+
+/// Numbers to be freed: none, all or some of those that the tree does not have, other than 0.
+fn freed(random: &mut Random, tree: &Tree) -> Vec<usize> {
+    let most = random.below(3);
+    let rest = (1..tree.nodes.len()).filter(|number| tree.nodes[*number].is_none());
+    rest.filter(|_| random.below(2) < most).collect()
 }
 
 /// The units of a node that make its view: the last reset, then inserts and deletes with at most 16 entries at any time.
@@ -60,33 +68,48 @@ fn view_units(random: &mut Random, number: u16, node: &Node) -> Vec<Unit> {
     deeds.into_iter().map(|deed| Unit { node: number, deed }).collect()
 }
 
-/// Units of a node before its last reset: anything that obeys the layout, often more than 16 entries.
+/// Units of a node before its last reset: anything that obeys the layout, often more than 16 entries, at times freed at the end.
 fn spent_units(random: &mut Random, number: u16) -> Vec<Unit> {
     let most = if random.once_in(6) { 25 } else { 4 };
-    let mut units = Vec::new();
+    let mut deeds = Vec::new();
     for _ in 0..random.below(most) {
         let key = random.next() as u32;
-        let deed = match random.below(8) {
-            0 => Deed::Reset(random.below(4) as u32),
+        deeds.push(match random.below(8) {
+            0 => any_reset(random),
             1 => Deed::Delete(key),
             _ => Deed::Insert(key, random.next() as u32),
-        };
-        units.push(Unit { node: number, deed });
+        });
     }
-    units
+    if random.once_in(6) {
+        deeds.push(Deed::Reset(FREED));
+    }
+    deeds.into_iter().map(|deed| Unit { node: number, deed }).collect()
 }
 
-/// Pages' worth of units in order that make a tree; none when a node found no room.
-fn slots(random: &mut Random, geometry: Geometry, blocks: usize, tree: &Tree) -> Option<Vec<Vec<Unit>>> {
+/// A reset at any level, or one that frees.
+fn any_reset(random: &mut Random) -> Deed {
+    Deed::Reset([0, 1, 2, 3, FREED][random.index(5)])
+}
+
+/// The units that a number has from its last reset on: those of its node, or the reset that frees it.
+fn last_units(random: &mut Random, number: usize, tree: &Tree) -> Vec<Unit> {
+    match &tree.nodes[number] {
+        Some(node) => view_units(random, number as u16, node),
+        None => vec![Unit { node: number as u16, deed: Deed::Reset(FREED) }],
+    }
+}
+
+/// Pages' worth of units in order that make a tree and freed numbers; none when a node found no room.
+fn slots(random: &mut Random, geometry: Geometry, blocks: usize, tree: &Tree, freed: &[usize]) -> Option<Vec<Vec<Unit>>> {
     let nodes = tree.nodes.iter().flatten().count();
     let most = blocks * geometry.pages * 3 / 4;
-    let least = nodes + 1;
+    let least = nodes + 1 + freed.len() / 8;
     let mut slots = vec![Vec::new(); (least + random.index(2 * least)).min(most)];
     let mut order: Vec<usize> = (0..tree.nodes.len()).filter(|number| tree.nodes[*number].is_some()).collect();
+    order.extend(freed);
     random.shuffle(&mut order);
     for number in order {
-        let node = tree.nodes[number].as_ref()?;
-        let units = view_units(random, number as u16, node);
+        let units = last_units(random, number, tree);
         let first = spread(random, geometry, &mut slots, &units)?;
         let spent = spent_units(random, number as u16);
         let early = random.index(first + 1);
@@ -195,7 +218,7 @@ fn any_unit(random: &mut Random, blocks: usize) -> [u8; UNIT] {
         return std::array::from_fn(|_| random.byte());
     }
     let deed = match random.below(3) {
-        0 => Deed::Reset(random.below(4) as u32),
+        0 => any_reset(random),
         1 => Deed::Delete(random.below(20) as u32),
         _ => Deed::Insert(random.below(20) as u32, random.next() as u32),
     };

@@ -3,11 +3,12 @@ use super::grow::pick;
 use crate::model::tree::{Node, Tree, FULL};
 use crate::random::Random;
 
-/// A tree under way, with the numbers left for its nodes.
+/// A tree under way, with the numbers left for its nodes, and how many leaves it may have besides those it needs.
 struct Steep<'a> {
     random: &'a mut Random,
     tree: Tree,
     numbers: Vec<u32>,
+    more: usize,
     key: u32,
 }
 
@@ -22,11 +23,9 @@ pub fn tree(random: &mut Random, blocks: usize) -> (Tree, u32) {
     let highest = (0..4).rev().find(|level| size(*level) <= limit).unwrap_or(0);
     let level = if random.once_in(3) { random.below(highest as u64 + 1) as u32 } else { highest };
     let spare = random.index(9).min(limit - size(level));
-    let greatest = (limit - spare) as u32 - 1;
-    let mut numbers: Vec<u32> = (1..greatest).collect();
+    let mut numbers: Vec<u32> = (1..limit as u32).collect();
     random.shuffle(&mut numbers);
-    numbers.push(greatest);
-    let mut steep = Steep { random, tree: Tree { nodes: vec![None; limit] }, numbers, key: 0 };
+    let mut steep = Steep { random, tree: Tree { nodes: vec![None; limit] }, numbers, more: limit - size(level) - spare, key: 0 };
     steep.full(0, level, (0, 1 << 32));
     (steep.tree, steep.key)
 }
@@ -69,18 +68,29 @@ impl Steep<'_> {
             if at == widest {
                 self.full(child, level - 1, (*key as u64, end(at)));
             } else {
-                self.thin(child, level - 1, *key);
+                self.thin(child, level - 1, (*key as u64, end(at)));
             }
         }
         self.tree.nodes[number as usize] = Some(Node { level, entries });
     }
 
-    /// A node with one entry, down to a leaf.
-    fn thin(&mut self, number: u32, level: u32, low: u32) {
-        let value = if level == 0 { self.random.next() as u32 } else { self.number() };
-        self.tree.nodes[number as usize] = Some(Node { level, entries: vec![(low, value)] });
-        if level > 0 {
-            self.thin(value, level - 1, low);
+    /// A node with one entry, down to a leaf; above a leaf it takes some of the further leaves.
+    fn thin(&mut self, number: u32, level: u32, range: (u64, u64)) {
+        let low = range.0 as u32;
+        if level == 0 {
+            let value = self.random.next() as u32;
+            self.tree.nodes[number as usize] = Some(Node { level, entries: vec![(low, value)] });
+            return;
+        }
+        let more = if level == 1 { self.more.min(FULL - 1) } else { 0 };
+        let mut keys = pick(self.random, (range.0 + 1, range.1), more);
+        self.more -= keys.len();
+        keys.insert(low);
+        let entries: Vec<(u32, u32)> = keys.into_iter().map(|key| (key, self.number())).collect();
+        self.tree.nodes[number as usize] = Some(Node { level, entries: entries.clone() });
+        for (at, (key, child)) in entries.iter().enumerate() {
+            let end = entries.get(at + 1).map_or(range.1, |next| next.0 as u64);
+            self.thin(*child, level - 1, (*key as u64, end));
         }
     }
 }

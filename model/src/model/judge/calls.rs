@@ -54,10 +54,10 @@ impl Judge {
         }
     }
 
-    /// The sum of the list lengths on a key's path; a node of P not on flash has length 0.
+    /// The sum of the list lengths on a key's path in P, each by the node's number on flash; unused or freed there it is 0.
     fn pages_read(&self, key: u32) -> usize {
         let Ok(meaning) = &*self.ground else { return 0 };
-        self.plain.present.path(key).iter().map(|number| meaning.lists[*number as usize].len()).sum()
+        self.plain.present.path(key).iter().map(|number| meaning.length(*number as usize)).sum()
     }
 
     /// Block report: free pages, the first free one and the erases; a refusal stands alone.

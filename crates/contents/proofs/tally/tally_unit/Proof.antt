@@ -1,7 +1,7 @@
 use mathlib.Core.Path.{sym, _∙_}
 use native.Mathlib.Omega.{arith}
 use Rattle.pages.specs.Units.{decode}
-use Rattle.contents.proofs.OwnLaws.{node-below}
+use Rattle.pages.proofs.UnitLaws.{told}
 use Rattle.contents.proofs.TallyLaws.{tally-none, tally-other, tally-reset}
 use borrow.Author.Needs.{needs}
 use Rattle.contents.proofs.tally.tally_unit.Statement.{statement}
@@ -44,7 +44,7 @@ slice-read-parts c =
     let d = c .before .before .before in
     let o = d .before .before in
     let a = o .before .before .before .before .args in
-    omega (arith, node-below (a .limit) (a .bytes .now) _ (sym (o .decode-unit .ensures) ∙ d .d .given .1))
+    omega (arith, told (a .limit) (a .bytes .now) _ (sym (o .decode-unit .ensures) ∙ d .d .given .1) .below)
 
 -- src/tally.rt:36:5
 add-parts : tie.Need-add-parts
@@ -58,7 +58,7 @@ slice-write-parts c =
     let d = c .before .before .before in
     let o = d .before .before in
     let a = o .before .before .before .before .args in
-    omega (arith, node-below (a .limit) (a .bytes .now) _ (sym (o .decode-unit .ensures) ∙ d .d .given .1))
+    omega (arith, told (a .limit) (a .bytes .now) _ (sym (o .decode-unit .ensures) ∙ d .d .given .1) .below)
 
 -- src/tally.rt:37:8
 is-reset-requires : tie.Need-is-reset-requires
@@ -74,7 +74,7 @@ slice-write-resets c =
     let d = c .before .before .before .before .before in
     let o = d .before .before in
     let a = o .before .before .before .before .args in
-    omega (arith, node-below (a .limit) (a .bytes .now) _ (sym (o .decode-unit .ensures) ∙ d .d .given .1))
+    omega (arith, told (a .limit) (a .bytes .now) _ (sym (o .decode-unit .ensures) ∙ d .d .given .1) .below)
 
 -- src/tally.rt:24:1
 same-length : tie.Need-same-length

@@ -23,7 +23,7 @@ returns c =
     let f = t .before in
     let l = f .before in
     let a = l .before .before .args in
-    reported (a .numbers .now) (l .load .result) (l .load .ensures) (a .block) (a .erases .now) (a .image .now)
+    reported (a .numbers .now) _ (l .load .result) (l .load .ensures) (a .block) (a .erases .now) (a .image .now)
     (f .block-report-lent .result) (t .report-told .result) (t .report-told .ensures) (f .block-report-lent .ensures)
 
 pub vehinoke-block-report-spec : {M : Type 1} → statement M

@@ -23,7 +23,7 @@ returns c =
     let f = t .before in
     let l = f .before in
     let a = l .before .before .args in
-    looked (a .numbers .now) (l .load .result) (l .load .ensures) (a .key) (a .buffer .now) (a .lens .now) (a .slots .now) (a .image .now)
+    looked (a .numbers .now) _ (l .load .result) (l .load .ensures) (a .key) (a .buffer .now) (a .lens .now) (a .slots .now) (a .image .now)
     (f .look-up-lent .result) (t .look-told .result) (t .look-told .ensures) (f .look-up-lent .ensures)
 
 pub vehinoke-look-up-spec : {M : Type 1} → statement M

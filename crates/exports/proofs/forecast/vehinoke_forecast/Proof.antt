@@ -22,7 +22,7 @@ returns c =
     let w = c .before .before .before in
     let l = w .before in
     let a = l .before .before .args in
-    foreseen (a .numbers .now) (l .load .result) (l .load .ensures) (a .buffer .now) (a .lens .now) (a .slots .now) (a .image .now)
+    foreseen (a .numbers .now) _ (l .load .result) (l .load .ensures) (a .buffer .now) (a .lens .now) (a .slots .now) (a .image .now)
     (w .forecast-lent .result) _ (c .number .ensures) (w .forecast-lent .ensures)
 
 pub vehinoke-forecast-spec : {M : Type 1} → statement M

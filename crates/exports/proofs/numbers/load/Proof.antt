@@ -28,9 +28,6 @@ element-copy-out-t15 c = search needs
 element-copy-out-t18 : tie.Need-element-copy-out-t18
 element-copy-out-t18 c = search needs
 
-element-copy-out-t21 : tie.Need-element-copy-out-t21
-element-copy-out-t21 c = search needs
-
 element-copy-out-wide-2 : tie.Need-element-copy-out-wide-2
 element-copy-out-wide-2 c = search needs
 
@@ -39,9 +36,9 @@ wide-requires-2 c κs = search needs
 
 returns : tie.Need-returns
 returns c =
-    let w = c .before .before .before .before .before in
+    let w = c .before .before .before .before in
     let p = w .before .before .before in
-    loaded (p .before .before .args .words .now) _ _ _ (p .part-in .ensures) (w .wide .ensures) (c .wide2 .ensures)
+    loaded (p .before .before .args .words .now) _ _ _ _ (p .part-in .ensures) (w .wide .ensures) (c .wide2 .ensures)
 
 pub load-spec : {M : Type 1} → statement M
 load-spec =
@@ -54,7 +51,6 @@ load-spec =
     wide-requires
     element-copy-out-t15
     element-copy-out-t18
-    element-copy-out-t21
     element-copy-out-wide-2
     wide-requires-2
     returns)

@@ -25,7 +25,7 @@ returns c =
     let w = c .before .before .before .before .before in
     let l = w .before .before .before .before .before in
     let a = l .before .before .before .before .args in
-    committed (a .numbers .now) (l .load .result) (l .load .ensures) (a .allowance) (a .torn .now) (a .buffer .now) (a .lens .now) (a .slots .now) (a .erases .now) (a .image .now)
+    committed (a .numbers .now) _ (l .load .result) (l .load .ensures) (a .allowance) (a .torn .now) (a .buffer .now) (a .lens .now) (a .slots .now) (a .erases .now) (a .image .now)
     (w .commit-lent .result) _ _ _ _ _ _ _ (c .give .ensures) (w .commit-lent .ensures)
 
 pub vehinoke-commit-spec : {M : Type 1} → statement M

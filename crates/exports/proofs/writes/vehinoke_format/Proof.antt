@@ -1,10 +1,11 @@
+use mathlib.Core.Path.{refl}
 use borrow.Author.Needs.{needs}
 use Rattle.exports.proofs.CallLaws.{formatted, format-unnamed}
 use Rattle.exports.proofs.writes.vehinoke_format.Statement.{statement}
 use Rattle.exports.proofs.writes.vehinoke_format.Tie as tie
 use Rattle.exports.proofs.writes.vehinoke_format.Reads as reads
 use Rattle.exports.proofs.writes.vehinoke_format.Lts as lts
-use Rattle.exports.proofs.numbers.load.Reads as load-reads
+use Rattle.exports.proofs.numbers.load_free.Reads as load-free-reads
 use Rattle.exports.proofs.numbers.part_in.Reads as part-in-reads
 use Rattle.exports.proofs.writes.give.Reads as give-reads
 use Rattle.exports.proofs.writes.no_part.Reads as no-part-reads
@@ -16,8 +17,8 @@ no-part-requires c κs = search needs
 part-in-requires : tie.Need-part-in-requires
 part-in-requires c κs = search needs
 
-load-requires : tie.Need-load-requires
-load-requires c κs = search needs
+load-free-requires : tie.Need-load-free-requires
+load-free-requires c κs = search needs
 
 format-lent-requires : tie.Need-format-lent-requires
 format-lent-requires c κs = search needs
@@ -32,17 +33,17 @@ returns : tie.Need-returns
 returns c =
     let t = c .before .before in
     let a = t .before .before .before .args in
-    format-unnamed (a .part) (t .if1 .taken) (a .allowance) (a .torn .now) (a .numbers .now) (a .lens .now) (a .slots .now) (a .erases .now) (a .image .now) _ _ (c .no-part .ensures)
+    format-unnamed (a .part) (t .if1 .taken) (a .allowance) (a .torn .now) (a .numbers .now) (a .free .now) (a .lens .now) (a .slots .now) (a .erases .now) (a .image .now) _ _ (c .no-part .ensures)
 
 returns-2 : tie.Need-returns-2
 returns-2 c =
-    let w = c .before .before .before .before .before in
+    let w = c .before .before .before .before .before .before .before in
     let l = w .before .before .before .before .before in
-    let p = l .before .before in
+    let p = l .before .before .before in
     let e = p .before in
     let a = e .before .before .before .args in
-    formatted (a .numbers .now) (l .load .result) (l .load .ensures) (a .part) (p .part-in .result) (p .part-in .ensures) (e .if1 .left) (a .allowance) (a .torn .now) (a .lens .now)
-    (a .slots .now) (a .erases .now) (a .image .now) (w .format-lent .result) _ _ _ _ _ _ _ (c .give .ensures) (w .format-lent .ensures)
+    formatted (a .numbers .now) (a .free .now) (l .load-free .result) (l .load-free .ensures) (a .part) (p .part-in .result) (p .part-in .ensures) (e .if1 .left) (a .allowance) (a .torn .now) (a .lens .now)
+    (a .slots .now) (a .erases .now) (a .image .now) (w .format-lent .result) _ _ _ _ _ _ _ _ (c .give .ensures) refl (w .format-lent .ensures)
 
 pub vehinoke-format-spec : {M : Type 1} → statement M
 vehinoke-format-spec =
@@ -51,7 +52,7 @@ vehinoke-format-spec =
     no-part-requires
     returns
     part-in-requires
-    load-requires
+    load-free-requires
     format-lent-requires
     give-requires
     same-length

@@ -1,37 +1,36 @@
-use borrow.Author.Tests.{eq-eqb, ne-eqb, le-leb, lt-leb}
+use mathlib.Core.Path.{sym, _∙_}
+use borrow.Author.Tests.{eq-eqb, ne-eqb}
+use borrow.Author.Needs.{needs}
 use Rattle.pages.proofs.unit.decode_kind.Statement.{statement}
 use Rattle.pages.proofs.unit.decode_kind.Tie as tie
 use Rattle.pages.proofs.unit.decode_kind.Reads as reads
 use Rattle.pages.proofs.unit.decode_kind.Lts as lts
+use Rattle.pages.proofs.unit.is_reset_value.Reads as is-reset-value-reads
 
--- src/unit.rt:61:9
 returns : tie.Need-returns
-returns c = search (eq-eqb, ne-eqb, le-leb, lt-leb)
+returns c = search (eq-eqb, ne-eqb)
 
--- src/unit.rt:68:13
 returns-2 : tie.Need-returns-2
-returns-2 c = search (eq-eqb, ne-eqb, le-leb, lt-leb)
+returns-2 c = search (eq-eqb, ne-eqb)
 
--- src/unit.rt:73:9
 returns-3 : tie.Need-returns-3
-returns-3 c = search (eq-eqb, ne-eqb, le-leb, lt-leb)
+returns-3 c = search (eq-eqb, ne-eqb)
 
--- src/unit.rt:78:17
+is-reset-value-requires : tie.Need-is-reset-value-requires
+is-reset-value-requires c κs = search needs
+
 returns-4 : tie.Need-returns-4
-returns-4 c = search (eq-eqb, ne-eqb, le-leb, lt-leb)
+returns-4 c = search (eq-eqb, ne-eqb, sym (c .before .is-reset-value .ensures) ∙ c .if6 .taken)
 
--- src/unit.rt:57:1
 returns-5 : tie.Need-returns-5
-returns-5 c = search (eq-eqb, ne-eqb, le-leb, lt-leb)
+returns-5 c = search (eq-eqb, ne-eqb, sym (c .before .is-reset-value .ensures) ∙ c .if6 .left)
 
--- src/unit.rt:57:1
 returns-6 : tie.Need-returns-6
-returns-6 c = search (eq-eqb, ne-eqb, le-leb, lt-leb)
+returns-6 c = search (eq-eqb, ne-eqb)
 
--- src/unit.rt:57:1
 returns-7 : tie.Need-returns-7
-returns-7 c = search (eq-eqb, ne-eqb, le-leb, lt-leb)
+returns-7 c = search (eq-eqb, ne-eqb)
 
 pub decode-kind-spec : {M : Type 1} → statement M
 decode-kind-spec =
-    tie.close (tie.spec returns returns-2 returns-3 returns-4 returns-5 returns-6 returns-7)
+    tie.close (tie.spec returns returns-2 returns-3 is-reset-value-requires returns-4 returns-5 returns-6 returns-7)

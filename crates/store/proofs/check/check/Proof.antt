@@ -55,7 +55,7 @@ sub-to c = omega (arith, room (c .before))
 
 judge-requires : tie.Need-judge-requires
 judge-requires c κs =
-    let w = c .before .before .before .before in
+    let w = c .before .before .before .before .before in
     let s = w .before .before .before .before .before in
     let o = on-chip (s .args .geometry) (s .pre .1) (s .args .blocks) (length (s .args .image .now)) (s .pre .0) in
     (o .0, o .1, room w .1, omega arith, omega (arith, s .pre .0 .most), s .pre .1)
@@ -71,7 +71,7 @@ enum-told-3 c = search needs
 
 passed-requires : tie.Need-passed-requires
 passed-requires c κs =
-    let w = c .before .before .before .before .before .before .before .before in
+    let w = c .before .before .before .before .before .before .before .before .before in
     let b = w .before .before .before .before in
     let a = b .before in
     stands-numbered (a .args .geometry) (a .pre .1) (a .args .image .now) _ _ _ (a .args .blocks) (a .pre .0) (λ i. omega (arith, b .shared-slice-known .given i)) (stood w)
@@ -83,39 +83,39 @@ returns c =
     let a = s .before .before .before in
     let k = s .settle .ensures in
     rw (c .refused .ensures)
-    (refused-checks (a .args .geometry) (a .args .image .now) _ _ (n .n .given .0 .0)
+    (refused-checks (a .args .geometry) (a .args .image .now) _ _ _ (n .n .given .0 .0)
     (says-refused (steps (a .args .geometry) (pagesOf (a .args .geometry) (a .args .image .now))) (s .settle .last .1 .1 .0) (n .n .given .0 .0) (rw (n .n .given .1) at k)))
 
 returns-2 : tie.Need-returns-2
 returns-2 c =
     let j = c .before .before in
-    let w = j .before .before .before .before .before in
+    let w = j .before .before .before .before .before .before in
     let b = w .before .before .before .before in
     let a = b .before in
     let k = j .judge .ensures in
     stands-layout (a .args .geometry) (a .pre .1) (a .args .image .now) _ _ _ (a .args .blocks) (a .pre .0) (λ i. omega (arith, b .shared-slice-known .given i)) (stood w)
-    (j .judge .last .1 .1 .1 .1 .1 .1 .0) (j .judge .last .1 .1 .1 .1 .1 .1 .1 .0) (rw (c .enum-told .given .1) at k)
+    (j .judge .last .1 .1 .1 .1 .1 .1 .0) (j .judge .last .1 .1 .1 .1 .1 .1 .1 .0) (j .judge .last .1 .1 .1 .1 .1 .1 .1 .1 .0) (rw (c .enum-told .given .1) at k)
 
 returns-3 : tie.Need-returns-3
 returns-3 c =
     let j = c .before .before in
-    let w = j .before .before .before .before .before in
+    let w = j .before .before .before .before .before .before in
     let b = w .before .before .before .before in
     let a = b .before in
     let k = j .judge .ensures in
     stands-shape (a .args .geometry) (a .pre .1) (a .args .image .now) _ _ _ (a .args .blocks) (a .pre .0) (λ i. omega (arith, b .shared-slice-known .given i)) (stood w)
-    (j .judge .last .1 .1 .1 .1 .1 .1 .0) (j .judge .last .1 .1 .1 .1 .1 .1 .1 .0) (rw (c .enum-told2 .given .1) at k)
+    (j .judge .last .1 .1 .1 .1 .1 .1 .0) (j .judge .last .1 .1 .1 .1 .1 .1 .1 .0) (j .judge .last .1 .1 .1 .1 .1 .1 .1 .1 .0) (rw (c .enum-told2 .given .1) at k)
 
 returns-4 : tie.Need-returns-4
 returns-4 c =
     let e = c .before .before in
     let j = e .before .before in
-    let w = j .before .before .before .before .before in
+    let w = j .before .before .before .before .before .before in
     let b = w .before .before .before .before in
     let a = b .before in
     let k = j .judge .ensures in
     rw (c .passed .ensures)
-    (stands-tree (a .args .geometry) (a .pre .1) (a .args .image .now) _ _ _ (a .args .blocks) (a .pre .0) (λ i. omega (arith, b .shared-slice-known .given i)) (stood w) _ _ (rw (e .enum-told3 .given .1) at k))
+    (stands-tree (a .args .geometry) (a .pre .1) (a .args .image .now) _ _ _ (a .args .blocks) (a .pre .0) (λ i. omega (arith, b .shared-slice-known .given i)) (stood w) _ _ _ (rw (e .enum-told3 .given .1) at k))
 
 pub check-spec : {M : Type 1} → statement M
 check-spec =

@@ -1,6 +1,10 @@
+use mathlib.Core.Path.{ap, _∙_}
+use mathlib.Core.List.{List}
+use Prim.Native.Nat.{ℕ}
 use Rattle.store.specs.declared.state.State.{State}
 use Rattle.store.specs.declared.state.Wrote.{Wrote}
 use Rattle.store.specs.Contracts.{Commits}
+use Rattle.store.specs.Parts.{wroteWith, wroteFree}
 use Rattle.store.proofs.PartLaws.{of-parts}
 use borrow.Author.Needs.{needs}
 use Rattle.store.proofs.commit.commit.Statement.{statement}
@@ -29,7 +33,7 @@ returns c =
     let n = l .before .before .before .before .before .before .before .before .before .before in
     let a = n .before .before .before .args in
     of-parts (a .t1) (n .numbers-of .result) (n .numbers-of .ensures) (λ (s : State) (r : Wrote). Commits (a .allowance) (a .torn .now) s (a .image .now) r (l .commit-lent .last .1 .1 .1 .1 .1 .0)) _ _
-    (c .with-table .ensures) (l .commit-lent .ensures)
+    (c .with-table .ensures ∙ ap (λ (f : List ℕ). wroteWith (wroteFree (l .commit-lent .result) f) (a .t1 .buffer) (l .commit-lent .last .1 .0) (l .commit-lent .last .1 .1 .0) (l .commit-lent .last .1 .1 .1 .0)) (l .commit-lent .ensures .kept)) (l .commit-lent .ensures .says (n .numbers-of .result .free))
 
 pub commit-spec : {M : Type 1} → statement M
 commit-spec =

@@ -1,8 +1,10 @@
-use mathlib.Core.Path.{subst}
+use mathlib.Core.Path.{refl, subst}
 use Prim.Native.Nat.{_<_}
 use lib.ListN.{length}
 use Rattle.store.specs.declared.admit.Beginning.{Beginning}
 use Rattle.store.specs.AdmitCode.{CommitBegins}
+use Rattle.store.specs.Parts.{withFree}
+use Rattle.store.proofs.CommitTests.{begins-free}
 use Rattle.store.proofs.CommitState.{commit-ends}
 use borrow.Author.Needs.{needs}
 use Rattle.store.proofs.commit.commit_lent.Statement.{statement}
@@ -42,8 +44,11 @@ returns c =
     let b = k .before .before in
     let a = b .before .before .before .args in
     rw (c .quiet .ensures)
-    (commit-ends (a .numbers) (a .buffer .now) (a .lens .now) (a .slots .now) (a .erases .now) (a .allowance) (a .torn .now) (a .image .now) _ (low (b .before .before .before))
-    (subst (λ (r : Beginning). CommitBegins (a .numbers) (length (a .image .now)) (length (a .torn .now)) r) (k .answer .given .1) (b .commit-begins .ensures)))
+    (record {
+      kept = refl;
+      says = λ free. commit-ends (withFree (a .numbers) free) (a .buffer .now) (a .lens .now) (a .slots .now) (a .erases .now) (a .allowance) (a .torn .now) (a .image .now) _ (low (b .before .before .before))
+          (begins-free (a .numbers) free _ _ _ (subst (λ (r : Beginning). CommitBegins (a .numbers) (length (a .image .now)) (length (a .torn .now)) r) (k .answer .given .1) (b .commit-begins .ensures)));
+    })
 
 same-length : tie.Need-same-length
 same-length c = search needs

@@ -1,11 +1,12 @@
-use mathlib.Core.Path.{_≡_}
+use mathlib.Core.Path.{_≡_, refl}
 use Prim.Native.Nat.{ℕ, _<_}
 use native.Mathlib.Omega.{arith}
 use lib.ListN.{length, getD}
 use Rattle.chip.specs.Geometry.{geometryOf}
 use Rattle.chip.proofs.Sizes.{nand-fits}
-use Rattle.store.specs.Parts.{joined}
+use Rattle.store.specs.Parts.{joined, withFree}
 use Rattle.store.proofs.CommitTests.{Planning, planning}
+use Rattle.store.proofs.EndingLaws.{ended-kept, ended-free}
 use Rattle.store.proofs.CommitState.{commit-stuck, commit-ended}
 use borrow.Author.Needs.{needs}
 use Rattle.store.proofs.commit.commit_pending.Statement.{statement}
@@ -71,10 +72,12 @@ returns c =
     let y = x .execute .ensures in
     let g = past w in
     let a = w .before .args in
-    let s = joined (a .numbers) (a .buffer .now) (a .lens .now) (a .slots .now) (a .erases .now) in
     rw (c .quiet .ensures)
-    (commit-stuck (a .allowance) (a .torn .now) s (a .image .now) (g .first) (g .pending) (g .number) (g .slice) (g .fits) (slots q) (figured f) (bytes w) _ _ _ _
-    (x .execute .result) (low w) (b .begin .result) (b .begin .ensures) (rw (o .basis-of .ensures) at y) (c .before .if1 .taken))
+    (record {
+      kept = refl;
+      says = λ free. commit-stuck (a .allowance) (a .torn .now) (joined (withFree (a .numbers) free) (a .buffer .now) (a .lens .now) (a .slots .now) (a .erases .now)) (a .image .now) (g .first) (g .pending) (g .number) (g .slice) (g .fits) (slots q) (figured f) (bytes w) _ _ _ _
+          (x .execute .result) (low w) (b .begin .result) (b .begin .ensures) (rw (o .basis-of .ensures) at y) (c .before .if1 .taken);
+    })
 
 add-n : tie.Need-add-n
 add-n c =
@@ -102,9 +105,13 @@ returns-2 c =
     let y = x .execute .ensures in
     let g = past w in
     let a = w .before .args in
+    let d = c .ended .ensures (a .buffer .now) in
     let s = joined (a .numbers) (a .buffer .now) (a .lens .now) (a .slots .now) (a .erases .now) in
-    commit-ended (a .allowance) (a .torn .now) s (a .image .now) (g .first) (g .pending) (g .number) (g .slice) (g .fits) (slots q) (figured f) (bytes w) _ _ _ _
-    (x .execute .result) (low w) (b .begin .result) (b .begin .ensures) (rw (o .basis-of .ensures) at y) (l .if1 .left) (λ j. omega (arith, k .slice-known2 .given j)) _ (c .ended .ensures (a .buffer .now))
+    record {
+      kept = ended-kept (x .execute .result .reached) s _ _ d (a .numbers .free) refl refl;
+      says = λ free. commit-ended (a .allowance) (a .torn .now) (joined (withFree (a .numbers) free) (a .buffer .now) (a .lens .now) (a .slots .now) (a .erases .now)) (a .image .now) (g .first) (g .pending) (g .number) (g .slice) (g .fits) (slots q) (figured f) (bytes w) _ _ _ _
+          (x .execute .result) (low w) (b .begin .result) (b .begin .ensures) (rw (o .basis-of .ensures) at y) (l .if1 .left) (λ j. omega (arith, k .slice-known2 .given j)) _ (ended-free (x .execute .result .reached) s _ _ d free);
+    }
 
 pub commit-pending-spec : {M : Type 1} → statement M
 commit-pending-spec =

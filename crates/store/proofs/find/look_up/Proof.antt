@@ -21,7 +21,7 @@ returns : tie.Need-returns
 returns c =
     let n = c .before .before .before .before .before in
     let a = n .before .before .args in
-    of-parts (a .t1) (n .numbers-of .result) (n .numbers-of .ensures) (λ (s : State) (r : Look). Looks (a .key) s (a .image .now) r) _ _ refl (c .look-up-lent .ensures (a .t1 .erases))
+    of-parts (a .t1) (n .numbers-of .result) (n .numbers-of .ensures) (λ (s : State) (r : Look). Looks (a .key) s (a .image .now) r) _ _ refl (c .look-up-lent .ensures (n .numbers-of .result .free) (a .t1 .erases))
 
 pub look-up-spec : {M : Type 1} → statement M
 look-up-spec = tie.close (tie.spec numbers-of-requires look-up-lent-requires returns)

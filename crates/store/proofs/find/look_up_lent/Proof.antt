@@ -7,7 +7,7 @@ use Rattle.tree.specs.Tree.{absent, found}
 use Rattle.tree.specs.Step6.{top}
 use Rattle.tree.specs.FindCode.{hitOf}
 use Rattle.store.specs.AdmitCode.{admitNumber}
-use Rattle.store.specs.Parts.{joined}
+use Rattle.store.specs.Parts.{joined, withFree}
 use Rattle.store.specs.declared.answer.Look.the-variants as L
 use Rattle.store.proofs.LookLaws.{look-refused, looked}
 use borrow.Author.Needs.{needs}
@@ -48,39 +48,39 @@ enum-told-4 : tie.Need-enum-told-4
 enum-told-4 c = search needs
 
 returns : tie.Need-returns
-returns c erases =
+returns c free erases =
     let m = c .before .before in
     let a = m .before .before .args in
-    let s = joined (a .numbers) (a .buffer .now) (a .lens .now) (a .slots .now) erases in
+    let s = joined (withFree (a .numbers) free) (a .buffer .now) (a .lens .now) (a .slots .now) erases in
     look-refused (a .key) s (a .image .now) L.Off 1 refl refl refl (sym (ap admitNumber (c .enum-told .given .1)) ∙ m .admit .ensures .number)
 
 returns-2 : tie.Need-returns-2
-returns-2 c erases =
+returns-2 c free erases =
     let m = c .before .before in
     let a = m .before .before .args in
-    let s = joined (a .numbers) (a .buffer .now) (a .lens .now) (a .slots .now) erases in
+    let s = joined (withFree (a .numbers) free) (a .buffer .now) (a .lens .now) (a .slots .now) erases in
     look-refused (a .key) s (a .image .now) L.Size 0 refl refl refl (sym (ap admitNumber (c .enum-told2 .given .1)) ∙ m .admit .ensures .number)
 
 returns-3 : tie.Need-returns-3
-returns-3 c erases =
+returns-3 c free erases =
     let f = c .before .before .before in
     let z = f .before in
     let k = z .before in
     let m = k .before .before in
     let a = m .before .before .args in
-    let s = joined (a .numbers) (a .buffer .now) (a .lens .now) (a .slots .now) erases in
+    let s = joined (withFree (a .numbers) free) (a .buffer .now) (a .lens .now) (a .slots .now) erases in
     let h = low (m .before .before) in
     let e = f .find .ensures in
     looked (a .key) s (a .image .now) (sym (ap admitNumber (k .enum-told3 .given .1)) ∙ m .admit .ensures .number) (f .find .result) (rw (z .scope-of .ensures) at e) h (found _) (ap hitOf (c .before .hit .given .1))
 
 returns-4 : tie.Need-returns-4
-returns-4 c erases =
+returns-4 c free erases =
     let f = c .before .before in
     let z = f .before in
     let k = z .before in
     let m = k .before .before in
     let a = m .before .before .args in
-    let s = joined (a .numbers) (a .buffer .now) (a .lens .now) (a .slots .now) erases in
+    let s = joined (withFree (a .numbers) free) (a .buffer .now) (a .lens .now) (a .slots .now) erases in
     let h = low (m .before .before) in
     let e = f .find .ensures in
     looked (a .key) s (a .image .now) (sym (ap admitNumber (k .enum-told3 .given .1)) ∙ m .admit .ensures .number) (f .find .result) (rw (z .scope-of .ensures) at e) h absent (ap hitOf (c .enum-told4 .given .1))

@@ -22,7 +22,7 @@ returns c =
     let n = c .before .before .before .before .before in
     let a = n .before .before .args in
     of-parts (a .t1) (n .numbers-of .result) (n .numbers-of .ensures) (λ (s : State) (r : Forecast). Forecasts s (a .image .now) r) _ _ refl
-    (c .forecast-lent .ensures (a .t1 .erases))
+    (c .forecast-lent .ensures (n .numbers-of .result .free) (a .t1 .erases))
 
 pub forecast-spec : {M : Type 1} → statement M
 forecast-spec = tie.close (tie.spec numbers-of-requires forecast-lent-requires returns)

@@ -4,6 +4,8 @@ use lib.ListN.{length}
 use Rattle.chip.specs.Geometry.{geometryOf, pageSize}
 use Rattle.store.specs.declared.admit.Beginning.{Beginning}
 use Rattle.store.specs.AdmitCode.{CommitBegins}
+use Rattle.store.specs.Parts.{withFree}
+use Rattle.store.proofs.CommitTests.{begins-free}
 use Rattle.store.proofs.ForecastState.{forecast-ends}
 use borrow.Author.Needs.{needs}
 use Rattle.store.proofs.forecast.forecast_lent.Statement.{statement}
@@ -45,13 +47,13 @@ forecast-pending-requires c κs =
     subst (λ (r : Beginning). CommitBegins (a .numbers) (length (a .image .now)) (pageSize (geometryOf (a .numbers .nand))) r) (c .enum-told .given .1) (begins b)
 
 returns : tie.Need-returns
-returns c erases =
+returns c free erases =
     let k = c .before .before in
     let b = k .before .before in
     let a = b .before .before .before .args in
     rw (c .quiet .ensures)
-    (forecast-ends (a .numbers) (a .buffer .now) (a .lens .now) (a .slots .now) erases (a .image .now) _ (low (b .before .before .before))
-    (subst (λ (r : Beginning). CommitBegins (a .numbers) (length (a .image .now)) (pageSize (geometryOf (a .numbers .nand))) r) (k .answer .given .1) (begins b)))
+    (forecast-ends (withFree (a .numbers) free) (a .buffer .now) (a .lens .now) (a .slots .now) erases (a .image .now) _ (low (b .before .before .before))
+    (begins-free (a .numbers) free _ _ _ (subst (λ (r : Beginning). CommitBegins (a .numbers) (length (a .image .now)) (pageSize (geometryOf (a .numbers .nand))) r) (k .answer .given .1) (begins b))))
 
 returns-2 : tie.Need-returns-2
 returns-2 c = search needs

@@ -4,7 +4,7 @@ use native.Mathlib.Omega.{arith}
 use lib.ListN.{length, getD}
 use Rattle.chip.specs.Geometry.{geometryOf, pageSize}
 use Rattle.chip.proofs.Sizes.{nand-fits}
-use Rattle.store.specs.Parts.{joined}
+use Rattle.store.specs.Parts.{joined, withFree}
 use Rattle.store.proofs.CommitTests.{Planning, planning}
 use Rattle.store.proofs.ForecastState.{forecast-stuck, forecast-done}
 use borrow.Author.Needs.{needs}
@@ -37,19 +37,19 @@ quiet-requires : tie.Need-quiet-requires
 quiet-requires c κs = search needs
 
 returns : tie.Need-returns
-returns c erases =
+returns c free erases =
     let f = c .before .before in
     let o = f .before in
     let w = o .before in
     let x = f .forecast .ensures in
     let g = past (w .before) in
     let a = w .before .args in
-    let s = joined (a .numbers) (a .buffer .now) (a .lens .now) (a .slots .now) erases in
+    let s = joined (withFree (a .numbers) free) (a .buffer .now) (a .lens .now) (a .slots .now) erases in
     rw (c .quiet .ensures)
     (forecast-stuck s (a .image .now) (g .first) (g .pending) (g .number) (g .fits) (bytes w) (f .forecast .result) (rw (o .basis-of .ensures) at x) (c .before .if1 .taken))
 
 returns-2 : tie.Need-returns-2
-returns-2 c erases =
+returns-2 c free erases =
     let l = c .before in
     let f = l .before in
     let o = f .before in
@@ -57,7 +57,7 @@ returns-2 c erases =
     let x = f .forecast .ensures in
     let g = past (w .before) in
     let a = w .before .args in
-    let s = joined (a .numbers) (a .buffer .now) (a .lens .now) (a .slots .now) erases in
+    let s = joined (withFree (a .numbers) free) (a .buffer .now) (a .lens .now) (a .slots .now) erases in
     forecast-done s (a .image .now) (g .first) (g .pending) (g .number) (g .fits) (bytes w) (f .forecast .result) (rw (o .basis-of .ensures) at x) (l .if1 .left) _ refl
 
 pub forecast-pending-spec : {M : Type 1} → statement M

@@ -1,4 +1,4 @@
-use Prim.Native.Nat.{_<_}
+use Prim.Native.Nat.{_<_, _≤_}
 use native.Mathlib.Omega.{arith}
 use lib.ListN.{length}
 use Rattle.chip.specs.Geometry.{geometryOf}
@@ -15,6 +15,7 @@ use Rattle.log.proofs.format.format.Reads as format-reads
 use Rattle.store.proofs.admit.sized.Reads as sized-reads
 use Rattle.store.proofs.ending.ended.Reads as ended-reads
 use Rattle.store.proofs.ending.quiet.Reads as quiet-reads
+use Rattle.numbers.proofs.set.gather.Reads as gather-reads
 
 -- the allowance has 32 bits
 low : (w : tie.After-shared-slice-known) → w .before .before .args .allowance < 4294967296
@@ -23,6 +24,10 @@ low w = search needs
 -- the sizes, as the part named has them
 sizes : (z : tie.After-sized) → (let a = z .before .before .before .before .args in Sized (geometryOf (a .nand)) (length (a .image .now)) (length (a .torn .now)) (z .sized .result))
 sizes z = let h = z .sized .ensures in (rw (z .before .geometry-of .ensures .0) at h)
+
+-- there are at most 32 blocks
+blocks-most : (e : tie.Else1) → e .before .sized .result ≤ 32
+blocks-most e = e .before .sized .ensures .chip (omega (arith, e .if1 .left)) .most
 
 geometry-of-requires : tie.Need-geometry-of-requires
 geometry-of-requires c κs = search needs
@@ -57,12 +62,22 @@ same-length c = search needs
 array-write-l : tie.Need-array-write-l
 array-write-l c = search needs
 
+mul-gather : tie.Need-mul-gather
+mul-gather c = omega (arith, blocks-most (c .before .before .before .before .before .before))
+
+cast-gather : tie.Need-cast-gather
+cast-gather c = omega (arith, blocks-most (c .before .before .before .before .before .before))
+
+gather-requires : tie.Need-gather-requires
+gather-requires c κs = search needs
+
 ended-requires : tie.Need-ended-requires
 ended-requires c κs = search needs
 
 returns-2 : tie.Need-returns-2
 returns-2 c buffer =
-    let k = c .before .before .before .before .before .before .before in
+    let n = c .before .before .before .before .before .before .before in
+    let k = n .before .before .before in
     let f = k .before .before in
     let g = f .before .before in
     let l = g .before in
@@ -72,9 +87,9 @@ returns-2 c buffer =
     let s = joined (a .numbers) buffer (a .lens .now) (a .slots .now) (a .erases .now) in
     format-ended (a .nand) (a .allowance) (a .torn .now) s (a .image .now) _ (z .sized .result) (sizes z) (omega (arith, l .if1 .left)) (low (z .before .before)) (g .begin .result) (f .format .result)
     (g .begin .ensures) (rw (z .before .geometry-of .ensures .0) at y)
-    (λ j. omega (arith, k .slice-known2 .given j)) buffer _ (c .ended .ensures buffer)
+    (λ j. omega (arith, k .slice-known2 .given j)) _ (n .gather .ensures) buffer _ (c .ended .ensures buffer)
 
 pub format-lent-spec : {M : Type 1} → statement M
 format-lent-spec =
     tie.close
-    (tie.spec geometry-of-requires sized-requires quiet-requires returns begin-requires format-requires array-write-l ended-requires same-length returns-2)
+    (tie.spec geometry-of-requires sized-requires quiet-requires returns begin-requires format-requires array-write-l mul-gather cast-gather gather-requires ended-requires same-length returns-2)

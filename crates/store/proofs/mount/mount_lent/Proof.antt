@@ -20,7 +20,6 @@ use Rattle.store.proofs.admit.sized.Reads as sized-reads
 use Rattle.store.proofs.check.check.Reads as check-reads
 use Rattle.store.proofs.ending.ended.Reads as ended-reads
 use Rattle.store.proofs.ending.quiet.Reads as quiet-reads
-use Rattle.store.proofs.mount.next_number.Reads as next-number-reads
 use Rattle.store.proofs.ending.refused.Reads as refused-reads
 use Rattle.store.proofs.mount.retire.Reads as retire-reads
 
@@ -45,12 +44,12 @@ low w = search needs
 
 -- what the image means
 meaning : (w : tie.After-commit)
-    → (let z = w .before .before .before .before .before .before in
+    → (let z = w .before .before .before .before .before .before .before in
     let a = z .before .before .before .before .before .args in
     Read (geometryOf (a .nand)) (a .image .now)
-    (w .before .before .check .last .1 .1 .1 .0) (w .before .before .check .last .1 .1 .1 .1 .0) (w .commit .given .0 .0) (w .commit .given .0 .1 .0))
+    (w .before .before .check .last .1 .1 .1 .0) (w .before .before .check .last .1 .1 .1 .1 .0) (w .before .before .check .last .1 .1 .1 .1 .1 .0) (w .commit .given .0 .0) (w .commit .given .0 .1 .0))
 meaning w =
-    let o = w .before .before .before .before .before .before .before .before in
+    let o = w .before .before .before .before .before .before .before .before .before in
     let k = w .before .before .check .ensures in
     (rw (w .commit .given .1, o .geometry-of .ensures .0) at k)
 
@@ -75,7 +74,7 @@ returns c buffer =
 
 check-requires : tie.Need-check-requires
 check-requires c κs =
-    let e = c .before .before .before in
+    let e = c .before .before .before .before in
     let o = e .before .before in
     rw (o .geometry-of .ensures .0) (sizes e .0, nand-fits (o .before .before .before .args .nand))
 
@@ -100,22 +99,13 @@ refused-requires-3 c κs = search needs
 enum-known-commit : tie.Need-enum-known-commit
 enum-known-commit c = search needs
 
-mul-limit : tie.Need-mul-limit
-mul-limit c = omega (arith, sizes (c .before .before .before .before .before .before .before) .0 .most)
-
-cast-limit : tie.Need-cast-limit
-cast-limit c = omega (arith, sizes (c .before .before .before .before .before .before .before) .0 .most)
-
-next-number-requires : tie.Need-next-number-requires
-next-number-requires c κs = omega (arith, sizes (c .before .before .before .before .before .before .before .before) .0 .most)
-
 begin-requires : tie.Need-begin-requires
 begin-requires c κs = search needs
 
 retire-requires : tie.Need-retire-requires
 retire-requires c κs =
-    let k = c .before .before .before .before .before .before .before in
-    let e = k .before .before .before .before in
+    let k = c .before .before .before .before .before in
+    let e = k .before .before .before .before .before in
     let z = sizes e in
     let o = e .before .before in
     let n = o .before .before .before .args .nand in
@@ -130,7 +120,7 @@ same-length c = search needs
 returns-2 : tie.Need-returns-2
 returns-2 c buffer =
     let k = c .before .before .before in
-    let e = k .before .before .before .before in
+    let e = k .before .before .before .before .before in
     let o = e .before .before in
     let w = o .before .before in
     let a = w .before .args in
@@ -146,7 +136,7 @@ same-length-2 c = search needs
 returns-3 : tie.Need-returns-3
 returns-3 c buffer =
     let k = c .before .before .before in
-    let e = k .before .before .before .before in
+    let e = k .before .before .before .before .before in
     let o = e .before .before in
     let w = o .before .before in
     let a = w .before .args in
@@ -162,7 +152,7 @@ same-length-3 c = search needs
 returns-4 : tie.Need-returns-4
 returns-4 c buffer =
     let k = c .before .before .before in
-    let e = k .before .before .before .before in
+    let e = k .before .before .before .before .before in
     let o = e .before .before in
     let w = o .before .before in
     let a = w .before .args in
@@ -180,20 +170,18 @@ returns-5 c buffer =
     let v = c .before .before .before .before .before .before .before in
     let n = v .before .before in
     let g = n .before .before in
-    let q = g .before in
-    let t = q .before .before .before in
+    let t = g .before .before in
     let k = t .before .before in
-    let e = k .before .before .before .before in
+    let e = k .before .before .before .before .before in
     let o = e .before .before in
     let w = o .before .before in
     let a = w .before .args in
     let s = joined (a .numbers) buffer (a .lens .now) (a .slots .now) (a .erases .now) in
     let y = n .retire .ensures in
     marked-mounts (a .nand) (a .allowance) (a .torn .now) s (a .image .now) (bytes w) (e .before .sized .result) (sizes e .0) (sizes e .1)
-    (k .check .last .1 .1 .1 .0) (k .check .last .1 .1 .1 .1 .0) (t .commit .given .0 .0) (t .commit .given .0 .1 .0) (meaning t)
+    (k .check .last .1 .1 .1 .0) (k .check .last .1 .1 .1 .1 .0) (k .check .last .1 .1 .1 .1 .1 .0) (t .commit .given .0 .0) (t .commit .given .0 .1 .0) (meaning t)
     (n .retire .last .1 .0) (low w) (g .begin .result) (n .retire .result)
-    (g .begin .ensures) (rw (o .geometry-of .ensures .0) at y) (λ j. omega (arith, v .slice-known2 .given j)) (q .next-number .result) (q .next-number .ensures)
-    buffer _ (c .ended .ensures buffer)
+    (g .begin .ensures) (rw (o .geometry-of .ensures .0) at y) (λ j. omega (arith, v .slice-known2 .given j)) buffer _ (c .ended .ensures buffer)
 
 pub mount-lent-spec : {M : Type 1} → statement M
 mount-lent-spec =
@@ -211,9 +199,6 @@ mount-lent-spec =
     enum-told-3
     refused-requires-3
     enum-known-commit
-    mul-limit
-    cast-limit
-    next-number-requires
     begin-requires
     retire-requires
     ended-requires

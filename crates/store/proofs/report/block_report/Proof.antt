@@ -22,7 +22,7 @@ returns c =
     let n = c .before .before .before in
     let a = n .before .before .args in
     of-parts (a .t1) (n .numbers-of .result) (n .numbers-of .ensures) (λ (s : State) (r : Report). Reports (a .at) s (a .image .now) r) _ _ refl
-    (c .block-report-lent .ensures (a .t1 .buffer) (a .t1 .lens) (a .t1 .slots))
+    (c .block-report-lent .ensures (n .numbers-of .result .free) (a .t1 .buffer) (a .t1 .lens) (a .t1 .slots))
 
 pub block-report-spec : {M : Type 1} → statement M
 block-report-spec = tie.close (tie.spec numbers-of-requires block-report-lent-requires returns)

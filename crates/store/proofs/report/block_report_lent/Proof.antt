@@ -6,7 +6,7 @@ use lib.ListN.{length}
 use Rattle.chip.specs.Geometry.{Geometry, Fits, large, geometryOf, blockSize}
 use Rattle.chip.proofs.Sizes.{block-end, block-most}
 use Rattle.store.specs.AdmitCode.{ChipOf, admitNumber}
-use Rattle.store.specs.Parts.{joined}
+use Rattle.store.specs.Parts.{joined, withFree}
 use Rattle.store.specs.declared.answer.Report.the-variants as R
 use Rattle.store.proofs.ReportLaws.{report-first, report-absent, report-free}
 use borrow.Author.Needs.{needs}
@@ -26,11 +26,11 @@ enum-told-3 : tie.Need-enum-told-3
 enum-told-3 c = search needs
 
 returns : tie.Need-returns
-returns c buffer lens slots =
+returns c free buffer lens slots =
     let k = c .before .before in
     let m = k .before .before in
     let a = m .before .before .args in
-    let s = joined (a .numbers) buffer lens slots (a .erases .now) in
+    let s = joined (withFree (a .numbers) free) buffer lens slots (a .erases .now) in
     report-absent (a .at) s (a .image .now) (sym (ap admitNumber (k .enum-told3 .given .1)) ∙ m .admit .ensures .number) (omega (arith, c .if1 .taken))
 
 -- the geometry that the code reads
@@ -94,28 +94,28 @@ element-copy-out-figure : tie.Need-element-copy-out-figure
 element-copy-out-figure c = let w = on-chip (c .before .before .before .before) in omega (arith, w .0 .most, w .1)
 
 returns-2 : tie.Need-returns-2
-returns-2 c buffer lens slots =
+returns-2 c free buffer lens slots =
     let m = c .before .before in
     let a = m .before .before .args in
-    let s = joined (a .numbers) buffer lens slots (a .erases .now) in
+    let s = joined (withFree (a .numbers) free) buffer lens slots (a .erases .now) in
     report-first (a .at) s (a .image .now) R.Off (omega arith) (sym (ap admitNumber (c .enum-told .given .1)) ∙ m .admit .ensures .number)
 
 returns-3 : tie.Need-returns-3
-returns-3 c buffer lens slots =
+returns-3 c free buffer lens slots =
     let m = c .before .before in
     let a = m .before .before .args in
-    let s = joined (a .numbers) buffer lens slots (a .erases .now) in
+    let s = joined (withFree (a .numbers) free) buffer lens slots (a .erases .now) in
     report-first (a .at) s (a .image .now) R.Size (omega arith) (sym (ap admitNumber (c .enum-told2 .given .1)) ∙ m .admit .ensures .number)
 
 returns-4 : tie.Need-returns-4
-returns-4 c buffer lens slots =
+returns-4 c free buffer lens slots =
     let f = c .before in
     let o = f .before .before .before .before in
     let k = o .before .before .before in
     let m = k .before .before in
     let a = m .before .before .args in
     let g = geometryOf (a .numbers .nand) in
-    let s = joined (a .numbers) buffer lens slots (a .erases .now) in
+    let s = joined (withFree (a .numbers) free) buffer lens slots (a .erases .now) in
     let x = f .free-pages .ensures in
     let h = (rw (o .geometry-of .ensures .0) at x) in
     report-free (a .at) s (a .image .now) (sym (ap admitNumber (k .enum-told3 .given .1)) ∙ m .admit .ensures .number)

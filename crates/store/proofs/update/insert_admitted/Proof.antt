@@ -25,7 +25,7 @@ scope-of-requires c κs = search needs
 
 insert-requires : tie.Need-insert-requires
 insert-requires c κs =
-    let z = c .before in
+    let z = c .before .before .before in
     let l = z .before in
     let t = l .before .before .before in
     let n = t .args .numbers .nand in
@@ -35,7 +35,7 @@ insert-requires c κs =
 returns-2 : tie.Need-returns-2
 returns-2 c erases =
     let f = c .before in
-    let z = f .before .before in
+    let z = f .before .before .before .before in
     let t = z .before .before .before .before in
     let a = t .args in
     let s = joined (a .numbers) (a .buffer .now) (a .lens .now) (a .slots .now) erases in
@@ -44,8 +44,8 @@ returns-2 c erases =
     let hl : 8 * a .numbers .blocks ≤ 256 = omega (arith, t .pre .0 .most) in
     let e = f .insert .ensures in
     subst (λ (new : List ℕ). InsertsIn (a .key) (a .value) s (a .image .now) (updatedWith (record { answer = Nodes; numbers = a .numbers }) new (a .lens .now) (a .slots .now) erases))
-    (sym (f .insert .ensures .whole (c .if2 .taken)))
-    (insert-five s (a .image .now) (t .pre .1) (a .key) (a .value) hk hv hl _ (f .insert .result) (rw (z .scope-of .ensures) at e) (c .if2 .taken))
+    (sym (f .insert .ensures .stays (c .if2 .taken) .1))
+    (insert-five s (a .image .now) (t .pre .1) (a .key) (a .value) hk hv hl _ _ (f .insert .result) (rw (z .scope-of .ensures) at e) (c .if2 .taken))
 
 add-n : tie.Need-add-n
 add-n c = search needs
@@ -53,7 +53,7 @@ add-n c = search needs
 returns-3 : tie.Need-returns-3
 returns-3 c erases =
     let f = c .before .before in
-    let z = f .before .before in
+    let z = f .before .before .before .before in
     let t = z .before .before .before .before in
     let a = t .args in
     let s = joined (a .numbers) (a .buffer .now) (a .lens .now) (a .slots .now) erases in
@@ -61,7 +61,7 @@ returns-3 c erases =
     let hv : a .value < top = search needs in
     let hl : 8 * a .numbers .blocks ≤ 256 = omega (arith, t .pre .0 .most) in
     let e = f .insert .ensures in
-    insert-accepted s (a .image .now) (t .pre .1) (a .key) (a .value) hk hv hl _ (f .insert .result) (rw (z .scope-of .ensures) at e) (c .before .if2 .left)
+    insert-accepted s (a .image .now) (t .pre .1) (a .key) (a .value) hk hv hl _ _ (f .insert .result) (rw (z .scope-of .ensures) at e) (c .before .if2 .left)
 
 pub insert-admitted-spec : {M : Type 1} → statement M
 insert-admitted-spec =

@@ -1,6 +1,7 @@
 use mathlib.Core.Path.{_≡_}
 use native.Mathlib.Omega.{arith}
 use Rattle.chip.specs.Chip.{pagesOf}
+use Rattle.views.specs.Stored.{lengthOf}
 use Rattle.tree.specs.Shown.{shown}
 use Rattle.tree.proofs.FindLaws.{at-leaf, at-branch}
 use borrow.Author.Needs.{needs}
@@ -11,9 +12,8 @@ use Rattle.tree.proofs.find.find_at.Reads as find-at
 use Rattle.tree.proofs.find.find_at.Kinds as find-at-kinds
 use Rattle.tree.proofs.find.+find_at.Lts-find_at as find-at-lts
 use Rattle.tree.proofs.find.child.Reads as child-reads
-use Rattle.tree.proofs.find.list_pages.Reads as list-pages-reads
 use Rattle.tree.proofs.find.lookup.Reads as lookup-reads
-use Rattle.tree.proofs.find.node_at.Reads as node-at-reads
+use Rattle.tree.proofs.find.read_at.Reads as read-at-reads
 use Rattle.tree.proofs.find.+find_at.{statement}
 use Rattle.tree.proofs.find.+find_at.Tie.{close}
 
@@ -26,181 +26,145 @@ find-at-at t = and 4 find-at-kinds.ps (is 4 find-at-kinds.ps μ-find-at t) find-
 abbrev find-at-below : ℕ → In 4 find-at-kinds.ps
 find-at-below t = and 4 find-at-kinds.ps (falls 4 find-at-kinds.ps _<_ μ-find-at t) find-at.Pre
 
--- src/find.rt:125:9
-find-at-list-pages-requires : (t : ℕ) → find-at-lts.Need-list-pages-requires (
-  list-pages-reads.Asked,
-  list-pages-reads.Learnt,
-  lookup-reads.Asked,
-  lookup-reads.Learnt,
-  child-reads.Asked,
-  child-reads.Learnt,
-  node-at-reads.Asked,
-  node-at-reads.Learnt,
-  find-at-below t,
-  find-at.Post,
-) (find-at-at t) find-at.Post
-find-at-list-pages-requires t c κs = search needs
-
--- src/find.rt:127:13
+-- src/find.rt:146:13
 find-at-lookup-requires : (t : ℕ) → find-at-lts.Need-lookup-requires (
-  list-pages-reads.Asked,
-  list-pages-reads.Learnt,
   lookup-reads.Asked,
   lookup-reads.Learnt,
   child-reads.Asked,
   child-reads.Learnt,
-  node-at-reads.Asked,
-  node-at-reads.Learnt,
+  read-at-reads.Asked,
+  read-at-reads.Learnt,
   find-at-below t,
   find-at.Post,
 ) (find-at-at t) find-at.Post
 find-at-lookup-requires t c κs = search needs
 
--- src/find.rt:128:9
+-- src/find.rt:147:9
 find-at-returns : (t : ℕ) → find-at-lts.Need-returns (
-  list-pages-reads.Asked,
-  list-pages-reads.Learnt,
   lookup-reads.Asked,
   lookup-reads.Learnt,
   child-reads.Asked,
   child-reads.Learnt,
-  node-at-reads.Asked,
-  node-at-reads.Learnt,
+  read-at-reads.Asked,
+  read-at-reads.Learnt,
   find-at-below t,
   find-at.Post,
 ) (find-at-at t) find-at.Post
 find-at-returns t c =
-    let q = c .before .before in
-    let k = q .before .before in
+    let k = c .before .before .before .before in
     let a = k .args in
     let s = a .scope in
-    at-leaf (a .lens .now) (a .slots .now) (a .number) (a .key)
-    (shown (s .geometry) (s .limit) (pagesOf (s .geometry) (a .image .now)) (a .lens .now) (a .slots .now) (s .count) (a .buffer .now)) (a .n)
-    (q .list-pages .result) (k .pre .1 .2) (q .list-pages .ensures .0) (q .list-pages .ensures .1) (a .level) (c .lookup .result) (c .before .if1 .taken)
-    (c .lookup .ensures)
+    at-leaf (lengthOf (s .geometry) (s .limit) (pagesOf (s .geometry) (a .image .now)) (a .lens .now) (a .slots .now)) (a .number) (a .key)
+    (shown (s .geometry) (s .limit) (pagesOf (s .geometry) (a .image .now)) (a .lens .now) (a .slots .now) (s .count) (a .buffer .now)) (a .read)
+    (k .pre .1 .2) (a .level) (c .lookup .result) (c .before .if1 .taken) (c .lookup .ensures)
 
--- src/find.rt:134:9
+-- src/find.rt:149:9
 find-at-child-requires : (t : ℕ) → find-at-lts.Need-child-requires (
-  list-pages-reads.Asked,
-  list-pages-reads.Learnt,
   lookup-reads.Asked,
   lookup-reads.Learnt,
   child-reads.Asked,
   child-reads.Learnt,
-  node-at-reads.Asked,
-  node-at-reads.Learnt,
+  read-at-reads.Asked,
+  read-at-reads.Learnt,
   find-at-below t,
   find-at.Post,
 ) (find-at-at t) find-at.Post
 find-at-child-requires t c κs = search needs
 
--- src/find.rt:135:9
-find-at-node-at-requires : (t : ℕ) → find-at-lts.Need-node-at-requires (
-  list-pages-reads.Asked,
-  list-pages-reads.Learnt,
+-- src/find.rt:150:9
+find-at-read-at-requires : (t : ℕ) → find-at-lts.Need-read-at-requires (
   lookup-reads.Asked,
   lookup-reads.Learnt,
   child-reads.Asked,
   child-reads.Learnt,
-  node-at-reads.Asked,
-  node-at-reads.Learnt,
+  read-at-reads.Asked,
+  read-at-reads.Learnt,
   find-at-below t,
   find-at.Post,
 ) (find-at-at t) find-at.Post
-find-at-node-at-requires t c κs = search needs
+find-at-read-at-requires t c κs = search needs
 
--- src/find.rt:136:63
+-- src/find.rt:151:15
 find-at-sub-low : (t : ℕ) → find-at-lts.Need-sub-low (
-  list-pages-reads.Asked,
-  list-pages-reads.Learnt,
   lookup-reads.Asked,
   lookup-reads.Learnt,
   child-reads.Asked,
   child-reads.Learnt,
-  node-at-reads.Asked,
-  node-at-reads.Learnt,
+  read-at-reads.Asked,
+  read-at-reads.Learnt,
   find-at-below t,
   find-at.Post,
 ) (find-at-at t) find-at.Post
 find-at-sub-low t c = search needs
 
--- src/find.rt:136:9
+-- src/find.rt:152:9
 find-at-find-at-requires : (t : ℕ) → find-at-lts.Need-find-at-requires (
-  list-pages-reads.Asked,
-  list-pages-reads.Learnt,
   lookup-reads.Asked,
   lookup-reads.Learnt,
   child-reads.Asked,
   child-reads.Learnt,
-  node-at-reads.Asked,
-  node-at-reads.Learnt,
+  read-at-reads.Asked,
+  read-at-reads.Learnt,
   find-at-below t,
   find-at.Post,
 ) (find-at-at t) find-at.Post
 find-at-find-at-requires t c κs =
     let k = c .before .before .before .before .before in
-    (omega (arith, k .pre .0), (k .pre .1 .0, omega (arith, k .pre .1 .1), c .node-at .ensures, k .pre .1 .3))
+    (omega (arith, k .pre .0), (k .pre .1 .0, omega (arith, k .pre .1 .1), c .read-at .ensures, k .pre .1 .3))
 
--- src/find.rt:143:16
+-- src/find.rt:155:15
 find-at-add-sum : (t : ℕ) → find-at-lts.Need-add-sum (
-  list-pages-reads.Asked,
-  list-pages-reads.Learnt,
   lookup-reads.Asked,
   lookup-reads.Learnt,
   child-reads.Asked,
   child-reads.Learnt,
-  node-at-reads.Asked,
-  node-at-reads.Learnt,
+  read-at-reads.Asked,
+  read-at-reads.Learnt,
   find-at-below t,
   find-at.Post,
 ) (find-at-at t) find-at.Post
-find-at-add-sum t c = omega (arith, c .find-at .ensures .few, c .before .before .before .before .list-pages .ensures .1)
+find-at-add-sum t c =
+    let k = c .before .before .before .before .before .before in
+    omega (arith, c .find-at .ensures .few, k .pre .1 .1, k .pre .1 .2 .few)
 
--- src/find.rt:110:1
+-- src/find.rt:126:1
 find-at-returns-2 : (t : ℕ) → find-at-lts.Need-returns-2 (
-  list-pages-reads.Asked,
-  list-pages-reads.Learnt,
   lookup-reads.Asked,
   lookup-reads.Learnt,
   child-reads.Asked,
   child-reads.Learnt,
-  node-at-reads.Asked,
-  node-at-reads.Learnt,
+  read-at-reads.Asked,
+  read-at-reads.Learnt,
   find-at-below t,
   find-at.Post,
 ) (find-at-at t) find-at.Post
 find-at-returns-2 t c =
     let d = c .before .before in
-    let q = d .before .before in
-    let k = q .before .before in
+    let k = d .before .before .before .before in
     let a = k .args in
     let s = a .scope in
     let e : a .level ≡ suc (a .level - 1) = omega arith in
-    at-branch (a .lens .now) (a .slots .now) (a .number) (a .key)
-    (shown (s .geometry) (s .limit) (pagesOf (s .geometry) (a .image .now)) (a .lens .now) (a .slots .now) (s .count) (a .buffer .now)) (a .n)
-    (q .list-pages .result) (k .pre .1 .2) (q .list-pages .ensures .0) (q .list-pages .ensures .1) (a .level) (a .level - 1) (d .child .result)
-    (c .find-at .result) e (d .child .ensures) (c .find-at .ensures)
+    at-branch (lengthOf (s .geometry) (s .limit) (pagesOf (s .geometry) (a .image .now)) (a .lens .now) (a .slots .now)) (a .number) (a .key)
+    (shown (s .geometry) (s .limit) (pagesOf (s .geometry) (a .image .now)) (a .lens .now) (a .slots .now) (s .count) (a .buffer .now)) (a .read)
+    (k .pre .1 .2) (a .level) (a .level - 1) (d .child .result) (c .find-at .result) e (d .child .ensures) (c .find-at .ensures)
 
 pub +find-at-spec : {M : Type 1} → statement M
 +find-at-spec = close μ-find-at λ t. find-at-lts.spec (
-  list-pages-reads.Asked,
-  list-pages-reads.Learnt,
   lookup-reads.Asked,
   lookup-reads.Learnt,
   child-reads.Asked,
   child-reads.Learnt,
-  node-at-reads.Asked,
-  node-at-reads.Learnt,
+  read-at-reads.Asked,
+  read-at-reads.Learnt,
   find-at-below t,
   find-at.Post,
 )
     (find-at-at t)
     find-at.Post
-    (find-at-list-pages-requires t)
     (find-at-lookup-requires t)
     (find-at-returns t)
     (find-at-child-requires t)
-    (find-at-node-at-requires t)
+    (find-at-read-at-requires t)
     (find-at-sub-low t)
     (find-at-find-at-requires t)
     (find-at-add-sum t)

@@ -2,8 +2,8 @@ use mathlib.Core.Path.{_≡_}
 use native.Mathlib.Omega.{arith}
 use lib.ListN.{length}
 use Rattle.views.specs.NodeCode.{entriesOf}
-use Rattle.tree.specs.Step6.{top}
-use Rattle.tree.proofs.GainLaws.{needs-low, rises-leaf, rises-pass}
+use Rattle.tree.proofs.InsertCodeLaws.{needs-low}
+use Rattle.tree.proofs.InsertTreeLaws.{rises-leaf, rises-pass}
 use borrow.Author.Needs.{needs}
 use Prim.Native.Nat.{ℕ, suc, _-_, _<_}
 use borrow.Fn.Kinds.{In}
@@ -19,15 +19,15 @@ use Rattle.tree.proofs.insert.pass_up.Reads as pass-up-reads
 use Rattle.tree.proofs.insert.+insert_at.{statement}
 use Rattle.tree.proofs.insert.+insert_at.Tie.{close}
 
-abbrev μ-insert-at : Measures 4 insert-at-kinds.ps ℕ
+abbrev μ-insert-at : Measures 5 insert-at-kinds.ps ℕ
 μ-insert-at κs a = a .1 .1 .1 .1 .1 .1 .0 .level
 
-abbrev insert-at-at : ℕ → In 4 insert-at-kinds.ps
-insert-at-at t = and 4 insert-at-kinds.ps (is 4 insert-at-kinds.ps μ-insert-at t) insert-at.Pre
+abbrev insert-at-at : ℕ → In 5 insert-at-kinds.ps
+insert-at-at t = and 5 insert-at-kinds.ps (is 5 insert-at-kinds.ps μ-insert-at t) insert-at.Pre
 
-abbrev insert-at-below : ℕ → In 4 insert-at-kinds.ps
+abbrev insert-at-below : ℕ → In 5 insert-at-kinds.ps
 insert-at-below t =
-    and 4 insert-at-kinds.ps (falls 4 insert-at-kinds.ps _<_ μ-insert-at t) insert-at.Pre
+    and 5 insert-at-kinds.ps (falls 5 insert-at-kinds.ps _<_ μ-insert-at t) insert-at.Pre
 
 insert-at-gain-leaf-requires : (t : ℕ) → insert-at-lts.Need-gain-leaf-requires (
   gain-leaf-reads.Asked,
@@ -60,12 +60,10 @@ insert-at-returns : (t : ℕ) → insert-at-lts.Need-returns (
   pass-up-reads.Learnt,
 ) (insert-at-at t) insert-at.Post
 insert-at-returns t c =
-    let i = c .before .before in
+    let i = c .before .before .before in
     let s = i .before .before in
     let a = s .args in
-    let hk : a .key < top = search needs in
-    let hv : a .value < top = search needs in
-    rises-leaf (a .scope .geometry) (a .image .now) (a .lens .now) (a .slots .now) (a .scope .limit) (s .pre .1 .1) (a .next) (a .key) (a .value) (a .scope .count) (a .buffer .now) hk hv (a .spot .need) (a .spot .node) _ (c .gain-leaf .result)
+    rises-leaf (a .scope .geometry) (a .image .now) (a .lens .now) (a .slots .now) (a .scope .limit) (s .pre .1 .1) (a .key) (a .value) (a .scope .count) (a .buffer .now) (a .free .now) (a .spot .need) (a .spot .node) _ _ (c .gain-leaf .result)
     (a .spot .level) (entriesOf (a .n)) (i .if1 .taken) (s .pre .1 .5 .entries) (s .pre .1 .2) (c .gain-leaf .ensures)
 
 insert-at-child-requires : (t : ℕ) → insert-at-lts.Need-child-requires (
@@ -147,7 +145,7 @@ insert-at-insert-at-requires : (t : ℕ) → insert-at-lts.Need-insert-at-requir
   pass-up-reads.Learnt,
 ) (insert-at-at t) insert-at.Post
 insert-at-insert-at-requires t c κs =
-    let q = c .before in
+    let q = c .before .before in
     let m = q .before in
     let e = m .before .before .before in
     let s = e .before .before in
@@ -181,9 +179,9 @@ insert-at-pass-up-requires : (t : ℕ) → insert-at-lts.Need-pass-up-requires (
   pass-up-reads.Learnt,
 ) (insert-at-at t) insert-at.Post
 insert-at-pass-up-requires t c κs =
-    let i = c .before in
-    let s = i .before .before .before .before .before .before .before .before in
-    (s .pre .1 .1, s .pre .1 .5 .room, i .insert-at .ensures .keeps .room)
+    let i = c .before .before in
+    let s = i .before .before .before .before .before .before .before .before .before in
+    (s .pre .1 .5 .room, i .insert-at .ensures .keeps .room)
 
 insert-at-returns-2 : (t : ℕ) → insert-at-lts.Need-returns-2 (
   gain-leaf-reads.Asked,
@@ -200,16 +198,14 @@ insert-at-returns-2 : (t : ℕ) → insert-at-lts.Need-returns-2 (
   pass-up-reads.Learnt,
 ) (insert-at-at t) insert-at.Post
 insert-at-returns-2 t c =
-    let i = c .before .before in
-    let q = i .before .before in
+    let i = c .before .before .before in
+    let q = i .before .before .before in
     let d = q .before .before .before in
     let e = d .before in
     let s = e .before .before in
     let a = s .args in
-    let hk : a .key < top = search needs in
-    let hv : a .value < top = search needs in
-    rises-pass (a .scope .geometry) (a .image .now) (a .lens .now) (a .slots .now) (a .scope .limit) (s .pre .1 .1) (a .next) (a .key) (a .value) (a .scope .count) (a .buffer .now) hk hv (a .spot .need) (a .spot .level) (a .spot .level - 1) (a .spot .node)
-    (d .child .result) (q .needs-above .result) (entriesOf (a .n)) _ _ (i .insert-at .result) (c .pass-up .result) (omega (arith, e .if1 .left)) (s .pre .1 .5 .entries) (d .child .ensures)
+    rises-pass (a .scope .geometry) (a .image .now) (a .lens .now) (a .slots .now) (a .scope .limit) (s .pre .1 .1) (a .key) (a .value) (a .scope .count) (a .buffer .now) (a .free .now) (a .spot .need) (a .spot .level) (a .spot .level - 1) (a .spot .node)
+    (d .child .result) (q .needs-above .result) (entriesOf (a .n)) _ _ _ _ (i .insert-at .result) (c .pass-up .result) (omega (arith, e .if1 .left)) (s .pre .1 .5 .entries) (d .child .ensures)
     (q .needs-above .ensures) (i .insert-at .ensures) (c .pass-up .ensures)
 
 pub +insert-at-spec : {M : Type 1} → statement M

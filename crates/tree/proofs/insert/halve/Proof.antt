@@ -1,7 +1,7 @@
 use native.Mathlib.Omega.{arith}
 use lib.ListN.{take, drop}
 use Rattle.views.specs.NodeCode.{entriesOf}
-use Rattle.tree.proofs.InsertLaws.{written-node, written-halves}
+use Rattle.tree.proofs.InsertCodeLaws.{written-node, written-halves}
 use borrow.Author.Needs.{needs}
 use Rattle.tree.proofs.insert.halve.Statement.{statement}
 use Rattle.tree.proofs.insert.halve.Tie as tie

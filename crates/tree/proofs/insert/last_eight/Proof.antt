@@ -1,6 +1,6 @@
 use mathlib.Core.Path.{_≡_, sym}
 use lib.ListN.{length}
-use Rattle.tree.proofs.InsertLaws.{eight}
+use Rattle.tree.proofs.InsertCodeLaws.{eight}
 use borrow.Author.Needs.{needs}
 use Rattle.tree.proofs.insert.last_eight.Statement.{statement}
 use Rattle.tree.proofs.insert.last_eight.Tie as tie

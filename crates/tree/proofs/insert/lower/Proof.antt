@@ -1,6 +1,6 @@
 use mathlib.Core.Path.{_≡_, refl}
 use lib.ListN.{length}
-use Rattle.tree.proofs.InsertLaws.{lower-shows}
+use Rattle.tree.proofs.InsertCodeLaws.{lower-shows}
 use borrow.Author.Needs.{needs}
 use Rattle.tree.proofs.insert.lower.Statement.{statement}
 use Rattle.tree.proofs.insert.lower.Tie as tie

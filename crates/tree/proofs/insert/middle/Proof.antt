@@ -1,6 +1,6 @@
 use mathlib.Core.Path.{_≡_}
 use lib.ListN.{length}
-use Rattle.tree.proofs.InsertLaws.{middle-is}
+use Rattle.tree.proofs.InsertCodeLaws.{middle-is}
 use borrow.Author.Needs.{needs}
 use Rattle.tree.proofs.insert.middle.Statement.{statement}
 use Rattle.tree.proofs.insert.middle.Tie as tie

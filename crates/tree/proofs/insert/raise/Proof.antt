@@ -3,14 +3,11 @@ use Prim.Native.Nat.{_+_}
 use lib.ListN.{drop}
 use Rattle.views.specs.NodeCode.{entriesOf}
 use Rattle.tree.specs.Tree.{firstKey}
-use Rattle.tree.specs.InsertCode.{two}
-use Rattle.tree.proofs.InsertLaws.{written-node, written-raise}
+use Rattle.tree.specs.InsertCode.{rootEntries}
+use Rattle.tree.proofs.InsertCodeLaws.{written-node, written-raise}
 use borrow.Author.Needs.{needs}
 use Rattle.tree.proofs.insert.raise.Statement.{statement}
 use Rattle.tree.proofs.insert.raise.Tie as tie
-
-add-halve : tie.Need-add-halve
-add-halve c = search needs
 
 halve-requires : tie.Need-halve-requires
 halve-requires c κs = search needs
@@ -20,9 +17,6 @@ middle-requires c κs = search needs
 
 add-pair : tie.Need-add-pair
 add-pair c = search needs
-
-add-pair-2 : tie.Need-add-pair-2
-add-pair-2 c = search needs
 
 pair-requires : tie.Need-pair-requires
 pair-requires c κs = search needs
@@ -37,9 +31,9 @@ returns c =
     let h = m .before in
     let a = h .before .before .args in
     let es = entriesOf (a .n) in (
-      written-raise (a .level) (a .next) 0 es (a .count) (h .halve .result) (c .push-node .result) _ _ _
+      written-raise (a .level) (a .low) (a .high) es (a .count) (h .halve .result) (c .push-node .result) _ _ _
           (h .halve .ensures .0)
-          (written-node 0 (a .level + 1) (two (a .next) (firstKey 0 (drop 9 es)) (a .next + 1)) (q .pair .result) (h .halve .result) (c .push-node .result) _ _
+          (written-node 0 (a .level + 1) (rootEntries (a .low) (firstKey 0 (drop 9 es)) (a .high)) (q .pair .result) (h .halve .result) (c .push-node .result) _ _
           (rw (← m .middle .ensures) (q .pair .ensures .0)) (c .push-node .ensures .0) (c .push-node .ensures .1) (c .push-node .ensures .2))
           (omega (arith, h .halve .ensures .1)),
       omega (arith, h .halve .ensures .1, c .push-node .ensures .1, q .pair .ensures .1),
@@ -48,12 +42,4 @@ returns c =
 pub raise-spec : {M : Type 1} → statement M
 raise-spec =
     tie.close
-    (tie.spec
-    add-halve
-    halve-requires
-    middle-requires
-    add-pair
-    add-pair-2
-    pair-requires
-    push-node-requires
-    returns)
+    (tie.spec halve-requires middle-requires add-pair pair-requires push-node-requires returns)

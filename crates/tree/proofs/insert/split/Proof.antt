@@ -1,70 +1,73 @@
-use mathlib.Core.Path.{refl, sym, _∙_}
-use mathlib.Core.Bool.{true, _&&_}
-use Prim.Native.Nat.{_+_}
+use mathlib.Core.Path.{_≡_, refl}
 use native.Mathlib.Omega.{arith}
-use lib.Dec.{ltb, leb}
-use lib.ListN.{drop}
+use lib.ListN.{length, drop}
 use Rattle.views.specs.NodeCode.{entriesOf}
-use Rattle.tree.specs.Tree.{firstKey}
-use Rattle.tree.specs.Units.{halveUnits}
-use Rattle.tree.specs.InsertCode.{able}
-use Rattle.tree.proofs.InsertLaws.{halve-test, went-holds, able-holds, unable-holds}
+use Rattle.tree.specs.Tree.{Table, firstKey, least}
+use Rattle.tree.specs.Insert.{gains, halve}
+use Rattle.tree.specs.InsertUnits.{halveUnits}
+use Rattle.tree.proofs.Least.{there-length}
+use Rattle.tree.proofs.InsertUnits.{halve-length}
+use Rattle.tree.proofs.InsertCodeLaws.{entries-17, makes-none, makes-halve}
 use borrow.Author.Needs.{needs}
 use Rattle.tree.proofs.insert.split.Statement.{statement}
 use Rattle.tree.proofs.insert.split.Tie as tie
 
-can-halve-requires : tie.Need-can-halve-requires
-can-halve-requires c κs = search needs
+stop-requires : tie.Need-stop-requires
+stop-requires c κs = search needs
+
+returns : tie.Need-returns
+returns c =
+    let s = c .before .before in
+    let a = s .args in
+    let es = entriesOf (a .n) in
+    makes-none (a .node) 1 (λ (t : Table). halveUnits (a .level) (a .node) (least t) es) (λ (t : Table). gains (firstKey 0 (drop 9 es)) (least t) (halve (a .level) (a .node) (least t) es t)) (a .count) (a .buffer .now) (a .free .now)
+    (c .stop .result) (s .pre .0) (c .stop .ensures) (λ t few on _ _. omega (arith, c .before .if1 .taken, there-length t (a .node) on))
+
+stop-requires-2 : tie.Need-stop-requires-2
+stop-requires-2 c κs = search needs
+
+returns-2 : tie.Need-returns-2
+returns-2 c =
+    let s = c .before .before .before in
+    let a = s .args in
+    let es = entriesOf (a .n) in
+    let lk : length (a .n .keys) ≡ 17 = search needs in
+    let lv : length (a .n .values) ≡ 17 = search needs in
+    makes-none (a .node) 1 (λ (t : Table). halveUnits (a .level) (a .node) (least t) es) (λ (t : Table). gains (firstKey 0 (drop 9 es)) (least t) (halve (a .level) (a .node) (least t) es t)) (a .count) (a .buffer .now) (a .free .now)
+    (c .stop2 .result) (s .pre .0) (c .stop2 .ensures)
+    (λ t _ _ _ room. omega (arith, c .before .if2 .taken, halve-length (a .level) (a .node) (least t) es (entries-17 (a .n) (s .pre .1) lk lv)))
+
+take-requires : tie.Need-take-requires
+take-requires c κs = search needs
 
 halve-requires : tie.Need-halve-requires
 halve-requires c κs =
-    let t = c .before .before in
-    let s = t .before in
-    let a = s .args in
-    let f = halve-test (a .limit) (a .next) (a .node) (a .count) (sym (t .can-halve .ensures) ∙ c .before .if1 .taken) in
-    (s .pre .2, f .1, omega (arith, f .0, s .pre .1), f .2)
+    let o = c .before in
+    let f = o .before .before in
+    let s = f .before .before in
+    (s .pre .1, omega (arith, f .before .if1 .left), omega (arith, o .take .ensures .few), omega (arith, f .if2 .left))
 
 middle-requires : tie.Need-middle-requires
 middle-requires c κs = search needs
 
-add-t13 : tie.Need-add-t13
-add-t13 c =
-    let j = c .before .before .before in
-    let t = j .before in
-    let a = t .before .args in
-    let f = halve-test (a .limit) (a .next) (a .node) (a .count) (sym (t .can-halve .ensures) ∙ j .if1 .taken) in
-    omega (arith, f .0, t .before .pre .1)
-
-stay-requires : tie.Need-stay-requires
-stay-requires c κs = search needs
-
-returns : tie.Need-returns
-returns c =
+returns-3 : tie.Need-returns-3
+returns-3 c =
     let h = c .before in
-    let j = h .before .before in
-    let t = j .before in
-    let a = t .before .args in
-    let e = sym (t .can-halve .ensures) ∙ j .if1 .taken in
-    let f = halve-test (a .limit) (a .next) (a .node) (a .count) e in
-    able-holds (ltb (a .next) (a .limit) && (ltb (a .node) 65536 && leb (a .count) 941)) (able (halveUnits (a .level) (a .node) (a .next) (entriesOf (a .n))) true (firstKey 0 (drop 9 (entriesOf (a .n)))) (a .next) (a .next + 1)) (a .count) (a .buffer .now) _ _ e
-    (went-holds (halveUnits (a .level) (a .node) (a .next) (entriesOf (a .n))) true (firstKey 0 (drop 9 (entriesOf (a .n)))) (a .next) (a .next + 1) (a .count) (h .halve .result) (a .buffer .now) _ _
-    (h .halve .ensures .0) (omega (arith, f .2, h .halve .ensures .1)) refl refl refl (c .middle .ensures) refl refl)
-
-returns-2 : tie.Need-returns-2
-returns-2 c =
-    let t = c .before .before in
-    let a = t .before .args in
-    unable-holds (ltb (a .next) (a .limit) && (ltb (a .node) 65536 && leb (a .count) 941)) (able (halveUnits (a .level) (a .node) (a .next) (entriesOf (a .n))) true (firstKey 0 (drop 9 (entriesOf (a .n)))) (a .next) (a .next + 1)) (a .count) (a .buffer .now) (c .stay .result) (sym (t .can-halve .ensures) ∙ c .before .if1 .left)
-    (record { bytes = refl; used = c .stay .ensures .2; refused = c .stay .ensures .0 }) (t .before .pre .0)
+    let o = h .before .before in
+    let f = o .before .before in
+    let a = f .before .before .args in
+    makes-halve (a .level) (entriesOf (a .n)) (a .count) (a .buffer .now) (a .free .now) _ _ _ (a .node) (o .take .result) (h .halve .result) (o .take .ensures)
+    (h .halve .ensures .0) (omega (arith, h .halve .ensures .1, f .if2 .left)) refl refl refl (c .middle .ensures) refl
 
 pub split-spec : {M : Type 1} → statement M
 split-spec =
     tie.close
     (tie.spec
-    can-halve-requires
+    stop-requires
+    returns
+    stop-requires-2
+    returns-2
+    take-requires
     halve-requires
     middle-requires
-    add-t13
-    stay-requires
-    returns
-    returns-2)
+    returns-3)

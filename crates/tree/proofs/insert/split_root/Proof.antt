@@ -1,57 +1,82 @@
-use mathlib.Core.Path.{refl, sym, _∙_}
-use mathlib.Core.Bool.{false, _&&_}
-use Prim.Native.Nat.{_+_}
+use mathlib.Core.Path.{_≡_, refl}
 use native.Mathlib.Omega.{arith}
-use lib.Dec.{ltb, leb}
+use lib.ListN.{length}
 use Rattle.views.specs.NodeCode.{entriesOf}
-use Rattle.tree.specs.Units.{raiseUnits}
-use Rattle.tree.specs.InsertCode.{able}
-use Rattle.tree.proofs.InsertLaws.{raise-test, went-holds, able-holds, unable-holds}
+use Rattle.tree.specs.Tree.{Table, least, least2}
+use Rattle.tree.specs.Insert.{stop, raise}
+use Rattle.tree.specs.InsertUnits.{raiseUnits}
+use Rattle.tree.specs.InsertCode.{needsOf}
+use Rattle.tree.proofs.InsertUnits.{raise-length}
+use Rattle.tree.proofs.InsertCodeLaws.{entries-17, needs-high, spare-most, makes-none, makes-raise}
 use borrow.Author.Needs.{needs}
 use Rattle.tree.proofs.insert.split_root.Statement.{statement}
 use Rattle.tree.proofs.insert.split_root.Tie as tie
 
-can-raise-requires : tie.Need-can-raise-requires
-can-raise-requires c κs = search needs
-
-raise-requires : tie.Need-raise-requires
-raise-requires c κs =
-    let t = c .before .before in
-    let s = t .before in
-    let a = s .args in
-    let f = raise-test (a .limit) (a .next) (a .level) (a .count) (sym (t .can-raise .ensures) ∙ c .before .if1 .taken) in
-    (s .pre .2, omega (arith, f .0, s .pre .1), f .1, f .2)
-
-add-t11 : tie.Need-add-t11
-add-t11 c =
-    let j = c .before .before in
-    let t = j .before in
-    let a = t .before .args in
-    let f = raise-test (a .limit) (a .next) (a .level) (a .count) (sym (t .can-raise .ensures) ∙ j .if1 .taken) in
-    omega (arith, f .0, t .before .pre .1)
-
-stay-requires : tie.Need-stay-requires
-stay-requires c κs = search needs
+stop-requires : tie.Need-stop-requires
+stop-requires c κs = search needs
 
 returns : tie.Need-returns
 returns c =
-    let j = c .before .before in
-    let t = j .before in
-    let a = t .before .args in
-    let e = sym (t .can-raise .ensures) ∙ j .if1 .taken in
-    let f = raise-test (a .limit) (a .next) (a .level) (a .count) e in
-    able-holds (ltb (a .next + 1) (a .limit) && (ltb (a .level) 3 && leb (a .count) 938)) (able (raiseUnits (a .level) (a .next) (entriesOf (a .n))) false 0 0 (a .next + 2)) (a .count) (a .buffer .now) _ _ e
-    (went-holds (raiseUnits (a .level) (a .next) (entriesOf (a .n))) false 0 0 (a .next + 2) (a .count) (c .raise .result) (a .buffer .now) _ _
-    (c .raise .ensures .0) (omega (arith, f .2, c .raise .ensures .1)) refl refl refl refl refl refl)
+    let s = c .before .before in
+    let a = s .args in
+    let es = entriesOf (a .n) in
+    makes-none 0 (needsOf 0 (a .level) 0 17) (λ (t : Table). raiseUnits (a .level) (least t) (least2 t) es) (λ (t : Table). stop (raise (a .level) (least t) (least2 t) es t)) (a .count) (a .buffer .now) (a .free .now)
+    (c .stop .result) (s .pre .0) (c .stop .ensures)
+    (λ t few _ q _. omega (arith, spare-most t, needs-high 0 (a .level) 0 17 (omega arith) refl (c .before .if1 .taken)))
+
+stop-requires-2 : tie.Need-stop-requires-2
+stop-requires-2 c κs = search needs
 
 returns-2 : tie.Need-returns-2
 returns-2 c =
-    let t = c .before .before in
-    let a = t .before .args in
-    unable-holds (ltb (a .next + 1) (a .limit) && (ltb (a .level) 3 && leb (a .count) 938)) (able (raiseUnits (a .level) (a .next) (entriesOf (a .n))) false 0 0 (a .next + 2)) (a .count) (a .buffer .now) (c .stay .result) (sym (t .can-raise .ensures) ∙ c .before .if1 .left)
-    (record { bytes = refl; used = c .stay .ensures .2; refused = c .stay .ensures .0 }) (t .before .pre .0)
+    let s = c .before .before .before in
+    let a = s .args in
+    let es = entriesOf (a .n) in
+    let lk : length (a .n .keys) ≡ 17 = search needs in
+    let lv : length (a .n .values) ≡ 17 = search needs in
+    makes-none 0 (needsOf 0 (a .level) 0 17) (λ (t : Table). raiseUnits (a .level) (least t) (least2 t) es) (λ (t : Table). stop (raise (a .level) (least t) (least2 t) es t)) (a .count) (a .buffer .now) (a .free .now)
+    (c .stop2 .result) (s .pre .0) (c .stop2 .ensures)
+    (λ t _ _ _ room. omega (arith, c .before .if2 .taken, raise-length (a .level) (least t) (least2 t) es (entries-17 (a .n) (s .pre .1) lk lv)))
+
+take-requires : tie.Need-take-requires
+take-requires c κs = search needs
+
+take-requires-2 : tie.Need-take-requires-2
+take-requires-2 c κs = search needs
+
+raise-requires : tie.Need-raise-requires
+raise-requires c κs =
+    let o₂ = c .before in
+    let o = o₂ .before .before in
+    let f = o .before .before in
+    let s = f .before .before in
+    let low = o .take .ensures .few in
+    let high = o₂ .take2 .ensures .few in
+    (s .pre .1, omega arith, omega arith, omega (arith, f .before .if1 .left), omega (arith, f .if2 .left))
+
+stop-requires-3 : tie.Need-stop-requires-3
+stop-requires-3 c κs = search needs
+
+returns-3 : tie.Need-returns-3
+returns-3 c =
+    let h = c .before in
+    let o₂ = h .before .before in
+    let o = o₂ .before .before in
+    let f = o .before .before in
+    let a = f .before .before .args in
+    makes-raise (a .level) (entriesOf (a .n)) (a .count) (a .buffer .now) (a .free .now) _ _ (c .stop3 .result) (o .take .result) (o₂ .take2 .result) (h .raise .result) _ (omega (arith, f .before .if1 .left))
+    (o .take .ensures) (o₂ .take2 .ensures) (h .raise .ensures .0) (omega (arith, h .raise .ensures .1, f .if2 .left)) (c .stop3 .ensures)
 
 pub split-root-spec : {M : Type 1} → statement M
 split-root-spec =
     tie.close
-    (tie.spec can-raise-requires raise-requires add-t11 stay-requires returns returns-2)
+    (tie.spec
+    stop-requires
+    returns
+    stop-requires-2
+    returns-2
+    take-requires
+    take-requires-2
+    raise-requires
+    stop-requires-3
+    returns-3)

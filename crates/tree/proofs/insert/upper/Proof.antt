@@ -1,6 +1,6 @@
 use mathlib.Core.Path.{_≡_, refl}
 use lib.ListN.{length}
-use Rattle.tree.proofs.InsertLaws.{upper-shows}
+use Rattle.tree.proofs.InsertCodeLaws.{upper-shows}
 use borrow.Author.Needs.{needs}
 use Rattle.tree.proofs.insert.upper.Statement.{statement}
 use Rattle.tree.proofs.insert.upper.Tie as tie

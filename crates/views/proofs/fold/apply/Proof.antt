@@ -1,5 +1,3 @@
-use mathlib.Core.Path.{refl}
-use native.Mathlib.Omega.{arith}
 use borrow.Author.Needs.{needs}
 use Rattle.views.proofs.fold.apply.Statement.{statement}
 use Rattle.views.proofs.fold.apply.Tie as tie
@@ -7,6 +5,7 @@ use Rattle.views.proofs.fold.apply.Reads as reads
 use Rattle.views.proofs.fold.apply.Lts as lts
 use Rattle.views.proofs.fold.delete.Reads as delete-reads
 use Rattle.views.proofs.fold.insert.Reads as insert-reads
+use Rattle.views.proofs.fold.reset.Reads as reset-reads
 
 enum-known-u : tie.Need-enum-known-u
 enum-known-u c = search needs
@@ -22,6 +21,9 @@ delete-requires c κs = search needs
 
 enum-known-u-3 : tie.Need-enum-known-u-3
 enum-known-u-3 c = search needs
+
+reset-requires : tie.Need-reset-requires
+reset-requires c κs = search needs
 
 same-length : tie.Need-same-length
 same-length c = search needs
@@ -43,9 +45,10 @@ returns-2 c = rw (c .before .before .before .before .before .before .before .bef
 
 returns-3 : tie.Need-returns-3
 returns-3 c =
-    let u = c .before in
+    let u = c .before .before in
     let k = u .before .before .before .before in
-    rw (u .u3 .given .1) (record { is = refl; room = omega arith; keys = k .pre .0; values = k .pre .1 })
+    let r = c .reset .ensures in
+    rw (u .u3 .given .1) (record { is = r .is (k .args .keys .now) (k .args .values .now); room = r .room; keys = k .pre .0; values = k .pre .1 })
 
 pub apply-spec : {M : Type 1} → statement M
 apply-spec =
@@ -56,6 +59,7 @@ apply-spec =
     enum-known-u-2
     delete-requires
     enum-known-u-3
+    reset-requires
     same-length
     same-length-2
     returns

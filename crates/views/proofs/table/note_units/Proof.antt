@@ -1,6 +1,8 @@
+use mathlib.Core.Path.{sym, _∙_}
 use Prim.Native.Nat.{_-_, _≤_}
 use native.Mathlib.Omega.{arith}
-use Rattle.views.proofs.TableLaws.{unit-below, Noting, noting-start, noting-next, noting-stop, noting-end}
+use Rattle.pages.proofs.UnitLaws.{told}
+use Rattle.views.proofs.TableLaws.{Noting, noting-start, noting-next, noting-stop, noting-end}
 use borrow.Author.Needs.{needs}
 use Rattle.views.proofs.table.note_units.Statement.{statement}
 use Rattle.views.proofs.table.note_units.Tie as tie
@@ -43,7 +45,7 @@ note-requires c κs =
     let d = c .before .before .before in
     let q = d .before .before in
     let a = q .before .before .before .before .before .args in
-    let w = unit-below (a .limit) _ _ (q .decode-unit .result) (q .decode-unit .ensures) (d .d .given .1) in
+    let w = told (a .limit) _ _ (sym (q .decode-unit .ensures) ∙ d .d .given .1) .below in
     omega arith
 
 enum-told : tie.Need-enum-told Inv-loop μ-loop
