@@ -1,4 +1,7 @@
-//! The crash test: every allowance of a commit, of a mount and of a format, with several torn slices, then a mount and look ups.
+//! The crash test: every allowance of a commit, of a mount, of a format and of a rebuild, with several torn slices, then a mount and
+//! look ups.
+
+mod rebuilds;
 
 use crate::model::geometry::Geometry;
 use crate::model::image::meaning;
@@ -186,7 +189,7 @@ impl Case {
         }
     }
 
-    /// Every allowance of the pending commit with each of several torn slices; cut mounts; cut formats.
+    /// Every allowance of the pending commit with each of several torn slices; cut mounts; cut formats; cut rebuilds.
     pub fn replays(&self, random: &mut Random) -> Replays {
         let mut writer = self.begin();
         let mut replays = 0;
@@ -195,6 +198,7 @@ impl Case {
         }
         replays += self.cut_mounts(random, &mut writer);
         replays += self.cut_formats(&mut writer);
+        replays += self.cut_rebuilds(random, &mut writer);
         Replays { lines: writer.lines(), replays }
     }
 

@@ -16,7 +16,7 @@ const IMAGE: usize = LARGE_BLOCKS * LARGE.block();
 /// Bytes of the torn buffer.
 const TORN: usize = 2200;
 
-/// The store's state, the geometry that format, mount and show name, the image buffer and the torn bytes, with how much of each is lent.
+/// The store's state, the geometry that format, mount, rebuild and show name, the image buffer and the torn bytes, with how much of each is lent.
 pub struct Probe {
     state: State,
     named: Geometry,
@@ -94,13 +94,13 @@ impl Probe {
     /// The reply to a line.
     pub fn line(&mut self, line: &[u8]) -> String {
         match parse(line) {
-            Some((kind @ (0..=7 | 9), len, first, second)) => self.call(kind, len, first, second),
+            Some((kind @ (0..=7 | 9 | 10), len, first, second)) => self.call(kind, len, first, second),
             Some((kind, len, first, second)) => self.set(kind, len, first, second),
             None => "FF".into(),
         }
     }
 
-    /// The frames 00 to 07 and 09: the calls.
+    /// The frames 00 to 07, 09 and 0A: the calls.
     fn call(&mut self, kind: u32, len: usize, first: u32, second: u32) -> String {
         let (named, image, torn) = (self.named, &mut self.image[..self.len], &self.torn[..self.torn_len]);
         match (kind, len) {
@@ -116,6 +116,7 @@ impl Probe {
             },
             (7, 10) => self.show(first),
             (9, 2) => wrote(self.state.forecast(image)),
+            (10, 10) => wrote(self.state.rebuild(named, image, torn, first)),
             _ => "FF".into(),
         }
     }
@@ -184,12 +185,13 @@ impl Probe {
         true
     }
 
-    /// The operations that a format (0), a commit (4) or a mount would do; the image is not changed.
+    /// The operations that a format (0), a commit (4), a rebuild (10) or a mount would do; the image is not changed.
     pub fn need(&self, kind: u32) -> Counts {
         let (mut state, mut image) = (self.state.clone(), self.image().to_vec());
         let told = match kind {
             0 => state.format(self.named, &mut image, self.torn(), u32::MAX),
             4 => state.commit(&mut image, self.torn(), u32::MAX),
+            10 => state.rebuild(self.named, &mut image, self.torn(), u32::MAX),
             _ => state.mount(self.named, &mut image, self.torn(), u32::MAX),
         };
         told.counts

@@ -99,7 +99,7 @@ fn foreign_list(run: &mut Run, random: &mut Random) -> Result<(), String> {
     let blocks = 3 + random.index(3);
     let (image, _) = match random.once_in(3) {
         true => foreign::valid_of(random, run.geometry, blocks),
-        false => foreign::thin_of(random, run.geometry, blocks),
+        false => foreign::slim_of(random, run.geometry, blocks),
     };
     run.frame(Frame::Blocks(blocks as u32))?;
     for (at, byte) in image.iter().enumerate().filter(|(_, byte)| **byte != 255) {

@@ -86,11 +86,11 @@ fn units_of_freed_numbers() {
     }
 }
 
-/// A parent that names a freed number, and node 0 freed: 9.
+/// A parent that names a freed number, and node 0 freed: 9. Node 0 with one entry: 12.
 #[test]
 fn freed_nodes_of_a_tree() {
     assert_eq!(mount(&[&[free(2)]]).0, 9);
-    assert_eq!(mount(&[&[free(2)], &[(0, Update::Delete(100))]]).0, 0);
+    assert_eq!(mount(&[&[free(2)], &[(0, Update::Delete(100))]]).0, 12);
     assert_eq!(mount(&[&[free(0)]]).0, 9);
     assert_eq!(mount(&[&[free(0), free(1), free(2)]]).0, 9);
     assert_eq!(mount(&[&[free(1), free(2), (0, Update::Reset(0))]]).0, 0);

@@ -4,7 +4,7 @@ mod tables;
 use model::twin::geometry::SMALL;
 use model::twin::state::State;
 use model::twin::unit::{decode, node_of, Update, FREED};
-use tables::{leaf, mounted, node, table_of, Entry, Node, Table};
+use tables::{leaf, node, store_of, table_of, Entry, Node, Table};
 
 /// A table of these nodes.
 fn table(nodes: &[(u32, Node)]) -> Table {
@@ -18,7 +18,7 @@ fn pushed(state: &State) -> Vec<(u32, Update)> {
 
 /// The units of a delete from a table, which leaves another one.
 fn deleted(before: &Table, key: u32, after: &Table) -> Vec<(u32, Update)> {
-    let (mut state, image) = mounted(SMALL, 32, before);
+    let (mut state, image) = store_of(SMALL, 32, before);
     assert_eq!(state.delete(&image, key), 0);
     assert_eq!(&table_of(&state, &image), after);
     pushed(&state)

@@ -10,7 +10,7 @@ use model::twin::view::View;
 use std::collections::BTreeMap;
 use tables::steps::{insert, remove};
 use tables::units::{after, brief_units, insert_units, remove_units, Unit};
-use tables::{is_thick, mounted, random_tree, records, table_of, Sizes, Table};
+use tables::{is_thick, is_thin, random_tree, records, store_of, table_of, Sizes, Table};
 
 /// The most units of a delete, and of an insert.
 const DELETE: usize = 57;
@@ -107,7 +107,7 @@ impl Run {
         }
     }
 
-    /// A commit, at times a mount behind it; both leave the nodes. Whether it was accepted.
+    /// A commit, at times a mount behind it, which is refused where the tree is thin; both leave the nodes. Whether the commit was accepted.
     fn commit(&mut self, random: &mut Random) -> bool {
         let torn = vec![0x5A; self.part.page()];
         if self.state.commit(&mut self.image, &torn, 4000).refusal != 0 {
@@ -115,9 +115,13 @@ impl Run {
         }
         assert!(self.state.lens.iter().all(|&len| len <= 4));
         if random.once_in(5) {
-            let old = self.state.clone();
-            assert_eq!(self.state.mount(self.part, &mut self.image, &torn, 0).refusal, 0);
-            assert!(self.state.free == old.free && (0..256).all(|n| self.state.list(n) == old.list(n)));
+            let mut read = State::new();
+            let refusal = read.mount(self.part, &mut self.image, &torn, 0).refusal;
+            assert_eq!(refusal, if is_thin(&self.table) { 12 } else { 0 });
+            if refusal == 0 {
+                assert!(read.free == self.state.free && (0..256).all(|n| read.list(n) == self.state.list(n)));
+                self.state = read;
+            }
         }
         self.compare(self.table.clone());
         true
@@ -174,7 +178,7 @@ fn foreign() {
         let blocks = [3, 4, 8, 32][turn % 4];
         let sizes = [Sizes::Any, Sizes::Thin, Sizes::Ends][turn % 3];
         let tree = random_tree(&mut random, blocks, (turn / 12 % 4) as u32, sizes);
-        let mut run = Run::new(SMALL, mounted(SMALL, blocks as usize, &tree));
+        let mut run = Run::new(SMALL, store_of(SMALL, blocks as usize, &tree));
         run.updates(&mut random, 24, 7);
         most.delete = most.delete.max(run.seen.delete);
         most.insert = most.insert.max(run.seen.insert);

@@ -62,7 +62,7 @@ fn put_node(units: &mut [u8], at: usize, number: u32, node: Node) -> u32
 }
 
 // A view kept at the place of node `number`, a freed one as its reset: nothing of one that is untouched or broken. Returns how many units there are.
-fn keep_view(f: Folded, number: u32, units: &mut [u8]) -> u32
+pub fn keep_view(f: Folded, number: u32, units: &mut [u8]) -> u32
     requires { ⌜ (f .node .len ≤ 16) × (number < 256) × (length (now units) ≡ 52224) ⌝ }
     ensures { λ r. ⌜ Keeps number (rewrite (viewOf f)) (now (units .entry)) (now (units .exit)) r ⌝ }
 {

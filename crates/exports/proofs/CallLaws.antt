@@ -6,21 +6,23 @@ use native.Mathlib.Omega.{arith}
 use Rattle.chip.specs.declared.geometry.Nand.the-variants.{Small, Large}
 use Rattle.chip.specs.Geometry.{Nand}
 use Rattle.store.specs.Answers.{refusalNumber}
-use Rattle.store.specs.Contracts.{Formats, Mounts, Looks, Inserts, Deletes, Commits, Forecasts, Reports}
+use Rattle.store.specs.Contracts.{Looks, Inserts, Deletes, Commits, Forecasts, Reports}
 use Rattle.store.specs.Lent.{CommitsLent}
 use Rattle.store.specs.Parts.{joined, withFree, updatedWith, wroteWith, wroteFree}
 use Rattle.store.specs.declared.answer.Forecast.{Forecast}
 use Rattle.store.specs.declared.answer.Look.{Look}
 use Rattle.store.specs.declared.answer.Report.{Report}
 use Rattle.store.specs.declared.state.Numbers.{Numbers}
+use Rattle.store.specs.declared.state.State.{State}
 use Rattle.store.specs.declared.state.UpdatedParts.{UpdatedParts}
+use Rattle.store.specs.declared.state.Wrote.{Wrote}
 use Rattle.store.specs.declared.state.WroteParts.{WroteParts}
 use Rattle.exports.specs.declared.finds.Told.{Told}
 use Rattle.exports.specs.declared.finds.Reported.{Reported}
 use Rattle.exports.specs.Told.{lookTold, reportTold}
 use Rattle.exports.specs.Words.{numbersIn, Loads, wordsOf, partIn, partWord}
-use Rattle.exports.proofs.ExactLaws.{Narrow, part-back, words-back, bounds-narrow, format-narrow, mount-narrow}
-use Rattle.exports.specs.Calls.{LooksTold, ForecastsTold, ReportsTold, InsertsTold, DeletesTold, Tells, FormatsAs, MountsAs, Untouched, FormatsTold, MountsTold, CommitsTold}
+use Rattle.exports.proofs.ExactLaws.{Narrow, part-back, words-back, bounds-narrow}
+use Rattle.exports.specs.Calls.{LooksTold, ForecastsTold, ReportsTold, InsertsTold, DeletesTold, Tells, WritesAs, WritesTold, CommitsTold}
 
 -- numbers loaded make a state with blocks and units in 32 bits
 loaded-narrow : (words free : List ℕ) (n : Numbers) → Loads words free n → (buffer lens slots erases : List ℕ) → Narrow (joined n buffer lens slots erases)
@@ -40,18 +42,14 @@ none-named : (Did : Nand → Type 0) (part : ℕ) → 1 < part → (m : Nand) �
 none-named Did part h Small e = absurd (omega arith)
 none-named Did part h Large e = absurd (omega arith)
 
--- what such a call leaves
-module _ (part : ℕ) (h : 1 < part) (allowance : ℕ) (torn words free lens slots erases image : List ℕ) (r : ℕ) (ops : List ℕ) (e : (r ≡ 1) × (ops ≡ 0 ∷ 0 ∷ 0 ∷ [])) where
-  untouched : Untouched words free lens slots erases image r ops words free lens slots erases image
-  untouched = record { refusal = e .0; done = e .1; sameWords = refl; sameFree = refl; sameLens = refl; sameSlots = refl; sameErases = refl; sameImage = refl }
-
-  pub format-unnamed : FormatsTold part allowance torn words free lens slots erases image r ops words free lens slots erases image
-  format-unnamed =
-      record { named = none-named (λ (m : Nand). FormatsAs m allowance torn words free lens slots erases image r ops words free lens slots erases image) part h; unnamed = λ k. untouched }
-
-  pub mount-unnamed : MountsTold part allowance torn words free lens slots erases image r ops words free lens slots erases image
-  mount-unnamed =
-      record { named = none-named (λ (m : Nand). MountsAs m allowance torn words free lens slots erases image r ops words free lens slots erases image) part h; unnamed = λ k. untouched }
+-- what such a call leaves, whatever its contract
+pub unnamed-part : (Contract : Nand → State → List ℕ → Wrote → List ℕ → Type 0) (part : ℕ) → 1 < part → (words free lens slots erases image : List ℕ) (r : ℕ) (ops : List ℕ)
+    → (r ≡ 1) × (ops ≡ 0 ∷ 0 ∷ 0 ∷ []) → WritesTold Contract part words free lens slots erases image r ops words free lens slots erases image
+unnamed-part Contract part h words free lens slots erases image r ops e =
+    record {
+      named = none-named (λ (m : Nand). WritesAs (Contract m) words free lens slots erases image r ops words free lens slots erases image) part h;
+      unnamed = λ k. record { refusal = e .0; done = e .1; sameWords = refl; sameFree = refl; sameLens = refl; sameSlots = refl; sameErases = refl; sameImage = refl };
+    }
 
 -- ---- the calls on the numbers loaded
 module _ (words free : List ℕ) (n : Numbers) (e : Loads words free n) where
@@ -117,44 +115,24 @@ module _ (words free : List ℕ) (n : Numbers) (e : Loads words free n) where
             (bounds-narrow (joined n buffer lens slots []) (joined (u .numbers) buffer' lens slots []) (h [] .bounds) (loaded-narrow words free n e buffer lens slots []));
       }
 
-  pub formatted : (part : ℕ) (nand : Nand) → nand ≡ partIn part → part ≤ 1
-      → (allowance : ℕ) (torn lens slots erases image : List ℕ) (w : WroteParts) (r : ℕ) (ops words' free' lens' slots' erases' image' : List ℕ)
+  -- a call that names its part, where what its contract allows is in 32 bits
+  pub named-part : (Contract : Nand → State → List ℕ → Wrote → List ℕ → Type 0) (part : ℕ) (nand : Nand) → nand ≡ partIn part → part ≤ 1
+      → (lens slots erases image : List ℕ) (w : WroteParts) (r : ℕ) (ops words' free' lens' slots' erases' image' : List ℕ)
       → Tells w r ops words' → free' ≡ w .numbers .free
-      → ((buffer : List ℕ) → Formats nand allowance torn (joined n buffer lens slots erases) image (wroteWith w buffer lens' slots' erases') image')
-      → FormatsTold part allowance torn words free lens slots erases image r ops words' free' lens' slots' erases' image'
-  formatted part nand d l allowance torn lens slots erases image w r ops words' free' lens' slots' erases' image' t q h =
+      → (Narrow (joined n [] lens slots erases) → Contract nand (joined n [] lens slots erases) image (wroteWith w [] lens' slots' erases') image' → Narrow (joined (w .numbers) [] lens' slots' erases'))
+      → ((buffer : List ℕ) → Contract nand (joined n buffer lens slots erases) image (wroteWith w buffer lens' slots' erases') image')
+      → WritesTold Contract part words free lens slots erases image r ops words' free' lens' slots' erases' image'
+  named-part Contract part nand d l lens slots erases image w r ops words' free' lens' slots' erases' image' t q k h =
       record {
         named =
-            as-named (λ (m : Nand). FormatsAs m allowance torn words free lens slots erases image r ops words' free' lens' slots' erases' image') part nand d
+            as-named (λ (m : Nand). WritesAs (Contract m) words free lens slots erases image r ops words' free' lens' slots' erases' image') part nand d
             (record {
               result = w;
-              says = λ (buffer : List ℕ). subst (λ (m : Numbers). Formats nand allowance torn (joined m buffer lens slots erases) image (wroteWith w buffer lens' slots' erases') image') (e .is) (h buffer);
+              says = λ (buffer : List ℕ). subst (λ (m : Numbers). Contract nand (joined m buffer lens slots erases) image (wroteWith w buffer lens' slots' erases') image') (e .is) (h buffer);
               tells = t;
-              exact =
-                  exactly words' free' (w .numbers) [] lens' slots' erases' (t .saved) q
-                  (format-narrow nand allowance torn (joined n [] lens slots erases) image (wroteWith w [] lens' slots' erases') image' (loaded-narrow words free n e [] lens slots erases) (h []));
+              exact = exactly words' free' (w .numbers) [] lens' slots' erases' (t .saved) q (k (loaded-narrow words free n e [] lens slots erases) (h []));
             });
-        unnamed = λ k. absurd (omega (arith, l, k));
-      }
-
-  pub mounted : (part : ℕ) (nand : Nand) → nand ≡ partIn part → part ≤ 1
-      → (allowance : ℕ) (torn lens slots erases image : List ℕ) (w : WroteParts) (r : ℕ) (ops words' free' lens' slots' erases' image' : List ℕ)
-      → Tells w r ops words' → free' ≡ w .numbers .free
-      → ((buffer : List ℕ) → Mounts nand allowance torn (joined n buffer lens slots erases) image (wroteWith w buffer lens' slots' erases') image')
-      → MountsTold part allowance torn words free lens slots erases image r ops words' free' lens' slots' erases' image'
-  mounted part nand d l allowance torn lens slots erases image w r ops words' free' lens' slots' erases' image' t q h =
-      record {
-        named =
-            as-named (λ (m : Nand). MountsAs m allowance torn words free lens slots erases image r ops words' free' lens' slots' erases' image') part nand d
-            (record {
-              result = w;
-              says = λ (buffer : List ℕ). subst (λ (m : Numbers). Mounts nand allowance torn (joined m buffer lens slots erases) image (wroteWith w buffer lens' slots' erases') image') (e .is) (h buffer);
-              tells = t;
-              exact =
-                  exactly words' free' (w .numbers) [] lens' slots' erases' (t .saved) q
-                  (mount-narrow nand allowance torn (joined n [] lens slots erases) image (wroteWith w [] lens' slots' erases') image' (loaded-narrow words free n e [] lens slots erases) (h []));
-            });
-        unnamed = λ k. absurd (omega (arith, l, k));
+        unnamed = λ j. absurd (omega (arith, l, j));
       }
 
   pub committed : (allowance : ℕ) (torn buffer lens slots erases image : List ℕ) (w : WroteParts) (r : ℕ) (ops words' lens' slots' erases' image' : List ℕ)

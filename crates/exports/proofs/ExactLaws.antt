@@ -7,18 +7,20 @@ use Prim.Native.Nat.{ℕ, zero, suc, _%_, _<_}
 use native.Mathlib.Omega.{arith}
 use lib.Dec.{eqb}
 use lib.ListN.{length}
-use Rattle.lists.proofs.Tests.{below-or-not}
+use Rattle.lists.proofs.Tests.{below-or-not, cases}
 use Rattle.chip.specs.declared.geometry.Nand.the-variants.{Small, Large}
 use Rattle.chip.specs.Geometry.{Nand, geometryOf, blocksOf}
 use Rattle.chip.proofs.Sizes.{chip-size}
-use Rattle.promise.specs.Plain.{formats, mounts, firstRefusal}
-use Rattle.promise.specs.Calls.{Meaning, invalid, means}
+use Rattle.tree.specs.Thick.{thin}
+use Rattle.promise.specs.Plain.{formats, mounts, firstRefusal, lastNumber, startRefusal}
+use Rattle.promise.specs.Calls.{Meaning, invalid, means, Rebuilding}
 use Rattle.promise.specs.Image.{imageMeaning}
 use Rattle.store.specs.declared.state.Numbers as N
 use Rattle.store.specs.declared.state.State.{State}
 use Rattle.store.specs.declared.state.Wrote.{Wrote}
 use Rattle.store.specs.State.{turnedOff, geometryIn, Good}
-use Rattle.store.specs.Contracts.{index, Formats, Mounts, KeepsBounds}
+use Rattle.store.specs.Contracts.{index, Formats, Mounts, Rebuilds, KeepsBounds}
+use Rattle.store.specs.Rebuild.{hasFreeBlocks}
 use Rattle.exports.specs.Words.{bit, partIn, partWord, numbersIn, wordsOf}
 
 -- blocks and units of a state in 32 bits
@@ -76,8 +78,25 @@ module _ (m : Nand) (n : ℕ) (torn : List ℕ) (s : State) (i : List ℕ) (r : 
   mount-by f (suc k) e v q = same-narrow s (r .state) (f .says .first .refused k e .1 .state) h
   mount-by f zero e (invalid k) q = off-narrow (f .off e k (f .says .refused e k q .0))
   mount-by f zero e (means K G) q =
-      ⊎-elim (λ l. off-narrow (f .off e 10 (f .says .power e K G q .short l .0))) (λ l. good-narrow (r .state) i' (f .says .done e K G q l .1))
-      (below-or-not n (length (index .mountOps m i)))
+      cases (thin K) (λ t. off-narrow (f .off e 12 (f .says .refusedThin e K G q t .0)))
+      (λ t. ⊎-elim (λ l. off-narrow (f .off e 10 (f .says .power e K G q t .short l .0))) (λ l. good-narrow (r .state) i' (f .says .done e K G q t l .1))
+      (below-or-not n (length (index .mountOps m i))))
 
   pub mount-narrow : Mounts m n torn s i r i' → Narrow (r .state)
   mount-narrow f = mount-by f _ refl _ refl
+
+  rebuild-by : Rebuilds m n torn s i r i' → (k : ℕ) → startRefusal (geometryOf m) (length i) (length torn) ≡ k → (v : Meaning) → imageMeaning (geometryOf m) i ≡ v → Narrow (r .state)
+  rebuild-by f (suc k) e v q = same-narrow s (r .state) (f .says .size k e .2 .state) h
+  rebuild-by f zero e (invalid k) q = off-narrow (f .off e k q)
+  rebuild-by f zero e (means K G) q =
+      ⊎-elim
+      (λ (l : G < lastNumber). cases (hasFreeBlocks (geometryOf m) i)
+      (λ t. let b : Rebuilding index m torn i K G = record { sizes = e; image = q; number = l; blocks = t } in
+      ⊎-elim (λ k. off-narrow (f .cut (f .says .power K G b .short k .0))) (λ k. good-narrow (r .state) i' (f .says .done K G b k .2))
+      (below-or-not n (length (index .rebuildOps m i))))
+      (λ t. same-narrow s (r .state) (f .says .full e K G q l t .2 .state) h))
+      (λ l. same-narrow s (r .state) (f .says .last e K G q l .2 .state) h)
+      (below-or-not G lastNumber)
+
+  pub rebuild-narrow : Rebuilds m n torn s i r i' → Narrow (r .state)
+  rebuild-narrow f = rebuild-by f _ refl _ refl

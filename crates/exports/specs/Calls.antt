@@ -5,12 +5,14 @@ use mathlib.Core.List.{List, [], _∷_}
 use Prim.Native.Nat.{ℕ, _<_}
 use Rattle.chip.specs.Geometry.{Nand}
 use Rattle.store.specs.Answers.{refusalNumber}
-use Rattle.store.specs.Contracts.{Formats, Mounts, Looks, Inserts, Deletes, Commits, Forecasts, Reports}
+use Rattle.store.specs.Contracts.{Formats, Mounts, Rebuilds, Looks, Inserts, Deletes, Commits, Forecasts, Reports}
 use Rattle.store.specs.Parts.{joined, withFree, updatedWith, wroteWith, wroteFree}
 use Rattle.store.specs.declared.answer.Forecast.{Forecast}
 use Rattle.store.specs.declared.answer.Look.{Look}
 use Rattle.store.specs.declared.answer.Report.{Report}
+use Rattle.store.specs.declared.state.State.{State}
 use Rattle.store.specs.declared.state.UpdatedParts.{UpdatedParts}
+use Rattle.store.specs.declared.state.Wrote.{Wrote}
 use Rattle.store.specs.declared.state.WroteParts.{WroteParts}
 use Rattle.exports.specs.Told.{lookTold, reportTold}
 use Rattle.exports.specs.Words.{numbersIn, wordsOf, partWord}
@@ -52,23 +54,17 @@ pub record DeletesTold (key : ℕ) (words free buffer lens slots image : List �
   pub saved : words' ≡ wordsOf (result .numbers)
   pub exact : numbersIn words' free' ≡ result .numbers
 
--- what format, mount and commit tell of a result: the refusal r, the operations by kind, and the words
+-- what format, mount, rebuild and commit tell of a result: the refusal r, the operations by kind, and the words
 pub record Tells (result : WroteParts) (r : ℕ) (ops words' : List ℕ) : Type 0 where
   pub refusal : r ≡ refusalNumber (result .answer)
   pub saved : words' ≡ wordsOf (result .numbers)
   pub done : ops ≡ result .ops .programs ∷ result .ops .marks ∷ result .ops .erases ∷ []
 
--- format as this part, whatever the buffer: the free numbers, the node table, the erases and the image that it leaves
-pub record FormatsAs (nand : Nand) (allowance : ℕ) (torn words free lens slots erases image : List ℕ) (r : ℕ) (ops words' free' lens' slots' erases' image' : List ℕ) : Type 0 where
+-- what a call ensures that names its part and meets this contract, whatever the buffer: the free numbers, the node table, the erases and the image that it leaves
+pub record WritesAs (Contract : State → List ℕ → Wrote → List ℕ → Type 0) (words free lens slots erases image : List ℕ) (r : ℕ)
+    (ops words' free' lens' slots' erases' image' : List ℕ) : Type 0 where
   pub result : WroteParts
-  pub says : (buffer : List ℕ) → Formats nand allowance torn (joined (numbersIn words free) buffer lens slots erases) image (wroteWith result buffer lens' slots' erases') image'
-  pub tells : Tells result r ops words'
-  pub exact : numbersIn words' free' ≡ result .numbers
-
--- mount as this part, whatever the buffer: the same
-pub record MountsAs (nand : Nand) (allowance : ℕ) (torn words free lens slots erases image : List ℕ) (r : ℕ) (ops words' free' lens' slots' erases' image' : List ℕ) : Type 0 where
-  pub result : WroteParts
-  pub says : (buffer : List ℕ) → Mounts nand allowance torn (joined (numbersIn words free) buffer lens slots erases) image (wroteWith result buffer lens' slots' erases') image'
+  pub says : (buffer : List ℕ) → Contract (joined (numbersIn words free) buffer lens slots erases) image (wroteWith result buffer lens' slots' erases') image'
   pub tells : Tells result r ops words'
   pub exact : numbersIn words' free' ≡ result .numbers
 
@@ -83,17 +79,23 @@ pub record Untouched (words free lens slots erases image : List ℕ) (r : ℕ) (
   pub sameErases : erases' ≡ erases
   pub sameImage : image' ≡ image
 
--- format with a number for the part: one that names a part, or one that names none
-pub record FormatsTold (part allowance : ℕ) (torn words free lens slots erases image : List ℕ) (r : ℕ) (ops words' free' lens' slots' erases' image' : List ℕ) : Type 0 where
-  pub named : (nand : Nand) → part ≡ partWord nand → FormatsAs nand allowance torn words free lens slots erases image r ops words' free' lens' slots' erases' image'
+-- with a number for the part: one that names a part, or one that names none
+pub record WritesTold (Contract : Nand → State → List ℕ → Wrote → List ℕ → Type 0) (part : ℕ) (words free lens slots erases image : List ℕ) (r : ℕ)
+    (ops words' free' lens' slots' erases' image' : List ℕ) : Type 0 where
+  pub named : (nand : Nand) → part ≡ partWord nand → WritesAs (Contract nand) words free lens slots erases image r ops words' free' lens' slots' erases' image'
   pub unnamed : 1 < part → Untouched words free lens slots erases image r ops words' free' lens' slots' erases' image'
 
--- mount: the same
-pub record MountsTold (part allowance : ℕ) (torn words free lens slots erases image : List ℕ) (r : ℕ) (ops words' free' lens' slots' erases' image' : List ℕ) : Type 0 where
-  pub named : (nand : Nand) → part ≡ partWord nand → MountsAs nand allowance torn words free lens slots erases image r ops words' free' lens' slots' erases' image'
-  pub unnamed : 1 < part → Untouched words free lens slots erases image r ops words' free' lens' slots' erases' image'
+-- format, mount and rebuild
+abbrev pub FormatsTold : (part allowance : ℕ) (torn words free lens slots erases image : List ℕ) (r : ℕ) (ops words' free' lens' slots' erases' image' : List ℕ) → Type 0
+FormatsTold part allowance torn = WritesTold (λ n. Formats n allowance torn) part
 
--- commit, with the buffer, whatever the free numbers, which stay: as format and mount
+abbrev pub MountsTold : (part allowance : ℕ) (torn words free lens slots erases image : List ℕ) (r : ℕ) (ops words' free' lens' slots' erases' image' : List ℕ) → Type 0
+MountsTold part allowance torn = WritesTold (λ n. Mounts n allowance torn) part
+
+abbrev pub RebuildsTold : (part allowance : ℕ) (torn words free lens slots erases image : List ℕ) (r : ℕ) (ops words' free' lens' slots' erases' image' : List ℕ) → Type 0
+RebuildsTold part allowance torn = WritesTold (λ n. Rebuilds n allowance torn) part
+
+-- commit, with the buffer, whatever the free numbers, which stay: as these
 pub record CommitsTold (allowance : ℕ) (torn words buffer lens slots erases image : List ℕ) (r : ℕ) (ops words' lens' slots' erases' image' : List ℕ) : Type 0 where
   pub result : WroteParts
   pub says : (free : List ℕ) → Commits allowance torn (joined (numbersIn words free) buffer lens slots erases) image (wroteWith (wroteFree result free) buffer lens' slots' erases') image'

@@ -17,10 +17,10 @@ use Rattle.store.specs.declared.state.State.{State}
 use Rattle.store.specs.declared.step.Call.{Call}
 use Rattle.store.specs.declared.step.Call.the-variants.{Format, Insert, Delete, LookUp, Forecast, Commit, Mount}
 use Rattle.store.specs.Answers.{refusalIn}
-use Rattle.store.specs.Contracts.{index}
+use Rattle.store.specs.Contracts.{index, Formats, Mounts}
 use Rattle.store.specs.Lent.{Parts, stateFrom, LentStep, lentStep}
 use Rattle.store.specs.Step.{actOf, answerIn}
-use Rattle.exports.specs.Calls.{LooksTold, ForecastsTold, InsertsTold, DeletesTold, FormatsAs, MountsAs, CommitsTold}
+use Rattle.exports.specs.Calls.{LooksTold, ForecastsTold, InsertsTold, DeletesTold, WritesAs, CommitsTold}
 use Rattle.exports.specs.Told.{valueIn}
 use Rattle.exports.specs.Words.{numbersIn}
 
@@ -42,8 +42,8 @@ module _ (torn : List ℕ) (m : Memory) (i : List ℕ) (r : ℕ) (told : List �
   -- what a call ensures: its contract; and what is lent to it for reading only, or not at all, stays. A format or a mount names a part here:
   -- one with a number that names no part changes nothing, and stands in no list
   abbrev pub Ensures : Call → Type 0
-  Ensures (Format p n) = FormatsAs p n torn (m .words) (m .free) (m .lens) (m .slots) (m .erases) i r told (m' .words) (m' .free) (m' .lens) (m' .slots) (m' .erases) i' × (m' .buffer ≡ m .buffer)
-  Ensures (Mount p n) = MountsAs p n torn (m .words) (m .free) (m .lens) (m .slots) (m .erases) i r told (m' .words) (m' .free) (m' .lens) (m' .slots) (m' .erases) i' × (m' .buffer ≡ m .buffer)
+  Ensures (Format p n) = WritesAs (Formats p n torn) (m .words) (m .free) (m .lens) (m .slots) (m .erases) i r told (m' .words) (m' .free) (m' .lens) (m' .slots) (m' .erases) i' × (m' .buffer ≡ m .buffer)
+  Ensures (Mount p n) = WritesAs (Mounts p n torn) (m .words) (m .free) (m .lens) (m .slots) (m .erases) i r told (m' .words) (m' .free) (m' .lens) (m' .slots) (m' .erases) i' × (m' .buffer ≡ m .buffer)
   Ensures (Commit n) = CommitsTold n torn (m .words) (m .buffer) (m .lens) (m .slots) (m .erases) i r told (m' .words) (m' .lens) (m' .slots) (m' .erases) i' × (m' .buffer ≡ m .buffer) × (m' .free ≡ m .free)
   Ensures (Insert k v) =
       InsertsTold k v (m .words) (m .free) (m .buffer) (m .lens) (m .slots) i r (m' .words) (m' .free) (m' .buffer) × (m' .lens ≡ m .lens) × (m' .slots ≡ m .slots) × (m' .erases ≡ m .erases) × (i' ≡ i)

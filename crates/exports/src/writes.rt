@@ -1,12 +1,13 @@
-// Format, mount and commit.
+// Format, mount, rebuild and commit.
 ghost use mathlib.Core.Path.{_≡_};
 ghost use mathlib.Core.List.{[], _∷_};
-ghost use Rattle.exports.specs.Calls.{Tells, FormatsTold, MountsTold, CommitsTold};
+ghost use Rattle.exports.specs.Calls.{Tells, FormatsTold, MountsTold, RebuildsTold, CommitsTold};
 use crate::numbers;
 use store::answer;
 use store::commit;
 use store::format;
 use store::mount;
+use store::rebuild;
 use store::state::WroteParts;
 
 // What a call gave back: its numbers and its counts of operations written to the caller's words, and its refusal, 0 for none.
@@ -82,6 +83,35 @@ pub extern "C" fn vehinoke_mount(
     let nand = numbers::part_in(part);
     let n = numbers::load_free(numbers, free);
     let w = mount::mount_lent(n, nand, lens, slots, erases, image, torn, allowance);
+    let after = w.numbers;
+    let left = after.free;
+    *free = left;
+    give(w, numbers, ops)
+}
+
+// Rebuild as the part named, by the same numbers: the refusal, and in `ops` the operations done: data programs, marks set, erases.
+#[no_mangle]
+pub extern "C" fn vehinoke_rebuild(
+    numbers: &mut [u32; 6],
+    free: &mut [u64; 4],
+    lens: &mut [u32; 256],
+    slots: &mut [u32; 1024],
+    erases: &mut [u64; 32],
+    image: &mut [u8],
+    torn: &[u8],
+    part: u32,
+    allowance: u32,
+    ops: &mut [u32; 3],
+) -> u32
+    ensures { λ r. ⌜ RebuildsTold part allowance (now (torn .entry)) (now (numbers .entry)) (now (free .entry)) (now (lens .entry)) (now (slots .entry)) (now (erases .entry)) (now (image .entry))
+        r (now (ops .exit)) (now (numbers .exit)) (now (free .exit)) (now (lens .exit)) (now (slots .exit)) (now (erases .exit)) (now (image .exit)) ⌝ }
+{
+    if 1 < part {
+        return no_part(ops);
+    }
+    let nand = numbers::part_in(part);
+    let n = numbers::load_free(numbers, free);
+    let w = rebuild::rebuild_lent(n, nand, lens, slots, erases, image, torn, allowance);
     let after = w.numbers;
     let left = after.free;
     *free = left;

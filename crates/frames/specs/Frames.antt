@@ -9,7 +9,7 @@ use Rattle.chip.specs.declared.geometry.Nand.the-variants.{Small}
 use Rattle.store.specs.declared.step.Call.{Call}
 use Rattle.store.specs.declared.step.Call.the-variants.{Format, Insert, Delete, LookUp, Commit, Mount}
 use Rattle.store.specs.declared.answer.Answer.{Answer}
-use Rattle.store.specs.declared.answer.Answer.the-variants.{Accepted, Found, Size, Off, Full, Absent, Nodes, Last, Blank, Layout, Shape, Cut}
+use Rattle.store.specs.declared.answer.Answer.the-variants.{Accepted, Found, Size, Off, Full, Absent, Nodes, Last, Blank, Layout, Shape, Cut, Thin}
 use Rattle.store.specs.Answers.{refusalNumber}
 
 -- the number of a digit, 0 to 9 and A to F; 16 for a byte that is no digit
@@ -93,6 +93,7 @@ valueText Blank = []
 valueText Layout = []
 valueText Shape = []
 valueText Cut = []
+valueText Thin = []
 
 -- the refusal in two digits, 00 for none, then the value found
 unfoldable pub answerText : Answer → List ℕ

@@ -75,6 +75,7 @@ pub fn answer_text(answer: Answer) -> Text
         Answer::Layout => short_text(8),
         Answer::Shape => short_text(9),
         Answer::Cut => short_text(10),
+        Answer::Thin => short_text(12),
     }
 }
 

@@ -113,6 +113,11 @@ module _ (T : ℕ → Node) (us : List U.Unit) (limit : ℕ) (valids : All (Vali
       cases (a n) (λ t. suits-anew T us n f fair (e ∙ rw t))
       (λ t. suits-own T us n f valids (e ∙ rw t) (λ l. cases (any isReset (own n us) || leb 4 (length (T n .pages))) (λ b. clash (h l b) t) (λ b. b)))
 
+-- where a node has a page there is one
+pub assigned-some : (c : ℕ) (s : Target) → Assigned c s → 0 < c
+assigned-some c unwritten x = absurd x
+assigned-some c (inPage q) x = omega arith
+
 -- ---- the pages of an admissible plan
 module _ {g : Geometry} {limit B : ℕ} {torn : List ℕ} (ch : Chip g limit B torn) {ps : List Page} {tb : List Node} {G : ℕ} {us : List U.Unit}
     (rd : Committable g limit B ps tb G us) (pending : 0 < length us) (A : Assignment) (ad : Admissible g limit B ps tb G (contentsOf (nodeIn g limit ps) us) A) where
@@ -141,10 +146,6 @@ module _ {g : Geometry} {limit B : ℕ} {torn : List ℕ} (ch : Chip g limit B t
 
   suits-node : (n : ℕ) → n < limit → Suits T us f n
   suits-node n l = suits-by T us limit (rd .valid) n (rd .fair n l) f (A .isAnew) refl (ad .forced n l)
-
-  assigned-some : (c : ℕ) (s : Target) → Assigned c s → 0 < c
-  assigned-some c unwritten x = absurd x
-  assigned-some c (inPage q) x = omega arith
 
   some-page : 0 < A .count
   some-page = go us refl
@@ -269,7 +270,7 @@ module _ {g : Geometry} {limit B : ℕ} {torn : List ℕ} (ch : Chip g limit B t
         legal = legal ch rd choice;
         sizes = λ n. commit-sized g torn (Q .erased) (newsOf g G Q) ps n (ch .torn-size) (plan ch rd choice .sizes) (rd .sizes);
         long = λ n. run-length g torn (with-power n ps) (opsOf g G Q);
-        page-free = page-left ch rd choice;
+        page-free = page-left ch rd choice (omega (arith, pp-count, ad .enough));
         rests = λ n l N D.
             All-map
             (λ b s m. no-plan g limit B (imageAfter g torn ps G Q n) (tab 0 limit (nodeAfter g limit ps G Q)) (suc G) N D b (next-head n l) s m)

@@ -7,8 +7,7 @@ use mathlib.Core.List.{List, [], _∷_, map, foldl}
 use Prim.Native.Nat.{ℕ, suc, _+_, _*_, _^_, _≤_, _<_}
 use native.Mathlib.Nat.{mul-le-mul-right}
 use native.Mathlib.Omega.{arith}
-use lib.ListN.{getD, length, take}
-use lib.Seq.{length-take-le}
+use lib.ListN.{getD, length, length-take, take}
 use Rattle.lists.specs.Lists.{All, At, all, any, flat, tab, Diff, more, none}
 use Rattle.lists.proofs.Alls.{All-filter, All-map, All-zip, All-append, All-head, All-tail}
 use Rattle.lists.proofs.Sets.{All-pull, All-push, All-unflat, diff-take}
@@ -97,7 +96,7 @@ groups-at P [] pp h = none
 groups-at P (w ∷ ws) [] h = none
 groups-at P (w ∷ ws) (p ∷ pp) h = All-append (groups-one P w p (All-head h)) (groups-at P ws pp (All-tail h))
 
--- ---- what is chosen: updates for each node, pages of them, the head, and unused blocks with places enough for the pages and one more
+-- ---- what is chosen: updates for each node, pages of them, the head, and unused blocks with places enough for the pages
 pub record Choice (g : Geometry) (limit B : ℕ) (ps : List Page) (tb : List Node) (G : ℕ) (us : List U.Unit) : Type 0 where
   pub update : ℕ → List Update
   pub suits : (n : ℕ) → n < limit → Suits (nodeIn g limit ps) us update n
@@ -114,7 +113,7 @@ pub record Choice (g : Geometry) (limit B : ℕ) (ps : List Page) (tb : List Nod
   pub blocks : List ℕ
   pub diff : Diff blocks
   pub are : All (λ b. (b < B) × (b ≡ head → ⊥) × (isUsed g tb G (liveFrom g 0 ps) b ≡ false)) blocks
-  pub enough : suc (length pages) ≤ length (places g ps head blocks)
+  pub enough : length pages ≤ length (places g ps head blocks)
 
 -- ---- the commit
 module _ {g : Geometry} {limit B : ℕ} {torn : List ℕ} (ch : Chip g limit B torn) {ps : List Page} {tb : List Node} {G : ℕ} {us : List U.Unit}
@@ -140,7 +139,7 @@ module _ {g : Geometry} {limit B : ℕ} {torn : List ℕ} (ch : Chip g limit B t
   abbrev pub ks : List Pack
   ks = flat (λ (p : List Pack). p) pp
 
-  -- the places: one for each page, and one over
+  -- the places: one for each page, and one over where there is one
   abbrev pub ws : List ℕ
   ws = take (suc (length pp)) (places g ps head bs)
 
@@ -170,7 +169,7 @@ module _ {g : Geometry} {limit B : ℕ} {torn : List ℕ} (ch : Chip g limit B t
 
   -- a place for each page
   pub ws-many : length pp ≤ length ws
-  ws-many = omega (arith, length-take-le (suc (length pp)) (places g ps head bs) (C .enough))
+  ws-many = omega (arith, length-take (suc (length pp)) (places g ps head bs), C .enough)
 
   groups-are : map ungroup (groupsOf ts) ≡ ks
   groups-are = sheets-groups ws pp ws-many

@@ -126,12 +126,12 @@ module _ {g : Geometry} {limit B : ℕ} {torn : List ℕ} (ch : Chip g limit B t
   blank-after : (n p : ℕ) → length (commitOps E N) ≤ n → At p (blank g) (cleared g E ps) → All (λ x. x .place ≡ p → ⊥) N → freeAt (I n) p ≡ true
   blank-after n p l a d = at-free g (I n) p (rw (run-done-is g torn E N n ps l) (others-stay g N p (blank g) (cleared g E ps) d a))
 
-  -- a finished commit leaves a page free
-  pub page-left : (n : ℕ) → length (commitOps E N) ≤ n → 0 < count isFree (I n)
-  page-left n l =
+  -- with a place more than pages a finished commit leaves a page free
+  pub page-left : suc (length (C .pages)) ≤ length (places g ps (C .head) (C .blocks)) → (n : ℕ) → length (commitOps E N) ≤ n → 0 < count isFree (I n)
+  page-left over n l =
       let m = length (C .pages) in
       let r = left-over g (suc G) (length (ts ch rd C)) 0 W (C .pages)
-      (ws-diff ch rd C) (omega (arith, length-take-le (suc m) (places g ps (C .head) (C .blocks)) (C .enough))) in
+      (ws-diff ch rd C) (omega (arith, length-take-le (suc m) (places g ps (C .head) (C .blocks)) over)) in
       count-some isFree (I n) (r .place) (0 ∷ []) zero-used
       (blank-after n (r .place) l
       (mem-at (r .mem) (places-blank g ps (C .head) (C .blocks) (suc m) (rd .sizes) (All-map (λ b h. in-image ch rd C b (h .0)) (C .are))))

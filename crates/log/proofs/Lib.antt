@@ -28,3 +28,8 @@ pub mod AssignedRest
 pub mod AdmissibleLaws
 pub mod PolicyLaws
 pub mod PolicyExamples
+pub mod RebuildBuffer
+pub mod RebuildBlocks
+pub mod RebuildLaws
+pub mod RebuildMarks
+pub mod RebuildSafe

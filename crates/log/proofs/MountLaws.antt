@@ -172,7 +172,7 @@ module _ (g : Geometry) (ps : List Page) (v xs : List Live) (e : steps g ps ≡ 
       r (f .voided .same)))
 
   -- no two at one place
-  void-apart : (f : Found g ps v xs) → Apart (voidPages g ps)
+  pub void-apart : (f : Found g ps v xs) → Apart (voidPages g ps)
   void-apart f =
       let a : Apart (inOrder g ps) = apart-sort _ (liveFrom g 0 ps) (apart-live g 0 ps) in
       rw void-pages (apart-sort lowerPlace v (apart-right (f .s ++ (f .z ∷ [])) v (rw (f .order) at a)))

@@ -18,7 +18,7 @@ module _ {A : Type 0} where
   getD-modify : (n : ℕ) (f : A → A) (xs : List A) (d : A) → n < length xs → getD (modify n f xs) n d ≡ f (getD xs n d)
   getD-modify n f xs d h = At-is n (f (getD xs n d)) (modify n f xs) d (At-same f n (getD xs n d) xs (At-getD n xs d h))
 
-  getD-modify-other : (m n : ℕ) (f : A → A) (xs : List A) (d : A) → (m ≡ n → ⊥) → getD (modify m f xs) n d ≡ getD xs n d
+  pub getD-modify-other : (m n : ℕ) (f : A → A) (xs : List A) (d : A) → (m ≡ n → ⊥) → getD (modify m f xs) n d ≡ getD xs n d
   getD-modify-other m n f [] d h = refl
   getD-modify-other zero zero f (x ∷ xs) d h = absurd (h refl)
   getD-modify-other zero (suc n) f (x ∷ xs) d h = refl

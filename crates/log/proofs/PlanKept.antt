@@ -49,7 +49,7 @@ module _ (g : Geometry) (f : Fits g) where
   chip-of B torn e = record { part = f; torn-size = e; lim = refl }
 
   -- one spare block, and one more for every 8
-  spare-few : (B : ℕ) → spareBlocks g B ≤ B / 8 + 1
+  pub spare-few : (B : ℕ) → spareBlocks g B ≤ B / 8 + 1
   spare-few B =
       let n : ℕ = 4 * B / g .pages in
       let m : n * 32 ≤ n * g .pages = mul-le-mul-left n (f .many) in

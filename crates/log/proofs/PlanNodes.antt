@@ -178,7 +178,7 @@ length-rewrite nothing = omega arith
 length-rewrite (released a) = omega arith
 length-rewrite (some {es = es} a b c d) = omega (arith, length-map es inserted)
 
-valid-rewrite : {w : View} → Fair w → All ValidUpdate (rewrite w)
+pub valid-rewrite : {w : View} → Fair w → All ValidUpdate (rewrite w)
 valid-rewrite nothing = none
 valid-rewrite (released a) = more a none
 valid-rewrite (some {l = l} a b c d) = more (level-value l a) (go d)

@@ -1,16 +1,17 @@
 -- Room before the first commit and between commits: a format gives it, obsolete marks keep it, cut or not. Assumes nothing.
-use mathlib.Core.Path.{_≡_, refl, sym, ap}
+use mathlib.Core.Path.{_≡_, refl, sym, ap, _∙_}
 use mathlib.Core.Bool.{true, false}
-use mathlib.Core.List.{List, [], _∷_, map}
+use mathlib.Core.List.{List, [], _∷_, _++_, append-assoc, map}
 use Prim.Native.Nat.{ℕ, zero, suc, _+_, _≤_, _<_}
 use native.Mathlib.Omega.{arith}
-use lib.ListN.{getD}
+use lib.ListN.{getD, length, length-append}
 use Rattle.lists.specs.Lists.{All, At, modify, more, none, tab}
 use Rattle.lists.proofs.Alls.{All-head, All-map, All-tail, All-zip}
 use Rattle.lists.proofs.Flats.{length-tab}
-use Rattle.lists.proofs.Places.{At-other}
+use Rattle.lists.proofs.Places.{At-other, at-seam}
 use Rattle.lists.proofs.Sets.{mem-at, tab-diff, tab-range}
 use Rattle.lists.proofs.Sorts.{sort-All}
+use Rattle.lists.proofs.Tests.{cases}
 use Rattle.chip.specs.declared.page.Mark.the-variants.{Obsolete}
 use Rattle.chip.specs.Geometry.{Geometry}
 use Rattle.chip.specs.Page.{Page, isLive, marked}
@@ -33,8 +34,30 @@ pub record LiveAt (g : Geometry) (ps : List Page) (x : Live) : Type 0 where
   pub stands : At (x .place) page ps
   pub lives : isLive g page ≡ true
 
+-- every live page is such a one
+pub live-from : (g : Geometry) (pre ps : List Page) (i : ℕ) → i ≡ length pre → All (LiveAt g (pre ++ ps)) (liveFrom g i ps)
+live-from g pre [] i e = none
+live-from g pre (x ∷ xs) i e =
+    let a : At i x (pre ++ x ∷ xs) = rw e (at-seam pre x xs) in
+    let r : All (LiveAt g ((pre ++ (x ∷ [])) ++ xs)) (liveFrom g (suc i) xs)
+    = live-from g (pre ++ (x ∷ [])) xs (suc i) (ap suc e ∙ sym (length-append pre (x ∷ []) ∙ omega arith)) in
+    let q : All (LiveAt g (pre ++ x ∷ xs)) (liveFrom g (suc i) xs) = (rw (append-assoc pre (x ∷ []) xs) at r) in
+    cases (isLive g x) (λ t. rw t (more {x = live g i x} (record { page = x; stands = a; lives = t }) q)) (λ t. rw t q)
+
 abbrev pub obsoletes : List Live → List Op
 obsoletes w = map (λ (x : Live). mark (x .place) Obsolete) w
+
+-- the mark of another page leaves it so
+pub still-live : (g : Geometry) (x : Live) {w : List Live} (ps : List Page) → All (λ (y : Live). y .place ≡ x .place → ⊥) w → All (LiveAt g ps) w
+    → All (LiveAt g (modify (x .place) (marked g Obsolete 0) ps)) w
+still-live g x ps a m =
+    All-zip {R = LiveAt g (modify (x .place) (marked g Obsolete 0) ps)}
+    (λ y d k.
+    record {
+      page = k .page;
+      stands = At-other (marked g Obsolete 0) (x .place) (y .place) (k .page) ps (λ e. d (sym e)) (k .stands);
+      lives = k .lives;
+    }) a m
 
 module _ (g : Geometry) (P : Live → Type 0) where
   mark-lives : (v p : ℕ) (x : Page) (ps : List Page) → At p x ps → isLive g x ≡ true → All P (liveFrom g 0 ps)
@@ -43,24 +66,13 @@ module _ (g : Geometry) (P : Live → Type 0) where
       let same : live g p (marked g Obsolete v x) ≡ live g p x = ap (λ (b : List ℕ). record { place = p; bytes = b }) (marked-data g Obsolete v x) in
       live-modify g P (marked g Obsolete v) p 0 p x ps (omega arith) a (λ t. rw same (mem-at (live-mem g 0 p p x ps (omega arith) a l) h)) h
 
-  still-live : (x : Live) {w : List Live} (ps : List Page) → All (λ (y : Live). y .place ≡ x .place → ⊥) w → All (LiveAt g ps) w
-      → All (LiveAt g (modify (x .place) (marked g Obsolete 0) ps)) w
-  still-live x ps a m =
-      All-zip {R = LiveAt g (modify (x .place) (marked g Obsolete 0) ps)}
-      (λ y d k.
-      record {
-        page = k .page;
-        stands = At-other (marked g Obsolete 0) (x .place) (y .place) (k .page) ps (λ e. d (sym e)) (k .stands);
-        lives = k .lives;
-      }) a m
-
   pub marks-lives : (torn : List ℕ) (w : List Live) (n : ℕ) (ps : List Page) → All (LiveAt g ps) w → Apart w → All P (liveFrom g 0 ps)
       → All P (liveFrom g 0 (after g torn n ps (obsoletes w)))
   marks-lives torn [] n ps m a h = h
   marks-lives torn (x ∷ w) zero ps m a h = let k = All-head m in mark-lives (getD torn 0 0) (x .place) (k .page) ps (k .stands) (k .lives) h
   marks-lives torn (x ∷ w) (suc n) ps m a h =
       let k = All-head m in
-      marks-lives torn w n (modify (x .place) (marked g Obsolete 0) ps) (still-live x ps (a .0) (All-tail m)) (a .1)
+      marks-lives torn w n (modify (x .place) (marked g Obsolete 0) ps) (still-live g x ps (a .0) (All-tail m)) (a .1)
       (mark-lives 0 (x .place) (k .page) ps (k .stands) (k .lives) h)
 
 -- so room stays, for any allowance and torn bytes

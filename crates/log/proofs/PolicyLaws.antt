@@ -197,7 +197,7 @@ no-second true b c e = clash refl e
 no-second false true c e = e
 no-second false false c e = refl
 
-is-assigned : (c : ℕ) (x : Target) → isUnwritten x ≡ false → Below c x → Assigned c x
+pub is-assigned : (c : ℕ) (x : Target) → isUnwritten x ≡ false → Below c x → Assigned c x
 is-assigned c unwritten e b = clash refl e
 is-assigned c (inPage p) e b = b
 

@@ -6,4 +6,5 @@ pub mod Plan
 pub mod Admissible
 pub mod Packing
 pub mod Policy
+pub mod Rebuild
 pub mod PlanCode

@@ -24,3 +24,7 @@ retireOne g c p x = cond (isOf g c x) (mark p Obsolete ∷ []) []
 -- the marks of all live pages of commit c, lowest place first
 abbrev pub retireOps : Geometry → ℕ → List Page → List Op
 retireOps g c ps = map retire (filter (ofCommit c) (liveFrom g 0 ps))
+
+-- the marks of a mount where the void pages are those of commit v, none for 0
+abbrev pub marksOf : Geometry → ℕ → List Page → List Op
+marksOf g v ps = cond (eqb v 0) [] (retireOps g v ps)

@@ -6,7 +6,7 @@ ghost use lib.ListN.{getD, length};
 ghost use Rattle.chip.specs.Geometry.{Fits, pageSize};
 ghost use Rattle.chip.specs.Chip.{pagesOf};
 ghost use Rattle.chip.specs.RunCode.{Ran};
-ghost use Rattle.log.specs.MountCode.{isOf, retireOne, retireOps};
+ghost use Rattle.log.specs.MountCode.{isOf, marksOf, retireOne, retireOps};
 use chip::geometry::Geometry;
 use chip::image;
 use chip::page;
@@ -47,7 +47,7 @@ fn retire_at(
 }
 
 // Every live page of the commit marked, lowest place first, as far as the power goes.
-pub fn retire(
+fn retire_all(
     geometry: Geometry,
     image: &mut [u8],
     commit: u32,
@@ -65,4 +65,21 @@ pub fn retire(
         at += 1;
     }
     reached
+}
+
+// The obsolete mark set on each page of the void commit; 0 says that there is none.
+pub fn retire(
+    geometry: Geometry,
+    image: &mut [u8],
+    void: u32,
+    torn: &[u8],
+    progress: Progress,
+) -> Progress
+    requires { ⌜ (length (now image) % pageSize geometry ≡ 0) × (length (now torn) ≡ pageSize geometry) × Fits geometry ⌝ }
+    ensures { λ r. ⌜ Ran geometry (now (torn .entry)) (marksOf geometry void (pagesOf geometry (now (image .entry)))) progress r (now (image .entry)) (now (image .exit)) ⌝ }
+{
+    if void == 0 {
+        return progress;
+    }
+    retire_all(geometry, image, void, torn, progress)
 }

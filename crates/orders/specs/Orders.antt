@@ -6,7 +6,7 @@ use lib.Dec.{ltb, eqb}
 use lib.ListN.{length, take, drop}
 use Rattle.chip.specs.declared.geometry.Nand.the-variants.{Small, Large}
 use Rattle.frames.specs.Frames.{allDigits, value, kindOf, numberAt}
-use Rattle.orders.specs.declared.order.Call.the-variants.{Format, Insert, Delete, LookUp, Commit, Mount, Report, Show, Forecast}
+use Rattle.orders.specs.declared.order.Call.the-variants.{Format, Insert, Delete, LookUp, Commit, Mount, Rebuild, Report, Show, Forecast}
 use Rattle.orders.specs.declared.order.Setting.the-variants.{Lend, Cut, SetImage, SetTorn, LendTorn, Sum, Noise, Name}
 use Rattle.orders.specs.declared.order.Order.{Order}
 use Rattle.orders.specs.declared.order.Order.the-variants.{NoFrame, Calls, Sets}
@@ -23,7 +23,7 @@ partOf byte = cond (eqb byte 0) (Sets (Name Small)) (cond (eqb byte 1) (Sets (Na
 abbrev pub named : ℕ → ℕ → Order
 named kind byte = cond (eqb kind 23) (partOf byte) NoFrame
 
--- 00 format, 04 commit and 05 mount with an allowance; 02 delete and 03 look up a key; 06 report a block; 07 show a page
+-- 00 format, 04 commit, 05 mount and 0A rebuild with an allowance; 02 delete and 03 look up a key; 06 report a block; 07 show a page
 abbrev pub callOf : ℕ → ℕ → Order
 callOf kind n =
     cond (eqb kind 0) (Calls (Format n))
@@ -32,7 +32,8 @@ callOf kind n =
     (cond (eqb kind 4) (Calls (Commit n))
     (cond (eqb kind 5) (Calls (Mount n))
     (cond (eqb kind 6) (Calls (Report n))
-    (cond (eqb kind 7) (Calls (Show n)) NoFrame))))))
+    (cond (eqb kind 7) (Calls (Show n))
+    (cond (eqb kind 10) (Calls (Rebuild n)) NoFrame)))))))
 
 -- 10 lend blocks; 11 lend a length; 14 lend torn bytes; 16 noise from a seed
 abbrev pub settingOf : ℕ → ℕ → Order

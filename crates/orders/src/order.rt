@@ -14,13 +14,14 @@ pub enum Call {
     LookUp(u32),
     Commit(u32),
     Mount(u32),
+    Rebuild(u32),
     Report(u32),
     Show(u32),
     Forecast,
 }
 
 // What is done to the bytes that the calls are lent: so many blocks lent, so many bytes, a byte of the image or a torn byte set at an
-// offset, so many torn bytes lent, the sum of the image told, noise from a seed; and the part that format, mount and show name.
+// offset, so many torn bytes lent, the sum of the image told, noise from a seed; and the part that format, mount, rebuild and show name.
 pub enum Setting {
     Lend(u32),
     Cut(u32),
@@ -87,6 +88,7 @@ fn call_of(kind: u32, n: u32) -> Order
         5 => Order::Calls(Call::Mount(n)),
         6 => Order::Calls(Call::Report(n)),
         7 => Order::Calls(Call::Show(n)),
+        10 => Order::Calls(Call::Rebuild(n)),
         _ => Order::NoFrame,
     }
 }

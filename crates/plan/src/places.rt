@@ -76,7 +76,7 @@ fn page_of(geometry: Geometry, ring: &[u32], j: usize) -> u32
 }
 
 // Places from `n` to `need` filled with the pages of the first `width` blocks of the ring.
-fn put_rest(
+pub fn put_rest(
     geometry: Geometry,
     ring: &[u32],
     blocks: usize,
@@ -138,6 +138,17 @@ pub fn lay_places(
     lay_in(geometry, image, blocks, head, ring, width, need, places)
 }
 
+// Are all pages of the block free?
+pub fn is_wholly_free(geometry: Geometry, image: &[u8], at: usize) -> bool
+    requires { ⌜ (at * geometry .pages + geometry .pages ≤ length (now image) / pageSize geometry) × Fits geometry ⌝ }
+    ensures { λ r. ⌜ r ≡ whollyFree geometry (pagesOf geometry (now (image .entry))) at ⌝ }
+{
+    let size = geometry.pages * (geometry.area + geometry.spare);
+    let a = at * size;
+    let e = a + size;
+    page::is_free(&image[a..e])
+}
+
 // Is the block to be erased: `left` places are still to be reached, and not all its pages are free?
 fn is_erased(geometry: Geometry, image: &[u8], at: usize, left: usize) -> bool
     requires { ⌜ (at * geometry .pages + geometry .pages ≤ length (now image) / pageSize geometry) × Fits geometry ⌝ }
@@ -146,10 +157,7 @@ fn is_erased(geometry: Geometry, image: &[u8], at: usize, left: usize) -> bool
     if left == 0 {
         return false;
     }
-    let size = geometry.pages * (geometry.area + geometry.spare);
-    let a = at * size;
-    let e = a + size;
-    !page::is_free(&image[a..e])
+    !is_wholly_free(geometry, image, at)
 }
 
 // The blocks to erase, with the arrays as slices.

@@ -13,12 +13,12 @@ use Rattle.store.specs.declared.state.Wrote.{Wrote}
 use Rattle.store.specs.declared.state.Updated.{Updated}
 use Rattle.store.specs.declared.step.Call.the-variants as S
 use Rattle.store.specs.Answers.{answerOf, lookOf}
-use Rattle.store.specs.Contracts.{Formats, Mounts, Looks, Inserts, Deletes, Commits, Forecasts}
+use Rattle.store.specs.Contracts.{Formats, Mounts, Rebuilds, Looks, Inserts, Deletes, Commits, Forecasts}
 use Rattle.store.proofs.RunsToLaws.{runs-none, runs-one}
 use Rattle.frames.specs.declared.line.Line.{Line}
 use Rattle.orders.specs.OrderCode.{Orders}
 use Rattle.orders.specs.declared.order.Call.{Call}
-use Rattle.orders.specs.declared.order.Call.the-variants.{Format, Insert, Delete, LookUp, Commit, Mount, Report, Show, Forecast}
+use Rattle.orders.specs.declared.order.Call.the-variants.{Format, Insert, Delete, LookUp, Commit, Mount, Rebuild, Report, Show, Forecast}
 use Rattle.orders.specs.declared.order.Setting.{Setting}
 use Rattle.orders.specs.declared.order.Order.{Order}
 use Rattle.orders.specs.declared.order.Order.the-variants.{NoFrame, Calls, Sets}
@@ -35,6 +35,9 @@ module _ (nand : Nand) (call : Call) (torn : List ℕ) (s : State) (i : List ℕ
 
   pub makes-mount : (n : ℕ) → call ≡ Mount n → (w : Wrote) (i' : List ℕ) → s' ≡ w .state → Mounts nand n torn s i w i' → Makes nand call torn s i s' i'
   makes-mount n e w i' q h = by (Mount n) e (w .state) q i' (runs-one torn (S.Mount nand n) s i (answerOf (w .answer)) (total (w .ops)) (w .state) i' (h .says))
+
+  pub makes-rebuild : (n : ℕ) → call ≡ Rebuild n → (w : Wrote) (i' : List ℕ) → s' ≡ w .state → Rebuilds nand n torn s i w i' → Makes nand call torn s i s' i'
+  makes-rebuild n e w i' q h = by (Rebuild n) e (w .state) q i' (record { wrote = w; says = h; state = refl })
 
   pub makes-commit : (n : ℕ) → call ≡ Commit n → (w : Wrote) (i' : List ℕ) → s' ≡ w .state → Commits n torn s i w i' → Makes nand call torn s i s' i'
   makes-commit n e w i' q h = by (Commit n) e (w .state) q i' (runs-one torn (S.Commit n) s i (answerOf (w .answer)) (total (w .ops)) (w .state) i' (h .says))

@@ -5,7 +5,8 @@ use Prim.Native.Nat.{ℕ, min}
 use lib.ListN.{length, take, drop}
 use Rattle.chip.specs.Geometry.{Nand}
 use Rattle.store.specs.declared.state.State.{State}
-use Rattle.store.specs.declared.step.Call as Step
+use Rattle.store.specs.declared.state.Wrote.{Wrote}
+use Rattle.store.specs.Contracts.{Rebuilds}
 use Rattle.store.specs.declared.step.Call.the-variants as S
 use Rattle.store.specs.RunsTo.{RunsTo}
 use Rattle.frames.specs.declared.line.Line.{Line}
@@ -15,24 +16,27 @@ use Rattle.orders.specs.Orders.{orderOf}
 use Rattle.orders.specs.declared.order.Call.{Call}
 use Rattle.orders.specs.declared.order.Order.{Order}
 use Rattle.orders.specs.declared.order.Order.the-variants.{NoFrame, Calls, Sets}
-use Rattle.orders.specs.declared.order.Call.the-variants.{Format, Insert, Delete, LookUp, Commit, Mount, Report, Show, Forecast}
+use Rattle.orders.specs.declared.order.Call.the-variants.{Format, Insert, Delete, LookUp, Commit, Mount, Rebuild, Report, Show, Forecast}
 use Rattle.probe.specs.declared.bed.Bed.{Bed}
 
--- the call as one of the store's, where a format and a mount name the part; none for a block report and for show
-abbrev pub storeCalls : Nand → Call → List Step.Call
-storeCalls nand (Format n) = S.Format nand n ∷ []
-storeCalls nand (Insert k v) = S.Insert k v ∷ []
-storeCalls nand (Delete k) = S.Delete k ∷ []
-storeCalls nand (LookUp k) = S.LookUp k ∷ []
-storeCalls nand (Commit n) = S.Commit n ∷ []
-storeCalls nand (Mount n) = S.Mount nand n ∷ []
-storeCalls nand (Report b) = []
-storeCalls nand (Show p) = []
-storeCalls nand Forecast = S.Forecast ∷ []
+-- a rebuild with this allowance, from state and image to state and image
+pub record RebuildsTo (nand : Nand) (allowance : ℕ) (torn : List ℕ) (s : State) (i : List ℕ) (s' : State) (i' : List ℕ) : Type 0 where
+  pub wrote : Wrote
+  pub says : Rebuilds nand allowance torn s i wrote i'
+  pub state : s' ≡ wrote .state
 
--- a call on what it is lent, and with the part that it names
+-- a call on what it is lent: one of a list, where a format and a mount name the part; a rebuild, which stands in no list and names it too; or a block report or show, which change nothing
 abbrev pub Makes : Nand → Call → (torn : List ℕ) (s : State) (i : List ℕ) (s' : State) (i' : List ℕ) → Type 0
-Makes nand c torn s i s' i' = RunsTo torn (storeCalls nand c) s i s' i'
+Makes nand (Format n) torn s i s' i' = RunsTo torn (S.Format nand n ∷ []) s i s' i'
+Makes nand (Insert k v) torn s i s' i' = RunsTo torn (S.Insert k v ∷ []) s i s' i'
+Makes nand (Delete k) torn s i s' i' = RunsTo torn (S.Delete k ∷ []) s i s' i'
+Makes nand (LookUp k) torn s i s' i' = RunsTo torn (S.LookUp k ∷ []) s i s' i'
+Makes nand (Commit n) torn s i s' i' = RunsTo torn (S.Commit n ∷ []) s i s' i'
+Makes nand (Mount n) torn s i s' i' = RunsTo torn (S.Mount nand n ∷ []) s i s' i'
+Makes nand (Rebuild n) torn s i s' i' = RebuildsTo nand n torn s i s' i'
+Makes nand (Report b) torn s i s' i' = RunsTo torn [] s i s' i'
+Makes nand (Show p) torn s i s' i' = RunsTo torn [] s i s' i'
+Makes nand Forecast torn s i s' i' = RunsTo torn (S.Forecast ∷ []) s i s' i'
 
 -- what the probe has between two lines: the part named and how much is lent, the torn bytes, the state and the image
 pub record Rig : Type 0 where

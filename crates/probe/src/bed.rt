@@ -11,7 +11,7 @@ use orders::order::Setting;
 use orders::reply;
 use orders::sum;
 
-// The part that format, mount and show name; how many bytes are lent of the image buffer, and of the torn bytes.
+// The part that format, mount, rebuild and show name; how many bytes are lent of the image buffer, and of the torn bytes.
 pub struct Bed {
     pub nand: Nand,
     pub image: usize,

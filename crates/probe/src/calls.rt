@@ -15,6 +15,7 @@ use store::find;
 use store::forecast;
 use store::format;
 use store::mount;
+use store::rebuild;
 use store::report;
 use store::show;
 use store::state::State;
@@ -28,7 +29,7 @@ pub struct Told {
     pub at: usize,
 }
 
-// What format, commit and mount tell.
+// What format, commit, mount and rebuild tell.
 fn tell_wrote(w: Wrote, out: &mut [u8], at: usize) -> Told
     requires { ⌜ at + 4083 ≤ length (now out) ⌝ }
     ensures { λ r. ⌜ r .state ≡ w .state ⌝ }
@@ -115,6 +116,7 @@ pub fn call(
         Call::LookUp(key) => tell_look(state, find::look_up(state, image, key), out, at),
         Call::Commit(n) => tell_wrote(commit::commit(state, image, torn, n), out, at),
         Call::Mount(n) => tell_wrote(mount::mount(state, nand, image, torn, n), out, at),
+        Call::Rebuild(n) => tell_wrote(rebuild::rebuild(state, nand, image, torn, n), out, at),
         Call::Report(block) => tell_report(
             state,
             report::block_report(state, image, block),

@@ -14,6 +14,7 @@ use Rattle.chip.specs.Geometry.{Nand, geometryOf, blocksOf}
 use Rattle.chip.specs.Chip.{Op}
 use Rattle.chip.specs.Erases.{erasesIn}
 use Rattle.chip.proofs.EraseLaws.{erases-append}
+use Rattle.tree.specs.Thick.{thin}
 use Rattle.promise.specs.Plain.{Answer, isCommit, isCut, refuses, Plain, UpdateCall, updates, commits, mounts, firstRefusal, numbersRefusal, laterRefusal, noNumberLeft, resting, updated, committed}
 use Rattle.promise.specs.Calls.{Meaning, invalid, means, Store, stateOf, Same, Updates, Committing, Commit, Mount}
 use Rattle.promise.specs.Steps.{Act, read, update, forecast, format, commit, mount, fed, isTen, isAccepted, isFormat, boots, strays, Step, Lends, one, other, Only, Hands, feed, Allowed, Takes}
@@ -205,12 +206,13 @@ module _ (S : Store) where
     unfolding stateOf resting
     mount-finished nand n torn (invalid m) d t c o = clash o (c .refused t m d .2)
     mount-finished nand n torn (means K G) d t c o =
+        let h : thin K ≡ false = cases (thin K) (λ b. clash o (c .refusedThin t K G d b .2)) (λ b. b) in
         cases (leb (length (S .mountOps nand i)) n)
         (λ y. let l = leb-true (length (S .mountOps nand i)) n y in
-        let r = c .power t K G d .enough l .0 in
-        let e = c .done t K G d l in
+        let r = c .power t K G d h .enough l .0 in
+        let e = c .done t K G d h l in
         (ap isAccepted r, e .1, c .zeros r, ap (λ (p : Plain). p .nand) (e .0)))
-        (λ y. clash o (c .cut t K G d (leb-false (length (S .mountOps nand i)) n y)))
+        (λ y. clash o (c .cut t K G d h (leb-false (length (S .mountOps nand i)) n y)))
 
     -- a look up or a forecast
     read-idle : (x : Act) → operationsOf S x s i ≡ [] → boots x ≡ false → isCommit (fed x (S .size i)) ≡ false → Same S s i s' i' → H s

@@ -10,6 +10,7 @@ use Rattle.views.specs.Nodes.{Entry, entry, untouched, view}
 use Rattle.tree.specs.Tree as T
 use Rattle.tree.specs.Insert as Ins
 use Rattle.tree.specs.Delete as Del
+use Rattle.tree.specs.Thick.{thin}
 use Rattle.promise.specs.Plain.{Call, formats, inserts, deletes, looksUp, commits, mounts, lookingUp, insertion, deletion, Answer, refuses, accepted, finds, lookedUp, Plain, Fed, Compared, plainRun, isChipSize, isTornSize, hasBlocks, verdict, leaf, resting, updated, committed, finished, off, cutOff, acceptedAnswer}
 use Rattle.promise.specs.Calls.{stateOf}
 use Rattle.promise.specs.Steps.{format, insert, delete, lookUp, commit, mount, Step, Only, starts, Formatted, Agrees}
@@ -104,7 +105,7 @@ abbrev pub torn : ℕ → List ℕ
 torn b = replicate page b
 
 abbrev pub chip : SampleImage
-chip = record { tree = []; number = 0; whole = false; void = false; roomy = false; size = image }
+chip = record { tree = []; number = 0; whole = false; void = false; roomy = false; spare = false; size = image }
 
 abbrev pub start : SampleState
 start = record { on = false; nand = Small; blocks = 0; number = 0; pending = 0; buffer = []; erases = λ b. 0 }
@@ -139,20 +140,20 @@ pub sample-examples :
     × (map sampleAnswer (stepsOf lost s₀ i₀) ≡ accepted ∷ finds 99 ∷ refuses 10 ∷ refuses 2 ∷ accepted ∷ refuses 4 ∷ [])
     × (map sampleAnswer (stepsOf found s₀ i₀) ≡ accepted ∷ refuses 10 ∷ accepted ∷ finds 99 ∷ [])
     × (map sampleAnswer (stepsOf pulled s₀ i₀) ≡ accepted ∷ accepted ∷ accepted ∷ accepted ∷ finds 99 ∷ refuses 4 ∷ [])
-unfolding lookingUp insertion isChipSize isTornSize hasBlocks stateOf leaf Ins.insert Ins.allowed Ins.inserted Ins.insertAt Ins.gain Ins.fitOrSplit Ins.halve Ins.raise T.find
+unfolding lookingUp insertion isChipSize isTornSize hasBlocks stateOf leaf thin Ins.insert Ins.allowed Ins.inserted Ins.insertAt Ins.gain Ins.fitOrSplit Ins.halve Ins.raise T.find
 sample-examples = (refl, refl, refl, refl)
 
 -- and the promise is about these lists
 pub formatted : Formatted sample Small s₀ i₀
 unfolding isChipSize isTornSize
-formatted = record { allowance = 2000; torn = torn 90; before = start; was = chip; ops = 4; says = allowed (format Small 2000 (torn 90)) tt start chip }
+formatted = record { allowance = 2000; torn = torn 90; before = start; was = chip; ops = 4; says = allowed (format Small 2000 (torn 90)) start chip tt }
 
 fine : Fine pulled s₀ i₀
-unfolding isChipSize isTornSize hasBlocks stateOf insertion Ins.insert Ins.allowed Ins.inserted Ins.insertAt leaf Ins.gain Ins.fitOrSplit
-fine = (insert-proper 7 99, (tt, (insert-proper 8 1, ((tt, refl, accepted-not 1), (look-up-proper 7, (look-up-proper 8, tt))))))
+unfolding insertion deletion isChipSize isTornSize hasBlocks stateOf leaf thin Ins.insert Ins.allowed Ins.inserted Ins.insertAt Ins.gain Ins.fitOrSplit Ins.halve Ins.raise T.find Del.delete Del.deleteAt Del.settle Del.join Del.takeOver
+fine = ((insert-proper 7 99, refl), (tt, ((insert-proper 8 1, refl), ((tt, refl, accepted-not 1), (look-up-proper 7, (look-up-proper 8, tt))))))
 
 pub sample-agrees : Agrees sample (starts sample Small (leaf 3) 1 i₀) i₀ (stepsOf pulled s₀ i₀)
-unfolding isChipSize isTornSize hasBlocks stateOf insertion Ins.insert Ins.allowed Ins.inserted Ins.insertAt leaf Ins.gain Ins.fitOrSplit
+unfolding isChipSize isTornSize hasBlocks stateOf insertion Ins.insert Ins.allowed Ins.inserted Ins.insertAt leaf thin Ins.gain Ins.fitOrSplit
 sample-agrees =
     promise sample Small (leaf 3) 1 s₀ i₀ (stepsOf pulled s₀ i₀)
     (record { started = format-starts sample Small s₀ i₀ formatted; runs = runs pulled (Only sample s₀) s₀ i₀ refl fine; named = (refl, (refl, (refl, (refl, (refl, (refl, tt)))))); uncut = (refl, (refl, (refl, (refl, (refl, (refl, tt)))))) })
@@ -162,8 +163,8 @@ abbrev pub kept : List Order
 kept = next (insert 7 99) ∷ next (commit 2000 (torn 90)) ∷ next (insert 7 1) ∷ next (delete 9) ∷ reboot junk (mount Small 255 (torn 90)) ∷ next (lookUp 7) ∷ []
 
 kept-fine : Fine kept s₀ i₀
-unfolding lookingUp insertion deletion isChipSize isTornSize hasBlocks stateOf leaf Ins.insert Ins.allowed Ins.inserted Ins.insertAt Ins.gain Ins.fitOrSplit Ins.halve Ins.raise T.find
-kept-fine = (insert-proper 7 99, (tt, (insert-proper 7 1, (delete-proper 9, ((tt, refl, accepted-not 1), (look-up-proper 7, tt))))))
+unfolding insertion deletion isChipSize isTornSize hasBlocks stateOf leaf thin Ins.insert Ins.allowed Ins.inserted Ins.insertAt Ins.gain Ins.fitOrSplit Ins.halve Ins.raise T.find Del.delete Del.deleteAt Del.settle Del.join Del.takeOver
+kept-fine = ((insert-proper 7 99, refl), (tt, ((insert-proper 7 1, refl), ((delete-proper 9, refl), ((tt, refl, accepted-not 1), (look-up-proper 7, tt))))))
 
 -- the steps
 abbrev first : Step sample
@@ -185,7 +186,7 @@ abbrev sixth : Step sample
 sixth = stepOf (next (lookUp 7)) (fifth .state) (fifth .image)
 
 later : Later sample Small (leaf 3) 1 s₀ i₀ (first ∷ []) (third ∷ fourth ∷ fifth ∷ []) [] second sixth 7
-unfolding lookingUp insertion deletion isChipSize isTornSize hasBlocks verdict resting updated committed finished acceptedAnswer stateOf leaf Ins.insert Ins.allowed Ins.inserted Ins.insertAt Ins.gain Ins.fitOrSplit Ins.halve Ins.raise T.find
+unfolding lookingUp insertion deletion isChipSize isTornSize hasBlocks verdict resting updated committed finished acceptedAnswer stateOf leaf thin Ins.insert Ins.allowed Ins.inserted Ins.insertAt Ins.gain Ins.fitOrSplit Ins.halve Ins.raise T.find Del.delete Del.deleteAt Del.settle Del.join Del.takeOver
 later =
     record {
       course = record { started = format-starts sample Small s₀ i₀ formatted; runs = runs kept (Only sample s₀) s₀ i₀ refl kept-fine; named = (refl, (refl, (refl, (refl, (refl, (refl, tt)))))); uncut = (refl, (refl, (refl, (refl, (refl, (refl, tt)))))) };
@@ -200,7 +201,7 @@ later =
     }
 
 finished-answer : second .answer ≡ accepted
-unfolding isChipSize isTornSize hasBlocks stateOf insertion Ins.insert Ins.allowed Ins.inserted Ins.insertAt leaf Ins.gain Ins.fitOrSplit
+unfolding isChipSize isTornSize hasBlocks stateOf insertion Ins.insert Ins.allowed Ins.inserted Ins.insertAt leaf thin Ins.gain Ins.fitOrSplit
 finished-answer = refl
 
 pub sample-durable : sixth .answer ≡ lookedUp (T.find 7 (plainAt sample Small (leaf 3) 1 i₀ (first ∷ []) .present))

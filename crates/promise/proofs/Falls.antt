@@ -12,10 +12,12 @@ use Rattle.chip.specs.Geometry.{Nand, geometryOf, blocksOf}
 use Rattle.chip.specs.Power.{takesEffect}
 use Rattle.chip.specs.Erases.{erasesIn}
 use Rattle.tree.specs.Tree.{Table, find, found}
+use Rattle.tree.specs.Thick.{thin}
+use Rattle.tree.specs.Rebuild.{rebuild}
 use Rattle.promise.specs.Plain.{Answer, refuses, accepted, finds, lookedUp, Plain, when, UpdateCall, updates, reads, forecasts, commits, mounts, lookingUp, numbersRefusal, laterRefusal, noNumberLeft, resting, updated, enoughWrites}
-use Rattle.promise.specs.Calls.{means, numberIn, Store, stateOf, PassesFirst, Updates, LookUp, OpsTold, Format, Proceeding, Committing, Commit, Forecast, Mount}
-use Rattle.promise.specs.Steps.{commit, Step, counts}
-use Rattle.promise.proofs.Promise.{apart, accepted-not, counts-not, counts-so, stepIs, mount-mounts, when-is}
+use Rattle.promise.specs.Calls.{means, treeIn, numberIn, Store, stateOf, PassesFirst, Updates, LookUp, OpsTold, Format, Proceeding, Committing, Commit, Forecast, Mount}
+use Rattle.promise.specs.Steps.{commit, Step, counts, Rebuilt}
+use Rattle.promise.proofs.Promise.{apart, accepted-not, counts-not, counts-so, stepIs, mount-mounts, rebuild-starts, when-is}
 
 module _ (S : Store) (s : S .State) (i : S .Image) (good : S .Good s i) where
   -- a commit that is accepted with updates pending and leaves the image with the meaning it had
@@ -106,13 +108,13 @@ module _ (S : Store) (s : S .State) (i : S .Image) (ops : ℕ) (s' : S .State) (
   pub cut-forecast : Forecast S s i (refuses 10) ops s' i' → ⊥
   cut-forecast c = clash (c .range) refl
 
--- a mount that says 7, 8 or 9 of an image that has a meaning
+-- a mount that says 7, 8, 9 or 12 of an image that means a tree which is not thin
 pub false-refusal : (S : Store) (nand : Nand) (n m : ℕ) (torn : List ℕ) (s : S .State) (i : S .Image) (ops : ℕ) (s' : S .State) (i' : S .Image) (K : Table) (G : ℕ)
-    → PassesFirst S (mounts nand n (S .size i) (length torn)) s → S .meaning nand i ≡ means K G → (m ≡ 10 → ⊥) → Mount S nand n torn s i (refuses m) ops s' i' → ⊥
-false-refusal S nand n m torn s i ops s' i' K G t e h c =
+    → PassesFirst S (mounts nand n (S .size i) (length torn)) s → S .meaning nand i ≡ means K G → thin K ≡ false → (m ≡ 10 → ⊥) → Mount S nand n torn s i (refuses m) ops s' i' → ⊥
+false-refusal S nand n m torn s i ops s' i' K G t e k h c =
     cases (leb (length (S .mountOps nand i)) n)
-    (λ l. accepted-not m (sym (c .power t K G e .enough (leb-true (length (S .mountOps nand i)) n l) .0)))
-    (λ l. apart m 10 h (c .power t K G e .short (leb-false (length (S .mountOps nand i)) n l) .0))
+    (λ l. accepted-not m (sym (c .power t K G e k .enough (leb-true (length (S .mountOps nand i)) n l) .0)))
+    (λ l. apart m 10 h (c .power t K G e k .short (leb-false (length (S .mountOps nand i)) n l) .0))
 
 -- an invented operation count: with so many operations to do and that allowance, answer and count are these
 pub count-is : (need n ops ops' : ℕ) (a a' : Answer) → OpsTold need n a ops → OpsTold need n a' ops' → (a ≡ a') × (ops ≡ ops')
@@ -148,3 +150,17 @@ kept-figure S nand n torn s i ops s' i' b h e c = let z = c .zeros refl b in ome
 pub own-erases : (S : Store) (nand : Nand) (n : ℕ) (torn : List ℕ) (s : S .State) (i : S .Image) (ops : ℕ) (s' : S .State) (i' : S .Image) (b : ℕ)
     → 0 < erasesIn b (S .formatOps nand (blocksOf (geometryOf nand) (S .size i))) → S .erases s' b ≡ erasesIn b (S .formatOps nand (blocksOf (geometryOf nand) (S .size i))) → Format S nand n torn s i accepted ops s' i' → ⊥
 own-erases S nand n torn s i ops s' i' b h e c = let z = c .zeros refl b in omega arith
+
+-- a mount that lets a thin tree through
+pub thin-through : (S : Store) (nand : Nand) (n : ℕ) (torn : List ℕ) (s : S .State) (i : S .Image) (ops : ℕ) (s' : S .State) (i' : S .Image) (K : Table) (G : ℕ)
+    → S .meaning nand i ≡ means K G → thin K ≡ true → Mount S nand n torn s i accepted ops s' i' → ⊥
+thin-through S nand n torn s i ops s' i' K G e h c = clash h (mount-mounts S nand n torn s i ops s' i' K G e c .0 .thick)
+
+-- a rebuild that keeps the number G, or the tree that it found where that is another than the rebuilt one
+pub kept-number : (S : Store) (nand : Nand) (K U : Table) (G : ℕ) (s : S .State) (i : S .Image) → S .meaning nand i ≡ means U G → Rebuilt S nand K G s i → ⊥
+kept-number S nand K U G s i e f =
+    let z : suc G ≡ G = ap numberIn (sym (rebuild-starts S nand K G s i f .mounted .image) ∙ e) in
+    omega arith
+
+pub kept-tree : (S : Store) (nand : Nand) (K : Table) (G m : ℕ) (s : S .State) (i : S .Image) → S .meaning nand i ≡ means K m → (rebuild K ≡ K → ⊥) → Rebuilt S nand K G s i → ⊥
+kept-tree S nand K G m s i e h f = h (ap treeIn (sym (rebuild-starts S nand K G s i f .mounted .image) ∙ e))

@@ -6,6 +6,8 @@ use Prim.Native.Nat.{ℕ}
 use Rattle.chip.specs.declared.geometry.Nand.the-variants.{Small}
 use Rattle.tree.specs.Tree as T
 use Rattle.tree.specs.Insert as Ins
+use Rattle.tree.specs.Delete as Del
+use Rattle.tree.specs.Thick.{thin}
 use Rattle.promise.specs.Plain.{insertion, deletion, refuses, accepted, isChipSize, isTornSize, hasBlocks, leaf}
 use Rattle.promise.specs.Calls.{stateOf}
 use Rattle.promise.specs.Steps.{insert, delete, commit, mount, Only}
@@ -49,15 +51,16 @@ pub figure-examples :
     × (leaves short s₀ i₀ .on ≡ false)
     × (figuresOf short ≡ 0 ∷ 0 ∷ 0 ∷ [])
     × (wholeOf short ≡ 0 ∷ 1 ∷ 0 ∷ [])
-unfolding insertion deletion isChipSize isTornSize hasBlocks stateOf leaf Ins.insert Ins.allowed Ins.inserted Ins.insertAt Ins.gain Ins.fitOrSplit Ins.halve Ins.raise T.find
+unfolding insertion deletion isChipSize isTornSize hasBlocks stateOf leaf thin Ins.insert Ins.allowed Ins.inserted Ins.insertAt Ins.gain Ins.fitOrSplit Ins.halve Ins.raise T.find Del.delete Del.deleteAt Del.settle Del.join Del.takeOver
 figure-examples = (refl, refl, refl, refl, refl, refl, refl, refl, refl)
 
 -- and the law is about this list
 again-fine : Fine again s₀ i₀
-again-fine = (insert-proper 7 99, (tt, (insert-proper 8 1, (tt, (delete-proper 9, (tt, (insert-proper 9 2, (tt, tt))))))))
+unfolding insertion deletion isChipSize isTornSize hasBlocks stateOf leaf thin Ins.insert Ins.allowed Ins.inserted Ins.insertAt Ins.gain Ins.fitOrSplit Ins.halve Ins.raise T.find Del.delete Del.deleteAt Del.settle Del.join Del.takeOver
+again-fine = ((insert-proper 7 99, refl), (tt, ((insert-proper 8 1, refl), (tt, ((delete-proper 9, refl), (tt, ((insert-proper 9 2, refl), (tt, tt))))))))
 
 pub sample-figures : (b : ℕ) → leaves again s₀ i₀ .erases b ≡ wholeErases sample b (sinceStart sample (stepsOf again s₀ i₀))
-unfolding insertion deletion isChipSize isTornSize hasBlocks stateOf leaf Ins.insert Ins.allowed Ins.inserted Ins.insertAt Ins.gain Ins.fitOrSplit Ins.halve Ins.raise T.find
+unfolding insertion deletion isChipSize isTornSize hasBlocks stateOf leaf thin Ins.insert Ins.allowed Ins.inserted Ins.insertAt Ins.gain Ins.fitOrSplit Ins.halve Ins.raise T.find Del.delete Del.deleteAt Del.settle Del.join Del.takeOver
 sample-figures =
-    figures-any sample s₀ i₀ (stepsOf again s₀ i₀) (refl, refl) (runs again (Only sample s₀) s₀ i₀ refl again-fine) (λ b. refl) (leaves again s₀ i₀)
+    figures-any sample s₀ i₀ (stepsOf again s₀ i₀) (refl, refl, refl) (runs again (Only sample s₀) s₀ i₀ refl again-fine) (λ b. refl) (leaves again s₀ i₀)
     (record { returned = refl; known = λ e. absurd (accepted-not 1 e) }) refl

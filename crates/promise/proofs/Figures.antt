@@ -11,7 +11,7 @@ use Rattle.chip.specs.Erases.{erasesIn}
 use Rattle.promise.specs.Plain.{Answer, accepted}
 use Rattle.promise.specs.Calls.{Store}
 use Rattle.promise.specs.Steps.{Act, read, update, forecast, format, commit, mount, isAccepted, boots, Step, Only, Hands, lastHands, Allowed, Runs}
-use Rattle.promise.specs.Erases.{begins, sinceStart, doneBy, wholeErases, Unworn, StartsUnworn, FiguresTell, FiguresAny, FiguresFit}
+use Rattle.promise.specs.Erases.{begins, sinceStart, doneBy, wholeErases, Unworn, StartsUnworn, RebuiltUnworn, FiguresTell, FiguresAny, FiguresFit}
 use Rattle.promise.proofs.Promise.{accepted-is}
 use Rattle.promise.proofs.Effects.{GoodAtHand, Effect, idle, worked, cut, booted, effect, good-first, good-next}
 
@@ -109,7 +109,7 @@ module _ (S : Store) where
       let l = f .most in
       omega arith
 
-  -- ---- a finished mount or format leaves each figure 0
+  -- ---- a finished mount, format or rebuild leaves each figure 0
   unworn-by : (x : Act) (s : S .State) (i : S .Image) (a : Answer) (ops : ℕ) (s' : S .State) (i' : S .Image) → boots x ≡ true → a ≡ accepted → Allowed S x s i a ops s' i' → Unworn S s'
   unworn-by (read r) s i a ops s' i' t e c = clash t refl
   unworn-by (update u) s i a ops s' i' t e c = clash t refl
@@ -122,3 +122,6 @@ module _ (S : Store) where
   starts-unworn x t c =
       unworn-by (x .act) (x .given) (x .lent) (x .answer) (x .ops) (x .state) (x .left) (and-left (boots (x .act)) (isAccepted (x .answer)) t)
       (accepted-is (x .answer) (and-right (boots (x .act)) (isAccepted (x .answer)) t)) c
+
+  pub rebuilt-unworn : RebuiltUnworn S
+  rebuilt-unworn nand K G s i f = f .says .zeros refl

@@ -13,9 +13,11 @@ pub mod Forecasts
 pub mod Proper
 pub mod Falls
 pub mod Sample
+pub mod RebuildSample
 pub mod Examples
 pub mod PartExamples
 pub mod ThickExamples
 pub mod FigureExamples
 pub mod WearExamples
 pub mod ForecastExamples
+pub mod RebuildExamples

@@ -7,6 +7,7 @@ use lib.ListN.{replicate}
 use Rattle.chip.specs.declared.geometry.Nand.the-variants.{Small, Large}
 use Rattle.tree.specs.Tree as T
 use Rattle.tree.specs.Insert as Ins
+use Rattle.tree.specs.Thick.{thin}
 use Rattle.promise.specs.Plain.{formats, inserts, looksUp, commits, mounts, lookingUp, insertion, refuses, accepted, finds, isChipSize, isTornSize, hasBlocks, verdict, leaf, resting, updated, committed, finished, off, cutOff, acceptedAnswer}
 use Rattle.promise.specs.Calls.{stateOf}
 use Rattle.promise.specs.Steps.{format, insert, lookUp, commit, mount, Only, strays, promised, unpromised, modeFor, starts, Formatted, Agrees, AgreesAny}
@@ -44,7 +45,7 @@ abbrev pub wideTorn : ℕ → List ℕ
 wideTorn b = replicate widePage b
 
 abbrev pub wideChip : SampleImage
-wideChip = record { tree = []; number = 0; whole = false; void = false; roomy = false; size = wide }
+wideChip = record { tree = []; number = 0; whole = false; void = false; roomy = false; spare = false; size = wide }
 
 abbrev pub w₀ : SampleState
 w₀ = act (format Small 2000 (torn 90)) start wideChip .state
@@ -59,7 +60,7 @@ pub stray-examples :
     × (strays sample Small (stepOf (next (mount Small 255 (torn 90))) w₀ j₀) ≡ false)
     × (stepOf (next (mount Large 255 (wideTorn 90))) s₀ i₀ .answer ≡ refuses 1)
     × (strays sample Small (stepOf (next (mount Large 255 (wideTorn 90))) s₀ i₀) ≡ false)
-unfolding isChipSize isTornSize resting
+unfolding isChipSize isTornSize resting leaf thin
 stray-examples = (refl, refl, refl, refl, refl)
 
 -- a format as the large part, after which a mount that is given a state that no call gave names it
@@ -71,20 +72,20 @@ abbrev pub strayed : List Order
 strayed = next (mount Large 255 (wideTorn 90)) ∷ changed
 
 pub changed-examples : map sampleAnswer (stepsOf changed w₀ j₀) ≡ accepted ∷ accepted ∷ accepted ∷ accepted ∷ finds 99 ∷ []
-unfolding lookingUp insertion isChipSize isTornSize hasBlocks stateOf leaf Ins.insert Ins.allowed Ins.inserted Ins.insertAt Ins.gain Ins.fitOrSplit Ins.halve Ins.raise T.find
+unfolding lookingUp insertion isChipSize isTornSize hasBlocks stateOf leaf thin Ins.insert Ins.allowed Ins.inserted Ins.insertAt Ins.gain Ins.fitOrSplit Ins.halve Ins.raise T.find
 changed-examples = refl
 
 -- and the promise is about these lists
 wide-formatted : Formatted sample Small w₀ j₀
 unfolding isChipSize isTornSize
-wide-formatted = record { allowance = 2000; torn = torn 90; before = start; was = wideChip; ops = 4; says = allowed (format Small 2000 (torn 90)) tt start wideChip }
+wide-formatted = record { allowance = 2000; torn = torn 90; before = start; was = wideChip; ops = 4; says = allowed (format Small 2000 (torn 90)) start wideChip tt }
 
 changed-fine : Fine changed w₀ j₀
-unfolding isChipSize isTornSize hasBlocks stateOf insertion Ins.insert Ins.allowed Ins.inserted Ins.insertAt leaf Ins.gain Ins.fitOrSplit
-changed-fine = (tt, (insert-proper 7 99, (tt, ((tt, refl, accepted-not 1), (look-up-proper 7, tt)))))
+unfolding insertion isChipSize isTornSize hasBlocks stateOf leaf thin Ins.insert Ins.allowed Ins.inserted Ins.insertAt Ins.gain Ins.fitOrSplit Ins.halve Ins.raise T.find
+changed-fine = (tt, ((insert-proper 7 99, refl), (tt, ((tt, refl, accepted-not 1), (look-up-proper 7, tt)))))
 
 pub changed-agrees : Agrees sample (starts sample Small (leaf 24) 1 j₀) j₀ (stepsOf changed w₀ j₀)
-unfolding isChipSize isTornSize hasBlocks stateOf insertion Ins.insert Ins.allowed Ins.inserted Ins.insertAt leaf Ins.gain Ins.fitOrSplit
+unfolding isChipSize isTornSize hasBlocks stateOf insertion Ins.insert Ins.allowed Ins.inserted Ins.insertAt leaf thin Ins.gain Ins.fitOrSplit
 changed-agrees =
     promise sample Small (leaf 24) 1 w₀ j₀ (stepsOf changed w₀ j₀)
     (record {
@@ -95,8 +96,8 @@ changed-agrees =
     })
 
 strayed-fine : Fine strayed w₀ j₀
-unfolding isChipSize isTornSize hasBlocks stateOf insertion Ins.insert Ins.allowed Ins.inserted Ins.insertAt leaf Ins.gain Ins.fitOrSplit
-strayed-fine = (tt, (tt, (insert-proper 7 99, (tt, ((tt, refl, accepted-not 1), (look-up-proper 7, tt))))))
+unfolding insertion isChipSize isTornSize hasBlocks stateOf leaf thin Ins.insert Ins.allowed Ins.inserted Ins.insertAt Ins.gain Ins.fitOrSplit Ins.halve Ins.raise T.find
+strayed-fine = (tt, (tt, ((insert-proper 7 99, refl), (tt, ((tt, refl, accepted-not 1), (look-up-proper 7, tt))))))
 
 pub strayed-agrees : AgreesAny sample (promised (starts sample Small (leaf 24) 1 j₀)) j₀ (stepsOf strayed w₀ j₀)
 unfolding isChipSize isTornSize

@@ -1,9 +1,9 @@
 -- The promise: any list of calls from a start, each step allowed by its contract, agrees with the plain store. Assumes nothing.
 use mathlib.Core.Path.{_≡_, refl, sym, ap, _∙_, subst}
-use mathlib.Core.Logic.{_⊎_, ⊎-elim}
+use mathlib.Core.Logic.{_⊎_, ⊎-elim, inl, inr}
 use mathlib.Core.Bool.{Bool, true, false, cond, not, _&&_, _||_}
 use mathlib.Core.List.{List, [], _∷_}
-use Prim.Native.Nat.{ℕ, zero, suc, _<_, _≤_}
+use Prim.Native.Nat.{ℕ, zero, suc, _*_, _-_, _<_, _≤_}
 use native.Mathlib.Omega.{arith}
 use lib.Dec.{ltb, leb, eqb}
 use lib.ListN.{length, getD}
@@ -13,9 +13,13 @@ use Rattle.chip.specs.Geometry.{Nand, geometryOf, blocksOf}
 use Rattle.chip.specs.declared.geometry.Nand.the-variants.{Small, Large}
 use Rattle.chip.specs.Power.{takesEffect}
 use Rattle.tree.specs.Tree.{Table}
-use Rattle.promise.specs.Plain.{Answer, refuses, accepted, tells, Plain, orElse, when, ReadCall, UpdateCall, Call, reads, updates, forecasts, formats, commits, mounts, isChipSize, isTornSize, hasBlocks, firstRefusal, numbersRefusal, laterRefusal, refusalOf, lastNumber, noNumberLeft, mayCut, Verdict, denied, cut, passed, judge, verdict, leaf, resting, fresh, updated, committed, mounted, finished, off, cutOff, acceptedAnswer, answer, after, answerBy, afterBy, enoughWrites, enoughMarks}
-use Rattle.promise.specs.Calls.{means, treeIn, numberIn, Store, stateOf, Same, FirstTests, Reads, Updates, Format, Proceeding, Committing, Commit, Forecast, Mount}
+use Rattle.tree.specs.Thick.{thin}
+use Rattle.tree.specs.Rebuild.{rebuild}
+use Rattle.tree.proofs.Laws.{first-not-thin}
+use Rattle.promise.specs.Plain.{Answer, refuses, accepted, tells, Plain, orElse, when, ReadCall, UpdateCall, Call, reads, updates, forecasts, formats, commits, mounts, isChipSize, isTornSize, hasBlocks, startRefusal, firstRefusal, numbersRefusal, laterRefusal, refusalOf, lastNumber, noNumberLeft, mayCut, Verdict, denied, cut, passed, judge, verdict, leaf, resting, fresh, updated, committed, mounted, finished, off, cutOff, acceptedAnswer, answer, after, answerBy, afterBy, enoughWrites, enoughMarks}
+use Rattle.promise.specs.Calls.{means, treeIn, numberIn, Store, stateOf, Same, FirstTests, Reads, Updates, Format, Proceeding, Committing, Commit, Forecast, Mount, Rebuilding, Rebuild}
 use Rattle.promise.specs.Steps.{Act, read, update, forecast, format, commit, mount, fed, isOne, isTen, isAccepted, isFormat, formattedAs, isNand, namesOther, boots, Step, Lends, one, other, Only, Hands, counts, nandAfter, strays, Named, SixIsLast, Unstuck, isCutFormat, Uncut, Mode, promised, unpromised, begunBy, Allowed, Takes, Runs, Started, Mounted, starts, Formatted, next, answerTo, Agrees, modeFor, nextMode, AnswerIs, MeaningIs, AgreesAny}
+use Rattle.promise.specs.Promise.{FormatStarts, RebuildStarts, RebuildCut}
 
 -- ---- two answers that differ
 pub apart : (a b : ℕ) → (a ≡ b → ⊥) → refuses a ≡ refuses b → ⊥
@@ -147,6 +151,11 @@ nand-by cut w p (format nand n torn) image k = refl
 nand-by cut w p (commit n torn) image k = cond-nand w (off (committed p)) (off p) refl
 nand-by cut w p (mount nand n torn) image k = refl
 
+-- one empty leaf is not thin
+pub leaf-not-thin : (B : ℕ) → thin (leaf B) ≡ false
+unfolding leaf
+leaf-not-thin B = first-not-thin (8 * B - 1)
+
 -- a number that is the last one's or another
 either-or : {M : Type 0} (b : Bool) (m u v : M) → m ≡ cond b u v → (Q : Type 0) → (m ≡ u → Q) → (m ≡ v → Q) → Q
 either-or true m u v e Q f h = f e
@@ -191,6 +200,7 @@ module _ (S : Store) (rooms : Bool) where
   -- ---- what holds of the plain store and the one image between calls; and of a state at hand
   pub record Kept (p : Plain) (i : S .Image) : Type 0 where
     pub is : S .meaning (p .nand) i ≡ means (p .kept) (p .number)
+    pub thick : thin (p .kept) ≡ false
     pub room : rooms ≡ true → S .Room (p .nand) i
     pub sized : p .blocks ≡ blocksOf (geometryOf (p .nand)) (S .size i)
 
@@ -270,6 +280,7 @@ module _ (S : Store) (rooms : Bool) where
       record {
         image = record {
           is = ap (S .meaning (q .nand)) m ∙ v .is;
+          thick = v .thick;
           room = λ b. subst (S .Room (q .nand)) (sym m) (v .room b);
           sized = v .sized ∙ ap (λ j. blocksOf (geometryOf (q .nand)) (S .size j)) (sym m);
         };
@@ -295,7 +306,7 @@ module _ (S : Store) (rooms : Bool) where
   off-inv : (q : Plain) (s' : S .State) (i' : S .Image) → Kept q i' → S .on s' ≡ false → Invariant (off q) s' i'
   unfolding off
   off-inv q s' i' k o =
-      record { image = record { is = k .is; room = k .room; sized = k .sized }; power = o; live = λ t. clash t refl }
+      record { image = record { is = k .is; thick = k .thick; room = k .room; sized = k .sized }; power = o; live = λ t. clash t refl }
 
   -- ---- a commit or a forecast with updates pending and a number left has a plan: there is room, or it does not answer 6 before the last number
   has-plan : (p : Plain) (s : S .State) (i : S .Image) (a : Answer) → Kept p i → 0 < S .pending s → when 6 (noNumberLeft (S .pending s) (S .number s)) ≡ 0
@@ -347,6 +358,7 @@ module _ (S : Store) (rooms : Bool) where
         (record {
           image = record {
             is = c .choice q b ∙ ap (λ o. cond (o || (eqb (suc n) (length (S .commitOps s i)) && eqb (getD torn 0 0) 0)) (means (S .present s i) (suc (S .number s))) (S .meaning (S .nand s) i)) (le-leb (length (S .commitOps s i)) n l);
+            thick = c .thick q;
             room = λ r. c .room q b (v .image .room r);
             sized = v .image .sized ∙ ap (blocksOf (geometryOf (S .nand s))) (sym (c .first .sameSize));
           };
@@ -370,8 +382,8 @@ module _ (S : Store) (rooms : Bool) where
         (rw (lt-ltb n (enoughWrites (S .nand s)) (omega arith), lt-ltb 0 (S .pending s) (q .proceeds .pending))) (r .0)
         (either-or (takesEffect (getD torn 0 0) n (length (S .commitOps s i))) (S .meaning (S .nand s) i') (means (S .present s i) (suc (S .number s))) (S .meaning (S .nand s) i) (c .choice q b) _
         (λ h. rw (counts-so S i (stepIs S (commit n torn) s i a ops s' i') (treeIn (S .meaning (S .nand s) i)) (S .present s i) (S .number s) (v .image .is) h)
-        (off-inv (committed (stateOf S s i)) s' i' (record { is = h; room = m; sized = z }) o))
-        (λ h. rw (counts-not S i (stepIs S (commit n torn) s i a ops s' i') h) (off-inv (stateOf S s i) s' i' (record { is = h ∙ v .image .is; room = m; sized = z }) o)))
+        (off-inv (committed (stateOf S s i)) s' i' (record { is = h; thick = c .thick q; room = m; sized = z }) o))
+        (λ h. rw (counts-not S i (stepIs S (commit n torn) s i a ops s' i') h) (off-inv (stateOf S s i) s' i' (record { is = h ∙ v .image .is; thick = v .image .thick; room = m; sized = z }) o)))
 
     commit-by : (rooms ≡ false → a ≡ refuses 6 → S .number s ≡ lastNumber) → (k : ℕ) → numbersRefusal (S .pending s) (S .number s) (commits n (S .size i) (length torn)) ≡ k
         → Conforms (stateOf S s i) (commits n (S .size i) (length torn)) (counts S i (stepIs S (commit n torn) s i a ops s' i')) a s' i'
@@ -394,27 +406,27 @@ module _ (S : Store) (rooms : Bool) where
     mounted-kept : Kept p i'
     mounted-kept =
         let k = c .stays t (p .kept) (p .number) (v .is) in
-        record { is = k .0; room = λ b. k .1 (v .room b); sized = v .sized ∙ ap (blocksOf (geometryOf (p .nand))) (sym (c .first .sameSize)) }
+        record { is = k .0; thick = v .thick; room = λ b. k .1 (v .room b); sized = v .sized ∙ ap (blocksOf (geometryOf (p .nand))) (sym (c .first .sameSize)) }
 
     mount-done : length (S .mountOps (p .nand) i) ≤ n → Conforms p (mounts (p .nand) n (S .size i) (length torn)) w a s' i'
     unfolding stateOf resting finished acceptedAnswer
     mount-done l =
         let C = mounts (p .nand) n (S .size i) (length torn) in
-        let r = c .power t (p .kept) (p .number) (v .is) .enough l in
-        let d = c .done t (p .kept) (p .number) (v .is) l in
+        let r = c .power t (p .kept) (p .number) (v .is) (v .thick) .enough l in
+        let d = c .done t (p .kept) (p .number) (v .is) (v .thick) l in
         let k = mounted-kept in
         let q : stateOf S s' i' ≡ mounted (p .nand) p = d .0 ∙ ap (resting (p .nand) (p .kept) (p .number)) (sym (v .sized)) in
         out-passed p C w a s' i' (refusal-later p C 0 t refl) (not-cut p C a (r .0)) (r .0)
-        (record { image = record { is = k .is; room = k .room; sized = k .sized }; power = ap (λ (x : Plain). x .on) q; live = λ h. (q, d .1) })
+        (record { image = record { is = k .is; thick = k .thick; room = k .room; sized = k .sized }; power = ap (λ (x : Plain). x .on) q; live = λ h. (q, d .1) })
 
     mount-cut : n < length (S .mountOps (p .nand) i) → Conforms p (mounts (p .nand) n (S .size i) (length torn)) w a s' i'
     unfolding cutOff
     mount-cut l =
         let C = mounts (p .nand) n (S .size i) (length torn) in
-        let r = c .power t (p .kept) (p .number) (v .is) .short l in
+        let r = c .power t (p .kept) (p .number) (v .is) (v .thick) .short l in
         let few = c .few (p .kept) (p .number) (v .is) in
         out-cut p C w a s' i' (refusal-later p C 0 t refl) (lt-ltb n (enoughMarks) (omega arith)) (r .0)
-        (off-inv p s' i' mounted-kept (c .cut t (p .kept) (p .number) (v .is) l))
+        (off-inv p s' i' mounted-kept (c .cut t (p .kept) (p .number) (v .is) (v .thick) l))
 
     mount-step : Conforms p (mounts (p .nand) n (S .size i) (length torn)) w a s' i'
     mount-step = cases (leb (length (S .mountOps (p .nand) i)) n) (λ l. mount-done (leb-true (length (S .mountOps (p .nand) i)) n l)) (λ l. mount-cut (leb-false (length (S .mountOps (p .nand) i)) n l))
@@ -427,7 +439,7 @@ module _ (S : Store) (rooms : Bool) where
   formatted-start nand n torn s i a ops s' i' t c l =
       let d = c .done t l in
       record {
-        image = record { is = d .1; room = λ b. d .3; sized = ap (blocksOf (geometryOf nand)) (sym (c .first .sameSize)) };
+        image = record { is = d .1; thick = leaf-not-thin (blocksOf (geometryOf nand) (S .size i)); room = λ b. d .3; sized = ap (blocksOf (geometryOf nand)) (sym (c .first .sameSize)) };
         power = ap (λ (x : Plain). x .on) (d .0);
         live = λ h. (d .0, d .2);
       }
@@ -550,9 +562,9 @@ module _ (S : Store) (rooms : Bool) where
   unfolding stateOf resting
   begins nand K G s i f r =
       record {
-        image = record { is = f .image; room = r; sized = refl };
+        image = record { is = f .image; thick = f .thick; room = r; sized = refl };
         states = λ t h. subst (λ (y : S .State). Invariant (starts S nand K G i) y i) (sym h)
-            (record { image = record { is = f .image; room = r; sized = refl }; power = ap (λ (x : Plain). x .on) (f .is); live = λ o. (f .is, f .good) });
+            (record { image = record { is = f .image; thick = f .thick; room = r; sized = refl }; power = ap (λ (x : Plain). x .on) (f .is); live = λ o. (f .is, f .good) });
       }
 
   -- with no format cut, and each mount naming the part
@@ -575,26 +587,71 @@ module _ (S : Store) where
   format-passed nand n torn s i ops s' i' zero e c =
       cases (leb (length (S .formatOps nand (blocksOf (geometryOf nand) (S .size i)))) n)
       (λ l. let d = c .done e (leb-true (length (S .formatOps nand (blocksOf (geometryOf nand) (S .size i)))) n l) in
-      rw (c .first .sameSize) (record { mounted = record { is = rw (c .first .sameSize) (d .0); image = d .1; good = d .2 }; room = d .3 }))
+      rw (c .first .sameSize) (record { mounted = record { is = rw (c .first .sameSize) (d .0); image = d .1; thick = leaf-not-thin (blocksOf (geometryOf nand) (S .size i)); good = d .2 }; room = d .3 }))
       (λ l. absurd (accepted-not 10 (c .power e .short (leb-false (length (S .formatOps nand (blocksOf (geometryOf nand) (S .size i)))) n l) .0)))
 
   -- a finished format is a start
-  pub format-starts : (nand : Nand) (s : S .State) (i : S .Image) → Formatted S nand s i → Started S nand (leaf (blocksOf (geometryOf nand) (S .size i))) 1 s i
+  pub format-starts : FormatStarts S
   format-starts nand s i f =
       format-passed nand (f .allowance) (f .torn) (f .before) (f .was) (f .ops) s i
       (firstRefusal (S .nand (f .before)) (S .on (f .before)) (S .blocks (f .before)) (formats nand (f .allowance) (S .size (f .was)) (length (f .torn)))) refl (f .says)
 
-  -- a finished mount leaves any image with a meaning mounted; where it has room that is a start
+  -- ---- a rebuild that is refused with nothing but 10: its image has a meaning, a number is left, and enough blocks are wholly free
+  rebuild-passed : (nand : Nand) (n : ℕ) (torn : List ℕ) (s : S .State) (i : S .Image) (a : Answer) (ops : ℕ) (s' : S .State) (i' : S .Image) (K : Table) (G m : ℕ) → S .meaning nand i ≡ means K G
+      → Rebuild S nand n torn s i a ops s' i' → ((k : ℕ) → (k ≡ 10 → ⊥) → a ≡ refuses k → ⊥) → startRefusal (geometryOf nand) (S .size i) (length torn) ≡ m → Rebuilding S nand torn i K G
+  rebuild-passed nand n torn s i a ops s' i' K G (suc m) k c f e =
+      let z = when-is 1 m (not (isChipSize (geometryOf nand) (S .size i) && isTornSize (geometryOf nand) (length torn))) e in
+      absurd (f (suc m) (λ q. omega arith) (c .size m e .0))
+  rebuild-passed nand n torn s i a ops s' i' K G zero k c f e =
+      let h : G < lastNumber
+      = cases (ltb G lastNumber) (λ b. ltb-true G lastNumber b) (λ b. absurd (f 6 (λ q. omega arith) (c .last e K G k (ltb-false G lastNumber b) .0))) in
+      record {
+        sizes = e;
+        image = k;
+        number = h;
+        blocks = cases (S .hasFreeBlocks nand i) (λ b. b) (λ b. absurd (f 5 (λ q. omega arith) (c .full e K G k h b .0)));
+      }
+
+  -- a finished one is a start
+  pub rebuild-starts : RebuildStarts S
+  rebuild-starts nand K G s i f =
+      let c = f .says in
+      let n = f .allowance in
+      let j = f .was in
+      let r = rebuild-passed nand n (f .torn) (f .before) j accepted (f .ops) s i K G (startRefusal (geometryOf nand) (S .size j) (length (f .torn))) (f .image) c (λ k q. accepted-not k) refl in
+      cases (leb (length (S .rebuildOps nand j)) n)
+      (λ l. let h = leb-true (length (S .rebuildOps nand j)) n l in
+      let d = c .done K G r h in
+      let e = c .choice K G r ∙ ap (λ o. cond (o || (eqb (suc n) (length (S .rebuildOps nand j)) && eqb (getD (f .torn) 0 0) 0)) (means (rebuild K) (suc G)) (means K G)) (le-leb (length (S .rebuildOps nand j)) n h) in
+      record { mounted = record { is = rw (c .sameSize) (d .0); image = e; thick = d .1; good = d .2 }; room = d .3 })
+      (λ l. absurd (accepted-not 10 (c .power K G r .short (leb-false (length (S .rebuildOps nand j)) n l) .0)))
+
+  -- a cut one leaves the old tree or the new one
+  pub rebuild-cut : RebuildCut S
+  rebuild-cut nand n torn K G s i ops s' i' k c =
+      let r = rebuild-passed nand n torn s i (refuses 10) ops s' i' K G (startRefusal (geometryOf nand) (S .size i) (length torn)) k c (λ m q. apart 10 m (λ z. q (sym z))) refl in
+      let few = c .few K G r in
+      cases (leb (length (S .rebuildOps nand i)) n)
+      (λ l. absurd (accepted-not 10 (sym (c .power K G r .enough (leb-true (length (S .rebuildOps nand i)) n l) .0))))
+      (λ l. let h = leb-false (length (S .rebuildOps nand i)) n l in (
+        omega arith,
+        c .power K G r .short h .1,
+        c .cut K G r h,
+        either-or (takesEffect (getD torn 0 0) n (length (S .rebuildOps nand i))) (S .meaning nand i') (means (rebuild K) (suc G)) (means K G) (c .choice K G r) _ inr inl,
+      ))
+
+  -- a finished mount leaves any image that it accepts mounted; where it has room that is a start
   mount-passed : (nand : Nand) (n : ℕ) (torn : List ℕ) (s : S .State) (i : S .Image) (ops : ℕ) (s' : S .State) (i' : S .Image) (K : Table) (G m : ℕ)
       → firstRefusal (S .nand s) (S .on s) (S .blocks s) (mounts nand n (S .size i) (length torn)) ≡ m → S .meaning nand i ≡ means K G → Mount S nand n torn s i accepted ops s' i'
       → Mounted S nand K G s' i' × (S .Room nand i → S .Room nand i')
   mount-passed nand n torn s i ops s' i' K G (suc m) e k c = absurd (accepted-not (suc m) (c .first .refused m e .0))
   mount-passed nand n torn s i ops s' i' K G zero e k c =
+      let h : thin K ≡ false = cases (thin K) (λ b. absurd (accepted-not 12 (c .refusedThin e K G k b .0))) (λ b. b) in
       cases (leb (length (S .mountOps nand i)) n)
-      (λ l. let d = c .done e K G k (leb-true (length (S .mountOps nand i)) n l) in
+      (λ l. let d = c .done e K G k h (leb-true (length (S .mountOps nand i)) n l) in
       let y = c .stays e K G k in
-      (record { is = rw (c .first .sameSize) (d .0); image = y .0; good = d .1 }, y .1))
-      (λ l. absurd (accepted-not 10 (c .power e K G k .short (leb-false (length (S .mountOps nand i)) n l) .0)))
+      (record { is = rw (c .first .sameSize) (d .0); image = y .0; thick = h; good = d .1 }, y .1))
+      (λ l. absurd (accepted-not 10 (c .power e K G k h .short (leb-false (length (S .mountOps nand i)) n l) .0)))
 
   pub mount-mounts : (nand : Nand) (n : ℕ) (torn : List ℕ) (s : S .State) (i : S .Image) (ops : ℕ) (s' : S .State) (i' : S .Image) (K : Table) (G : ℕ)
       → S .meaning nand i ≡ means K G → Mount S nand n torn s i accepted ops s' i' → Mounted S nand K G s' i' × (S .Room nand i → Started S nand K G s' i')

@@ -1,7 +1,7 @@
 -- A sample store that meets every contract: the image holds a tree, the state the updates that are pending. So the contracts can be met. Assumes nothing.
 use mathlib.Core.Path.{_≡_, refl, sym, ap, _∙_, subst}
 use mathlib.Core.Bool.{Bool, true, false, cond, not, _&&_}
-use mathlib.Core.List.{List, [], _∷_}
+use mathlib.Core.List.{List, [], _∷_, _++_}
 use Prim.Native.Nat.{ℕ, zero, suc, _+_, _%_, _<_, _≤_}
 use native.Mathlib.Omega.{arith}
 use lib.Dec.{ltb, leb, eqb}
@@ -16,13 +16,15 @@ use Rattle.chip.specs.declared.page.Mark.the-variants.{Valid, Obsolete}
 use Rattle.chip.specs.Chip.{Op, program, mark, erase}
 use Rattle.chip.specs.Erases.{erasesIn}
 use Rattle.tree.specs.Tree.{Table}
+use Rattle.tree.specs.Thick.{thin}
 use Rattle.promise.specs.Plain.{Answer, refuses, accepted, tells, Plain, orElse, when, ReadCall, UpdateCall, Call, reads, updates, forecasts, formats, commits, mounts, isChipSize, isTornSize, hasBlocks, firstRefusal, treeRefusal, laterRefusal, noNumberLeft, leaf, resting, fresh, updated, committed, enoughWrites}
 use Rattle.promise.specs.Calls.{Meaning, invalid, means, treeIn, Store, isOneOf, tellsOr, acceptsOr, ProperRead, ProperUpdate, stateOf, Same, FirstTests, Reads, Updates, Format, Proceeding, Commit, Forecast, Mount}
 use Rattle.promise.specs.Steps.{Act, read, update, forecast, format, commit, mount, boots, Step, one, Hands, Allowed, Runs}
-use Rattle.promise.proofs.Promise.{apart, accepted-not, when-is}
+use Rattle.promise.proofs.Promise.{apart, accepted-not, when-is, leaf-not-thin}
 use Rattle.promise.proofs.Proper.{apart-from}
 
--- the state, with the newest update first and a figure for each block; the image: the tree and number of its last whole commit, whether it has a void page, whether it has room
+-- the state, with the newest update first and a figure for each block; the image: the tree and number of its last whole commit, whether it has a void page, whether it has room,
+-- whether it has as many wholly free blocks as a rebuild needs
 pub record SampleState : Type 0 where
   pub on : Bool
   pub nand : Nand
@@ -38,6 +40,7 @@ pub record SampleImage : Type 0 where
   pub whole : Bool
   pub void : Bool
   pub roomy : Bool
+  pub spare : Bool
   pub size : ℕ
 
 abbrev pub grown : ℕ → List UpdateCall → Table → Table
@@ -60,13 +63,17 @@ commitOpsOf s = cond (ltb 0 (s .pending)) (workOf (s .number)) []
 abbrev pub mountOpsOf : SampleImage → List Op
 mountOpsOf i = cond (i .void) (mark 0 Obsolete ∷ []) []
 
+-- the void page's mark, then a page
+abbrev pub rebuildOpsOf : SampleImage → List Op
+rebuildOpsOf i = mountOpsOf i ++ (program 0 (7 ∷ []) ∷ mark 0 Valid ∷ [])
+
 -- an image with room has one to three free pages, by its number
 abbrev pub freeOf : SampleImage → ℕ
 freeOf i = cond (i .roomy) (suc (i .number % 3)) 0
 
--- calls leave no void page, and a state with the image's number
+-- calls leave no void page, a state with the image's number, and a tree that is not thin
 abbrev pub Tied : SampleState → SampleImage → Type 0
-Tied s i = (i .void ≡ false) × (s .number ≡ i .number)
+Tied s i = (i .void ≡ false) × (s .number ≡ i .number) × (thin (presentOf s i) ≡ false)
 
 abbrev pub sample : Store
 sample =
@@ -83,7 +90,9 @@ sample =
       present = presentOf;
       meaning = λ n. meaningOf;
       free = λ n. freeOf;
+      hasFreeBlocks = λ n i. i .spare;
       mountOps = λ n. mountOpsOf;
+      rebuildOps = λ n. rebuildOpsOf;
       commitOps = λ s i. commitOpsOf s;
       formatOps = λ n B. erase 0 ∷ erase 1 ∷ erase 2 ∷ program 0 (7 ∷ []) ∷ [];
       most = λ n. 3;
@@ -118,10 +127,10 @@ abbrev pub down : SampleState → SampleState
 down s = record { on = false; nand = s .nand; blocks = s .blocks; number = s .number; pending = s .pending; buffer = s .buffer; erases = s .erases }
 
 abbrev pub written : SampleState → SampleImage → SampleImage
-written s i = record { tree = presentOf s i; number = suc (s .number); whole = true; void = false; roomy = i .roomy; size = i .size }
+written s i = record { tree = presentOf s i; number = suc (s .number); whole = true; void = false; roomy = i .roomy; spare = i .spare; size = i .size }
 
 abbrev pub voided : Bool → SampleImage → SampleImage
-voided b i = record { tree = i .tree; number = i .number; whole = i .whole; void = b; roomy = i .roomy; size = i .size }
+voided b i = record { tree = i .tree; number = i .number; whole = i .whole; void = b; roomy = i .roomy; spare = i .spare; size = i .size }
 
 abbrev pub emptied : SampleState → SampleState
 emptied s =
@@ -148,18 +157,20 @@ forecastDone s i = planned s i (out accepted (length (commitOpsOf s)) s i)
 abbrev pub opened : Nand → SampleImage → SampleState
 opened nand i = record { on = true; nand = nand; blocks = blocksOf (geometryOf nand) (i .size); number = i .number; pending = 0; buffer = []; erases = λ b. 0 }
 
+-- a mount of an image that it accepts, by its allowance
+abbrev pub mountWork : Nand → ℕ → SampleState → SampleImage → Outcome
+mountWork nand n s i = cond (leb (length (mountOpsOf i)) n) (out accepted (length (mountOpsOf i)) (opened nand i) (voided false i)) (out (refuses 10) n (down s) i)
+
 abbrev pub mountDone : Nand → ℕ → SampleState → SampleImage → Outcome
 mountDone nand n s i =
-    cond (i .whole)
-    (cond (leb (length (mountOpsOf i)) n) (out accepted (length (mountOpsOf i)) (opened nand i) (voided false i)) (out (refuses 10) n (down s) i))
-    (out (refuses 7) 0 (down s) i)
+    cond (i .whole) (cond (thin (i .tree)) (out (refuses 12) 0 (down s) i) (mountWork nand n s i)) (out (refuses 7) 0 (down s) i)
 
 abbrev pub formatDone : Nand → ℕ → SampleState → SampleImage → Outcome
 formatDone nand n s i =
     cond (leb 4 n)
     (out accepted 4 (record { on = true; nand = nand; blocks = blocksOf (geometryOf nand) (i .size); number = 1; pending = 0; buffer = []; erases = λ b. 0 })
-    (record { tree = leaf (blocksOf (geometryOf nand) (i .size)); number = 1; whole = true; void = false; roomy = true; size = i .size }))
-    (out (refuses 10) n (down s) (record { tree = []; number = 0; whole = false; void = false; roomy = false; size = i .size }))
+    (record { tree = leaf (blocksOf (geometryOf nand) (i .size)); number = 1; whole = true; void = false; roomy = true; spare = true; size = i .size }))
+    (out (refuses 10) n (down s) (record { tree = []; number = 0; whole = false; void = false; roomy = false; spare = false; size = i .size }))
 
 abbrev pub act : Act → SampleState → SampleImage → Outcome
 act (read r) s i = call (reads r (i .size)) s i (out (r .answer (stateOf sample s i)) 0 s i)
@@ -170,13 +181,13 @@ act (commit n torn) s i = call (commits n (i .size) (length torn)) s i (commitDo
 act (mount nand n torn) s i = call (mounts nand n (i .size) (length torn)) s i (mountDone nand n s i)
 
 -- ---- a fact of all outcomes of a call
-sieve-case : (P : Outcome → Type 0) (n m : ℕ) (s : SampleState) (i : SampleImage) (o : Outcome)
+pub sieve-case : (P : Outcome → Type 0) (n m : ℕ) (s : SampleState) (i : SampleImage) (o : Outcome)
     → ((k : ℕ) → n ≡ suc k → P (out (refuses (suc k)) 0 s i)) → ((k : ℕ) → n ≡ 0 → m ≡ suc k → P (out (refuses (suc k)) 0 s i)) → (n ≡ 0 → m ≡ 0 → P o) → P (sieve n m s i o)
 sieve-case P (suc n) m s i o f h p = f n refl
 sieve-case P zero (suc m) s i o f h p = h m refl refl
 sieve-case P zero zero s i o f h p = p refl refl
 
-same : {s : SampleState} {i : SampleImage} → Same sample s i s i
+pub same : {s : SampleState} {i : SampleImage} → Same sample s i s i
 same = record { state = refl; image = refl }
 
 -- a refusal that is neither 1 nor 2
@@ -206,7 +217,7 @@ two-one true b ns k e = subst (λ m. isOneOf m (2 ∷ 1 ∷ ns) ≡ true) e refl
 two-one false true ns k e = subst (λ m. isOneOf m (2 ∷ 1 ∷ ns) ≡ true) e refl
 two-one false false ns k e = absurd (omega arith)
 
-only-one : (b : Bool) (ns : List ℕ) (k : ℕ) → when 1 b ≡ suc k → isOneOf (suc k) (1 ∷ ns) ≡ true
+pub only-one : (b : Bool) (ns : List ℕ) (k : ℕ) → when 1 b ≡ suc k → isOneOf (suc k) (1 ∷ ns) ≡ true
 only-one b ns k e = subst (λ m. isOneOf m (1 ∷ ns) ≡ true) (sym (when-is 1 k b e)) refl
 
 pub more : (n m : ℕ) (ns : List ℕ) → isOneOf n ns ≡ true → isOneOf n (m ∷ ns) ≡ true
@@ -250,10 +261,10 @@ own-update u w B t m e =
 three-later : (u : UpdateCall) → ProperUpdate u → (B : ℕ) (t : Table) (k x : ℕ) → x < 16 → orElse (when 3 (leb 16 x)) (u .refusal B t) ≡ suc k → suc k ≡ 3 → ⊥
 three-later u w B t k x h e q = let f : u .refusal B t ≡ suc k = (rw (lt-leb 16 x h) at e) in apart-from (suc k) 3 (u .numbers) (w .range B t k f) (w .own 3 refl) q
 
-update-ok : (u : UpdateCall) → ProperUpdate u → (s : SampleState) (i : SampleImage)
+update-ok : (u : UpdateCall) → ProperUpdate u → (s : SampleState) (i : SampleImage) → thin (u .step (s .blocks) (presentOf s i)) ≡ false
     → Updates sample u s i (act (update u) s i .answer) (act (update u) s i .state) (act (update u) s i .image)
 unfolding stateOf updated
-update-ok u w s i =
+update-ok u w s i thick =
     let o = out accepted 0 (push u s) i in
     let c = updates u (i .size) in
     let f = firstRefusal (s .nand) (s .on) (s .blocks) c in
@@ -279,7 +290,7 @@ update-ok u w s i =
           (λ k z e r. three-later u w (s .blocks) (presentOf s i) k (s .pending) h e (let q : suc k ≡ 3 = cc in q))
           (λ z e r. accepted-not 3 r);
       then = λ good t n e. rw (t, e);
-      done = λ good t e. rw (t, e) (refl, refl, good);
+      done = λ good t e. rw (t, e) (refl, refl, (good .0, good .1, thick));
     }
 
 -- ---- commit
@@ -289,7 +300,7 @@ not-later m e = absurd (accepted-not m e)
 far : (n m : ℕ) → 2 < n → refuses n ≡ refuses m → NotFirst m
 far n m h e = let q : n ≡ m = cc in (λ z. omega arith, λ z. omega arith)
 
-cond-case : {A : Type 0} (P : A → Type 0) (b : Bool) (x y : A) → P x → P y → P (cond b x y)
+pub cond-case : {A : Type 0} (P : A → Type 0) (b : Bool) (x y : A) → P x → P y → P (cond b x y)
 cond-case P true x y h k = h
 cond-case P false x y h k = k
 
@@ -321,7 +332,7 @@ cut-means true s i = refl
 cut-means false s i = refl
 
 -- its operations are few on either part
-few-ops : (nand : Nand) → 4 ≤ enoughWrites nand
+pub few-ops : (nand : Nand) → 4 ≤ enoughWrites nand
 few-ops Small = omega arith
 few-ops Large = omega arith
 
@@ -408,8 +419,9 @@ commit-ok n torn s i =
           (record { enough = λ h. rw (le-leb 3 n h) (refl, refl); short = λ h. rw (lt-leb 3 n h) (refl, refl) });
       choice = λ q b. rw (commit-able n torn s i (q .proceeds) b, three-ops s (q .proceeds .pending))
           (cases (leb 3 n) (λ u. rw u) (λ u. rw u (cut-means (eqb (suc n) 3 && eqb (getD torn 0 0) 0) s i)));
+      thick = λ q. q .good .2;
       room = λ q b r. rw (commit-able n torn s i (q .proceeds) b) (cases (leb 3 n) (λ u. rw u r) (λ u. rw u (cut-room (eqb (suc n) 3 && eqb (getD torn 0 0) 0) s i r)));
-      done = λ q b h. rw (commit-finished n torn s i (q .proceeds) b h) (refl, (refl, refl));
+      done = λ q b h. rw (commit-finished n torn s i (q .proceeds) b h) (refl, (refl, refl, q .good .2));
       once = λ q b x. commit-once x (s .number) (ltb 0 (s .pending));
       adds = λ q b h x k. rw (commit-finished n torn s i (q .proceeds) b h);
       leavesFree = λ q b h. rw (commit-finished n torn s i (q .proceeds) b h, b) (omega arith);
@@ -448,34 +460,30 @@ forecast-ok s i =
 
 -- ---- mount
 mount-cases : (P : Outcome → Type 0) (nand : Nand) (n : ℕ) (s : SampleState) (i : SampleImage) → P (out accepted (length (mountOpsOf i)) (opened nand i) (voided false i)) → P (out (refuses 10) n (down s) i)
-    → P (out (refuses 7) 0 (down s) i) → P (mountDone nand n s i)
-mount-cases P nand n s i a b c =
+    → P (out (refuses 7) 0 (down s) i) → P (out (refuses 12) 0 (down s) i) → P (mountDone nand n s i)
+mount-cases P nand n s i a b c d =
     let x = out accepted (length (mountOpsOf i)) (opened nand i) (voided false i) in
     let y = out (refuses 10) n (down s) i in
-    cond-case P (i .whole) (cond (leb (length (mountOpsOf i)) n) x y) (out (refuses 7) 0 (down s) i) (cond-case P (leb (length (mountOpsOf i)) n) x y a b) c
+    let z = out (refuses 12) 0 (down s) i in
+    let w = cond (leb (length (mountOpsOf i)) n) x y in
+    cond-case P (i .whole) (cond (thin (i .tree)) z w) (out (refuses 7) 0 (down s) i)
+    (cond-case P (thin (i .tree)) z w d (cond-case P (leb (length (mountOpsOf i)) n) x y a b)) c
 
 void-few : (b : Bool) → length (cond b (mark 0 Obsolete ∷ []) []) ≤ 255
 void-few true = omega arith
 void-few false = omega arith
 
 -- what an image that means (K, G) is
-holds-by : (b : Bool) (t : Table) (n : ℕ) (K : Table) (G : ℕ) → cond b (means t n) (invalid 7) ≡ means K G → (b ≡ true) × (t ≡ K) × (n ≡ G)
+pub holds-by : (b : Bool) (t : Table) (n : ℕ) (K : Table) (G : ℕ) → cond b (means t n) (invalid 7) ≡ means K G → (b ≡ true) × (t ≡ K) × (n ≡ G)
 holds-by true t n K G e = (refl, cc, cc)
 holds-by false t n K G e = let u : _≡_ {A = ℕ} 0 1 = cc in absurd (omega arith)
 
-mount-whole : (nand : Nand) (n : ℕ) (s : SampleState) (i : SampleImage) → i .whole ≡ true
-    → mountDone nand n s i ≡ cond (leb (length (mountOpsOf i)) n) (out accepted (length (mountOpsOf i)) (opened nand i) (voided false i)) (out (refuses 10) n (down s) i)
-mount-whole nand n s i e = rw e
+mount-whole : (nand : Nand) (n : ℕ) (s : SampleState) (i : SampleImage) → i .whole ≡ true → thin (i .tree) ≡ false → mountDone nand n s i ≡ mountWork nand n s i
+mount-whole nand n s i e h = rw (e, h)
 
-invalid-by : (b : Bool) (t : Table) (n m : ℕ) → cond b (means t n) (invalid 7) ≡ invalid m → (b ≡ false) × (7 ≡ m)
+pub invalid-by : (b : Bool) (t : Table) (n m : ℕ) → cond b (means t n) (invalid 7) ≡ invalid m → (b ≡ false) × (7 ≡ m)
 invalid-by true t n m e = let u : _≡_ {A = ℕ} 0 1 = cc in absurd (omega arith)
 invalid-by false t n m e = (refl, cc)
-
-cond-means : (b : Bool) (i : SampleImage) (n v : ℕ) (s s' : SampleState)
-    → (meaningOf (cond b (out accepted v s (voided false i)) (out (refuses 10) n s' i) .image) ≡ meaningOf i)
-    × (cond b (out accepted v s (voided false i)) (out (refuses 10) n s' i) .image .roomy ≡ i .roomy)
-cond-means true i n v s s' = (refl, refl)
-cond-means false i n v s s' = (refl, refl)
 
 ten-loud : (n k : ℕ) → refuses 10 ≡ refuses k → (k ≡ 10 → ⊥) → n ≡ 0
 ten-loud n k e f = let q : _≡_ {A = ℕ} 10 k = cc in absurd (f (sym q))
@@ -485,8 +493,8 @@ mount-is : (nand : Nand) (n : ℕ) (torn : List ℕ) (s : SampleState) (i : Samp
 mount-is nand n torn s i t = rw t
 
 mount-finished : (nand : Nand) (n : ℕ) (torn : List ℕ) (s : SampleState) (i : SampleImage) → firstRefusal (s .nand) (s .on) (s .blocks) (mounts nand n (i .size) (length torn)) ≡ 0 → i .whole ≡ true
-    → length (mountOpsOf i) ≤ n → act (mount nand n torn) s i ≡ out accepted (length (mountOpsOf i)) (opened nand i) (voided false i)
-mount-finished nand n torn s i t e h = mount-is nand n torn s i t ∙ mount-whole nand n s i e ∙ rw (le-leb (length (mountOpsOf i)) n h)
+    → thin (i .tree) ≡ false → length (mountOpsOf i) ≤ n → act (mount nand n torn) s i ≡ out accepted (length (mountOpsOf i)) (opened nand i) (voided false i)
+mount-finished nand n torn s i t e k h = mount-is nand n torn s i t ∙ mount-whole nand n s i e k ∙ rw (le-leb (length (mountOpsOf i)) n h)
 
 -- it sets a mark or does nothing
 mount-none : (b : ℕ) (c : Bool) → erasesIn b (cond c (mark 0 Obsolete ∷ []) []) ≡ 0
@@ -502,50 +510,53 @@ mount-ok nand n torn s i =
     let f = firstRefusal (s .nand) (s .on) (s .blocks) c in
     record {
       first = first-ok c s i o (λ m e. absurd (omega arith))
-          (mount-cases (λ x. (m : ℕ) → x .answer ≡ refuses m → NotFirst m) nand n s i not-later (λ m. far 10 m (omega arith)) (λ m. far 7 m (omega arith)))
-          (mount-cases (λ x. x .image .size ≡ i .size) nand n s i refl refl refl);
-      range = sieve-case (λ x. acceptsOr (1 ∷ 7 ∷ 8 ∷ 9 ∷ 10 ∷ []) (x .answer) ≡ true) f 0 s i o
-          (only-one (not (isChipSize (geometryOf nand) (i .size) && isTornSize (geometryOf nand) (length torn))) (7 ∷ 8 ∷ 9 ∷ 10 ∷ [])) (λ k z e. absurd (omega arith))
-          (λ z e. mount-cases (λ x. acceptsOr (1 ∷ 7 ∷ 8 ∷ 9 ∷ 10 ∷ []) (x .answer) ≡ true) nand n s i refl refl refl);
+          (mount-cases (λ x. (m : ℕ) → x .answer ≡ refuses m → NotFirst m) nand n s i not-later (λ m. far 10 m (omega arith)) (λ m. far 7 m (omega arith)) (λ m. far 12 m (omega arith)))
+          (mount-cases (λ x. x .image .size ≡ i .size) nand n s i refl refl refl refl);
+      range = sieve-case (λ x. acceptsOr (1 ∷ 7 ∷ 8 ∷ 9 ∷ 12 ∷ 10 ∷ []) (x .answer) ≡ true) f 0 s i o
+          (only-one (not (isChipSize (geometryOf nand) (i .size) && isTornSize (geometryOf nand) (length torn))) (7 ∷ 8 ∷ 9 ∷ 12 ∷ 10 ∷ [])) (λ k z e. absurd (omega arith))
+          (λ z e. mount-cases (λ x. acceptsOr (1 ∷ 7 ∷ 8 ∷ 9 ∷ 12 ∷ 10 ∷ []) (x .answer) ≡ true) nand n s i refl refl refl refl);
       quiet = sieve-case (λ x. (k : ℕ) → x .answer ≡ refuses k → (k ≡ 10 → ⊥) → x .ops ≡ 0) f 0 s i o (λ k e m q d. refl) (λ k z e m q d. refl)
-          (λ z e. mount-cases (λ x. (k : ℕ) → x .answer ≡ refuses k → (k ≡ 10 → ⊥) → x .ops ≡ 0) nand n s i (λ k e f. absurd (accepted-not k e)) (ten-loud n) (λ k e f. refl));
+          (λ z e. mount-cases (λ x. (k : ℕ) → x .answer ≡ refuses k → (k ≡ 10 → ⊥) → x .ops ≡ 0) nand n s i (λ k e f. absurd (accepted-not k e)) (ten-loud n) (λ k e f. refl) (λ k e f. refl));
       few = λ K G e. void-few (i .void);
       refused = λ t m e.
           let b = invalid-by (i .whole) (i .tree) (i .number) m e in
           rw (mount-is nand n torn s i t, b .0) (ap refuses (b .1), refl, refl, refl);
-      power = λ t K G e.
+      refusedThin = λ t K G e h.
           let b = holds-by (i .whole) (i .tree) (i .number) K G e in
-          rw (mount-is nand n torn s i t, mount-whole nand n s i (b .0))
+          rw (mount-is nand n torn s i t, b .0, ap thin (b .1) ∙ h) (refl, refl, refl, refl);
+      power = λ t K G e k.
+          let b = holds-by (i .whole) (i .tree) (i .number) K G e in
+          rw (mount-is nand n torn s i t, mount-whole nand n s i (b .0) (ap thin (b .1) ∙ k))
           (record { enough = λ h. rw (le-leb (length (mountOpsOf i)) n h) (refl, refl); short = λ h. rw (lt-leb (length (mountOpsOf i)) n h) (refl, refl) });
       stays = λ t K G e.
           let b = holds-by (i .whole) (i .tree) (i .number) K G e in
-          let d = mount-is nand n torn s i t ∙ mount-whole nand n s i (b .0) in
-          let k = cond-means (leb (length (mountOpsOf i)) n) i n (length (mountOpsOf i)) (opened nand i) (down s) in
+          let d = mount-is nand n torn s i t in
+          let k = mount-cases (λ x. (meaningOf (x .image) ≡ meaningOf i) × (x .image .roomy ≡ i .roomy)) nand n s i (refl, refl) (refl, refl) (refl, refl) (refl, refl) in
           (ap (λ x. meaningOf (x .image)) d ∙ k .0 ∙ e, λ r. ap (λ x. x .image .roomy) d ∙ k .1 ∙ r);
-      done = λ t K G e h.
+      done = λ t K G e k h.
           let b = holds-by (i .whole) (i .tree) (i .number) K G e in
-          let d = mount-finished nand n torn s i t (b .0) h in (
+          let d = mount-finished nand n torn s i t (b .0) (ap thin (b .1) ∙ k) h in (
             ap (λ x. stateOf sample (x .state) (x .image)) d
                 ∙ ap (λ m. record { kept = treeIn m; present = treeIn m; pending = 0; number = i .number; on = true; nand = nand; blocks = blocksOf (geometryOf nand) (i .size) }) e
                 ∙ ap (λ m. record { kept = K; present = K; pending = 0; number = m; on = true; nand = nand; blocks = blocksOf (geometryOf nand) (i .size) }) (b .2),
-            subst (λ x. Tied (x .state) (x .image)) (sym d) (refl, refl),
+            subst (λ x. Tied (x .state) (x .image)) (sym d) (refl, refl, ap (λ m. thin (treeIn m)) e ∙ k),
           );
-      cut = λ t K G e h.
+      cut = λ t K G e k h.
           let b = holds-by (i .whole) (i .tree) (i .number) K G e in
-          rw (mount-is nand n torn s i t, mount-whole nand n s i (b .0), lt-leb (length (mountOpsOf i)) n h);
+          rw (mount-is nand n torn s i t, mount-whole nand n s i (b .0) (ap thin (b .1) ∙ k), lt-leb (length (mountOpsOf i)) n h);
       zeros = sieve-case (λ x. x .answer ≡ accepted → (b : ℕ) → x .state .erases b ≡ 0) f 0 s i o (λ k e q. absurd (accepted-not (suc k) (sym q)))
           (λ k z e. absurd (omega arith))
-          (λ z e. mount-cases (λ x. x .answer ≡ accepted → (b : ℕ) → x .state .erases b ≡ 0) nand n s i (λ q b. refl) (λ q. absurd (accepted-not 10 (sym q))) (λ q. absurd (accepted-not 7 (sym q))));
+          (λ z e. mount-cases (λ x. x .answer ≡ accepted → (b : ℕ) → x .state .erases b ≡ 0) nand n s i (λ q b. refl) (λ q. absurd (accepted-not 10 (sym q))) (λ q. absurd (accepted-not 7 (sym q))) (λ q. absurd (accepted-not 12 (sym q))));
       noErase = λ b. mount-none b (i .void);
       still = λ t good own. (
         rw (good .0),
-        sieve-case (λ x. x .image ≡ i) f 0 s i o (λ k e. refl) (λ k z e. refl) (λ z e. mount-cases (λ x. x .image ≡ i) nand n s i (ap (λ b. voided b i) (sym (good .0))) refl refl),
+        sieve-case (λ x. x .image ≡ i) f 0 s i o (λ k e. refl) (λ k z e. refl) (λ z e. mount-cases (λ x. x .image ≡ i) nand n s i (ap (λ b. voided b i) (sym (good .0))) refl refl refl),
       );
     }
 
 -- ---- format
 format-cases : (P : Outcome → Type 0) (nand : Nand) (n : ℕ) (s : SampleState) (i : SampleImage)
-    → P (cond true (formatDone nand 4 s i) (formatDone nand 4 s i)) → P (out (refuses 10) n (down s) (record { tree = []; number = 0; whole = false; void = false; roomy = false; size = i .size })) → P (formatDone nand n s i)
+    → P (cond true (formatDone nand 4 s i) (formatDone nand 4 s i)) → P (out (refuses 10) n (down s) (record { tree = []; number = 0; whole = false; void = false; roomy = false; spare = false; size = i .size })) → P (formatDone nand n s i)
 format-cases P nand n s i a b = cases (leb 4 n) (λ u. rw u a) (λ u. rw u b)
 
 format-ok : (nand : Nand) (n : ℕ) (torn : List ℕ) (s : SampleState) (i : SampleImage)
@@ -566,29 +577,29 @@ format-ok nand n torn s i =
           (λ z e. format-cases (λ x. (k : ℕ) → x .answer ≡ refuses k → (k ≡ 10 → ⊥) → x .ops ≡ 0) nand n s i (λ k e f. absurd (accepted-not k e)) (ten-loud n));
       few = λ t. let k = few-ops nand in omega arith;
       power = λ t. rw t (record { enough = λ h. rw (le-leb 4 n h) (refl, refl); short = λ h. rw (lt-leb 4 n h) (refl, refl) });
-      done = λ t h. rw (t, le-leb 4 n h) (refl {a = fresh nand (blocksOf (geometryOf nand) (i .size))}, refl, (refl, refl), refl);
+      done = λ t h. rw (t, le-leb 4 n h) (refl {a = fresh nand (blocksOf (geometryOf nand) (i .size))}, refl, (refl, refl, leaf-not-thin (blocksOf (geometryOf nand) (i .size))), refl);
       zeros = sieve-case (λ x. x .answer ≡ accepted → (b : ℕ) → x .state .erases b ≡ 0) f 0 s i o (λ k e q. absurd (accepted-not (suc k) (sym q)))
           (λ k z e. absurd (omega arith))
           (λ z e. format-cases (λ x. x .answer ≡ accepted → (b : ℕ) → x .state .erases b ≡ 0) nand n s i (λ q b. refl) (λ q. absurd (accepted-not 10 (sym q))));
       cut = λ t h. rw (t, lt-leb 4 n h);
     }
 
--- ---- any proper call of the sample store is allowed by its contract
-abbrev pub Proper : Act → Type 0
-Proper (read r) = ProperRead r
-Proper (update u) = ProperUpdate u
-Proper forecast = Unit {0}
-Proper (format nand n torn) = Unit {0}
-Proper (commit n torn) = Unit {0}
-Proper (mount nand n torn) = Unit {0}
+-- ---- any proper call of the sample store is allowed by its contract, where an update makes no thin tree
+abbrev pub Proper : Act → SampleState → SampleImage → Type 0
+Proper (read r) s i = ProperRead r
+Proper (update u) s i = ProperUpdate u × (thin (u .step (s .blocks) (presentOf s i)) ≡ false)
+Proper forecast s i = Unit {0}
+Proper (format nand n torn) s i = Unit {0}
+Proper (commit n torn) s i = Unit {0}
+Proper (mount nand n torn) s i = Unit {0}
 
-pub allowed : (x : Act) → Proper x → (s : SampleState) (i : SampleImage) → Allowed sample x s i (act x s i .answer) (act x s i .ops) (act x s i .state) (act x s i .image)
-allowed (read r) w s i = read-ok r w s i
-allowed (update u) w s i = update-ok u w s i
-allowed forecast w s i = forecast-ok s i
-allowed (format nand n torn) w s i = format-ok nand n torn s i
-allowed (commit n torn) w s i = commit-ok n torn s i
-allowed (mount nand n torn) w s i = mount-ok nand n torn s i
+pub allowed : (x : Act) (s : SampleState) (i : SampleImage) → Proper x s i → Allowed sample x s i (act x s i .answer) (act x s i .ops) (act x s i .state) (act x s i .image)
+allowed (read r) s i w = read-ok r w s i
+allowed (update u) s i w = update-ok u (w .0) s i (w .1)
+allowed forecast s i w = forecast-ok s i
+allowed (format nand n torn) s i w = format-ok nand n torn s i
+allowed (commit n torn) s i w = commit-ok n torn s i
+allowed (mount nand n torn) s i w = mount-ok nand n torn s i
 
 -- ---- and so any list of calls on it is one that the promise is about, also where the box was without power before a mount or a format
 pub data Order : Type 0 where
@@ -615,17 +626,17 @@ stepsOf (x ∷ xs) s i = stepOf x s i ∷ stepsOf xs (stepOf x s i .state) (step
 -- proper calls; after a reboot a mount or a format that is not refused with 1
 abbrev pub Fine : List Order → SampleState → SampleImage → Type 0
 Fine [] s i = Unit {0}
-Fine (next x ∷ xs) s i = Proper x × Fine xs (stepOf (next x) s i .state) (stepOf (next x) s i .image)
+Fine (next x ∷ xs) s i = Proper x s i × Fine xs (stepOf (next x) s i .state) (stepOf (next x) s i .image)
 Fine (reboot t x ∷ xs) s i =
-    (Proper x × (boots x ≡ true) × (act x t i .answer ≡ refuses 1 → ⊥)) × Fine xs (stepOf (reboot t x) s i .state) (stepOf (reboot t x) s i .image)
+    (Proper x t i × (boots x ≡ true) × (act x t i .answer ≡ refuses 1 → ⊥)) × Fine xs (stepOf (reboot t x) s i .state) (stepOf (reboot t x) s i .image)
 
 pub runs : (xs : List Order) (H : SampleState → Type 0) (s : SampleState) (i : SampleImage) → H s → Fine xs s i → Runs sample H i (stepsOf xs s i)
 runs [] H s i h f = tt
 runs (next x ∷ xs) H s i h f = (
-  record { allowed = allowed x (f .0) s i; lends = one refl refl; handed = λ b. h },
+  record { allowed = allowed x s i (f .0); lends = one refl refl; handed = λ b. h },
   runs xs (Hands sample H (stepOf (next x) s i)) (act x s i .state) (act x s i .image) (record { returned = refl; known = λ e. h }) (f .1),
 )
 runs (reboot t x ∷ xs) H s i h f = (
-  record { allowed = allowed x (f .0 .0) t i; lends = one refl refl; handed = λ b. clash (f .0 .1) b },
+  record { allowed = allowed x t i (f .0 .0); lends = one refl refl; handed = λ b. clash (f .0 .1) b },
   runs xs (Hands sample H (stepOf (reboot t x) s i)) (act x t i .state) (act x t i .image) (record { returned = refl; known = λ e. absurd (f .0 .2 e) }) (f .1),
 )

@@ -10,6 +10,7 @@ use Rattle.views.specs.Nodes.{View, entry, untouched, view}
 use Rattle.tree.specs.Tree as T
 use Rattle.tree.specs.Insert as Ins
 use Rattle.tree.specs.Delete as Del
+use Rattle.tree.specs.Thick.{thin}
 use Rattle.promise.specs.Plain.{deletes, commits, mounts, insertion, deletion, UpdateCall, refuses, accepted, Fed, Compared, plainRun, isChipSize, isTornSize, hasBlocks, verdict, leaf, resting, updated, committed, finished, off, cutOff, acceptedAnswer}
 use Rattle.promise.specs.Calls.{stateOf}
 use Rattle.promise.specs.Steps.{insert, delete, commit, mount, Only, lastImage}
@@ -54,12 +55,13 @@ abbrev pub kept : List Order
 kept = next (insert 7 99) ∷ next (commit 2 (torn 0)) ∷ next (mount Small 255 (torn 90)) ∷ next (delete 7) ∷ []
 
 kept-fine : Fine kept s₀ i₀
-kept-fine = (insert-proper 7 99, (tt, (tt, (delete-proper 7, tt))))
+unfolding insertion deletion isChipSize isTornSize hasBlocks stateOf leaf thin Ins.insert Ins.allowed Ins.inserted Ins.insertAt Ins.gain Ins.fitOrSplit Ins.halve Ins.raise T.find Del.delete Del.deleteAt Del.settle Del.join Del.takeOver
+kept-fine = ((insert-proper 7 99, refl), (tt, (tt, ((delete-proper 7, refl), tt))))
 
 pub sample-thick :
     (map sampleAnswer (stepsOf kept s₀ i₀) ≡ accepted ∷ refuses 10 ∷ accepted ∷ accepted ∷ [])
     × ThickAt sample 8 (plainAt sample Small (leaf 3) 1 i₀ (stepsOf kept s₀ i₀)) (lastImage sample i₀ (stepsOf kept s₀ i₀))
-unfolding insertion deletion isChipSize isTornSize hasBlocks stateOf leaf Ins.insert Ins.allowed Ins.inserted Ins.insertAt Ins.gain Ins.fitOrSplit T.find
+unfolding insertion deletion isChipSize isTornSize hasBlocks stateOf leaf thin Ins.insert Ins.allowed Ins.inserted Ins.insertAt Ins.gain Ins.fitOrSplit T.find Del.delete Del.deleteAt Del.settle Del.join Del.takeOver
 sample-thick = (
   refl,
   formatted-thick sample Small s₀ i₀ (stepsOf kept s₀ i₀) [] formatted (runs kept (Only sample s₀) s₀ i₀ refl kept-fine) (refl, (refl, (refl, (refl, tt)))) (refl, (refl, (refl, (refl, tt))))

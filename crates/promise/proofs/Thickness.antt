@@ -8,15 +8,16 @@ use lib.ListN.{length}
 use Rattle.lists.proofs.Tests.{cases}
 use Rattle.chip.specs.Geometry.{Nand, geometryOf, blocksOf}
 use Rattle.tree.specs.Tree.{Table}
+use Rattle.tree.specs.Rebuild.{rebuild}
 use Rattle.promise.specs.Plain.{Answer, accepted, Plain, UpdateCall, updates, firstRefusal, startRefusal, numbersRefusal, laterRefusal, refusalOf, mayCut, judge, verdict, leaf, resting, updated, committed, finished, off, cutOff, after, afterBy}
 use Rattle.promise.specs.Calls.{Store, Format}
 use Rattle.promise.specs.Steps.{Act, read, update, forecast, format, commit, mount, fed, isTen, isAccepted, Step, Lends, Only, Hands, lastImage, counts, strays, isCutFormat, Mode, promised, unpromised, begunBy, Allowed, Takes, Runs, Mounted, Formatted, starts, next, lastPlain, Agrees, modeFor, nextMode, MeaningIs, AgreesAny}
 use Rattle.promise.specs.History.{OfUpdate, AllUpdates}
-use Rattle.promise.specs.Thickness.{ThickTree, KeepsThick, ThickPlain, ThickAt, ThickIn, lastMode, StaysThick, FormattedThick, AnyThick, ForeignThick}
-use Rattle.promise.proofs.Promise.{accepted-not, accepted-is, format-starts, format-again}
+use Rattle.promise.specs.Thickness.{ThickTree, KeepsThick, ThickPlain, ThickAt, ThickIn, lastMode, StaysThick, FormattedThick, RebuiltThick, AnyThick, ForeignThick}
+use Rattle.promise.proofs.Promise.{accepted-not, accepted-is, format-starts, format-again, rebuild-starts}
 use Rattle.promise.proofs.Claims.{promise, promise-any, promise-foreign}
 use Rattle.promise.proofs.Values.{or-zero, chip-blocks}
-use Rattle.promise.proofs.Trees.{leaf-thick}
+use Rattle.promise.proofs.Trees.{leaf-thick, rebuild-thick}
 
 -- ---- one call of the plain store
 module _ (c : ℕ) where
@@ -145,6 +146,10 @@ module _ (S : Store) where
   formatted-thick nand s i xs ys f r d u k =
       let B = blocksOf (geometryOf nand) (S .size i) in
       stays-thick 8 nand (leaf B) 1 s i xs ys (record { started = format-starts S nand s i f; runs = r; named = d; uncut = u }) (formatted-tree 8 nand s i f) k
+
+  pub rebuilt-thick : RebuiltThick S
+  rebuilt-thick nand K G s i xs ys f t l r d u k =
+      stays-thick 8 nand (rebuild K) (suc G) s i xs ys (record { started = rebuild-starts S nand K G s i f; runs = r; named = d; uncut = u }) (rebuild-thick nand (S .size i) K t l) k
 
   pub any-thick : AnyThick S
   any-thick c nand K G s i xs ys f r t k =

@@ -1,21 +1,26 @@
--- Inserts and deletes of keys of 32 bits are lawful updates: they make trees of trees, and say what becomes of each key; and thick trees stay thick. Assumes nothing.
-use mathlib.Core.Path.{_≡_, refl, ap, _∙_, subst}
+-- Inserts and deletes of keys of 32 bits are lawful updates: they make trees of trees, and say what becomes of each key; thick trees stay thick; and a tree rebuilt. Assumes nothing.
+use mathlib.Core.Path.{_≡_, refl, sym, ap, _∙_, subst}
+use mathlib.Core.Logic.{⊎-elim}
 use mathlib.Core.Bool.{true, false}
 use Prim.Native.Nat.{ℕ, zero, suc, _*_, _-_, _<_, _≤_}
 use native.Mathlib.Omega.{arith}
 use lib.Dec.{eqb}
 use lib.ListN.{length, replicate, length-replicate}
 use borrow.Author.Tests.{eqb-true, eqb-false}
-use Rattle.lists.proofs.Tests.{cases}
+use Rattle.lists.proofs.Tests.{cases, same-or-not}
+use Rattle.chip.specs.Geometry.{Nand, geometryOf, blocksOf}
+use Rattle.chip.proofs.Sizes.{chip-size}
 use Rattle.views.specs.Nodes.{untouched}
-use Rattle.tree.specs.Tree.{Table, next, find}
+use Rattle.tree.specs.Tree.{Table, next, lookup, find}
 use Rattle.tree.specs.Insert.{TreeStep, refusal, done, insert}
 use Rattle.tree.specs.Delete.{delete}
-use Rattle.tree.specs.Step6.{top}
+use Rattle.tree.specs.Step6.{top, Tree}
 use Rattle.tree.specs.Thick.{Thick}
-use Rattle.tree.proofs.Laws.{first-tree, first-thick, inserted-thick, insert-done, insert-keeps, find-inserted, find-inserted-other, delete-keeps, delete-level, delete-next, delete-thick, delete-units, find-deleted, find-deleted-other}
+use Rattle.tree.specs.Rebuild.{rebuild}
+use Rattle.tree.proofs.Laws.{find-is, first-tree, first-thick, inserted-thick, insert-done, insert-keeps, find-inserted, find-inserted-other, delete-keeps, delete-level, delete-next, delete-thick, delete-units, find-deleted, find-deleted-other, rebuild-tree}
 use Rattle.promise.specs.Plain.{when, isRefused, tableAfter, saidIf, holds, gone, insertion, deletion, leaf}
 use Rattle.promise.specs.History.{TreeOf, afterSaid, Lawful}
+use Rattle.promise.specs.Promise.{RebuildKeeps}
 use Rattle.promise.specs.Thickness.{ThickTree, KeepsThick}
 
 none-next : (m : ℕ) → next (replicate m untouched) ≡ 0
@@ -96,3 +101,19 @@ insert-keeps-thick c k v l h B t T r =
 pub delete-keeps-thick : (c k : ℕ) → c ≤ 8 → k < top → KeepsThick c (deletion k)
 unfolding deletion
 delete-keeps-thick c k l h B t T r = record { tree = delete-tree B k t (T .tree) h; thick = delete-thick c k t (T .tree .tree) h l (T .thick .nodes) }
+
+-- ---- a tree rebuilt: a chip has 32 blocks at most
+blocks-most : (nand : Nand) (size : ℕ) → blocksOf (geometryOf nand) size ≤ 32
+blocks-most nand size =
+    let B = blocksOf (geometryOf nand) size in
+    ⊎-elim (λ (z : B ≡ 0). omega arith) (λ (z : B ≡ 0 → ⊥). chip-size (geometryOf nand) size B refl z .most) (same-or-not B 0)
+
+pub rebuild-thick : (nand : Nand) (size : ℕ) (K : Table) → Tree K → length K ≡ 8 * blocksOf (geometryOf nand) size → ThickTree 8 (blocksOf (geometryOf nand) size) (rebuild K)
+rebuild-thick nand size K T l =
+    let R = rebuild-tree (blocksOf (geometryOf nand) size) K (blocks-most nand size) T l in
+    record { tree = record { tree = R .tree; size = R .size; numbers = R .numbers; levels = omega (arith, R .level) }; thick = R .eights }
+
+pub rebuild-keeps : RebuildKeeps
+rebuild-keeps nand size K T l =
+    let R = rebuild-tree (blocksOf (geometryOf nand) size) K (blocks-most nand size) T l in
+    (rebuild-thick nand size K T l .tree, λ k h. find-is k (rebuild K) (R .tree) h ∙ ap (lookup k) (R .records) ∙ sym (find-is k K T h))

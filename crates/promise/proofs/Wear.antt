@@ -13,12 +13,12 @@ use Rattle.lists.proofs.Tests.{and-right, cases, clash}
 use Rattle.chip.specs.Geometry.{Nand, geometryOf, blocksOf}
 use Rattle.chip.specs.Chip.{Op}
 use Rattle.chip.specs.Erases.{erasesIn}
-use Rattle.promise.specs.Plain.{Answer, isCommit, isCut, cuts, firstRefusal}
-use Rattle.promise.specs.Calls.{Store}
+use Rattle.promise.specs.Plain.{Answer, Plain, resting, isCommit, isCut, cuts, firstRefusal}
+use Rattle.promise.specs.Calls.{Store, stateOf}
 use Rattle.promise.specs.Steps.{Act, read, update, forecast, format, commit, mount, fed, isOne, isTen, isAccepted, isFormat, formattedAs, namesOther, boots, Step, strays, Named, Only, Hands, lastHands, lastImage, feed, feeds, isCutFormat, isFinishedFormat, Uncut, NoFormat, Allowed, Takes, Runs}
 use Rattle.promise.specs.Erases.{operationsOf, doneBy, wholeErases}
-use Rattle.promise.specs.Wear.{isFinishedCommit, finishedCommits, NoneCut, Unbroken, Erased, OnceEach, ErasesPay, ErasesFew, LeavesFree}
-use Rattle.promise.proofs.Promise.{cond-same, names-is}
+use Rattle.promise.specs.Wear.{isFinishedCommit, finishedCommits, NoneCut, Unbroken, RebuiltUnbroken, Erased, OnceEach, ErasesPay, ErasesFew, LeavesFree}
+use Rattle.promise.proofs.Promise.{cond-same, names-is, rebuild-starts}
 use Rattle.promise.proofs.Effects.{OfPart, part-next, GoodAtHand, Worked, Booted, Effect, idle, worked, cut, booted, effect, good-first, good-next, erases-first}
 
 module _ (S : Store) where
@@ -238,6 +238,13 @@ module _ (S : Store) (n : Nand) where
 
 -- ---- the statements
 module _ (S : Store) where
+  pub rebuilt-unbroken : RebuiltUnbroken S
+  unfolding stateOf resting
+  rebuilt-unbroken nand K G s i xs f r d u n =
+      let m = rebuild-starts S nand K G s i f .mounted in
+      let own : S .nand s ≡ nand = ap (λ (p : Plain). p .nand) (m .is) in
+      record { good = m .good; runs = r; named = subst (λ (k : Nand). Named S k xs) (sym own) d; uncut = u; unformatted = n }
+
   at-place : (s : S .State) (i : S .Image) (xs ys : List (Step S)) → Unbroken S s i (xs ++ ys) → Place S (S .nand s) (lastHands S (Only S s) xs) (lastImage S i xs) ys
   at-place s i xs ys q =
       along S (S .nand s) xs ys (Only S s) i

@@ -7,6 +7,8 @@ use Rattle.chip.specs.declared.geometry.Nand.the-variants.{Small}
 use Rattle.chip.specs.Erases.{erasesIn}
 use Rattle.tree.specs.Tree as T
 use Rattle.tree.specs.Insert as Ins
+use Rattle.tree.specs.Delete as Del
+use Rattle.tree.specs.Thick.{thin}
 use Rattle.promise.specs.Plain.{cuts, insertion, deletion, refuses, accepted, isChipSize, isTornSize, hasBlocks, leaf}
 use Rattle.promise.specs.Calls.{stateOf}
 use Rattle.promise.specs.Steps.{insert, delete, commit, mount, Step, Only, feeds}
@@ -57,20 +59,20 @@ pub wear-examples :
     × (erasesIn 1 (doneBy sample firstCommit) ≡ 1)
     × (erasesIn 1 (doneBy sample lastCommit) ≡ 1)
     × (finishedCommits sample (firstCommit ∷ steps) ≡ 3)
-unfolding insertion deletion isChipSize isTornSize hasBlocks stateOf leaf Ins.insert Ins.allowed Ins.inserted Ins.insertAt Ins.gain Ins.fitOrSplit Ins.halve Ins.raise T.find
+unfolding insertion deletion isChipSize isTornSize hasBlocks stateOf leaf thin Ins.insert Ins.allowed Ins.inserted Ins.insertAt Ins.gain Ins.fitOrSplit Ins.halve Ins.raise T.find Del.delete Del.deleteAt Del.settle Del.join Del.takeOver
 wear-examples = (refl, refl, refl, refl, refl, refl, refl)
 
 -- and the laws are about this list
 worn-fine : Fine worn s₀ i₀
-unfolding insertion deletion isChipSize isTornSize hasBlocks stateOf leaf Ins.insert Ins.allowed Ins.inserted Ins.insertAt Ins.gain Ins.fitOrSplit Ins.halve Ins.raise T.find
+unfolding insertion deletion isChipSize isTornSize hasBlocks stateOf leaf thin Ins.insert Ins.allowed Ins.inserted Ins.insertAt Ins.gain Ins.fitOrSplit Ins.halve Ins.raise T.find Del.delete Del.deleteAt Del.settle Del.join Del.takeOver
 worn-fine =
-    (insert-proper 3 30, (tt, (insert-proper 4 40, (tt, (delete-proper 6, ((tt, refl, accepted-not 1), (tt, (insert-proper 5 50, (tt, (insert-proper 6 60, (tt, tt)))))))))))
+    ((insert-proper 3 30, refl), (tt, ((insert-proper 4 40, refl), (tt, ((delete-proper 6, refl), ((tt, refl, accepted-not 1), (tt, ((insert-proper 5 50, refl), (tt, ((insert-proper 6 60, refl), (tt, tt)))))))))))
 
 unbroken : Unbroken sample s₀ i₀ (stepsOf worn s₀ i₀)
-unfolding insertion deletion isChipSize isTornSize hasBlocks stateOf leaf Ins.insert Ins.allowed Ins.inserted Ins.insertAt Ins.gain Ins.fitOrSplit Ins.halve Ins.raise T.find
+unfolding insertion deletion isChipSize isTornSize hasBlocks stateOf leaf thin Ins.insert Ins.allowed Ins.inserted Ins.insertAt Ins.gain Ins.fitOrSplit Ins.halve Ins.raise T.find Del.delete Del.deleteAt Del.settle Del.join Del.takeOver
 unbroken =
     record {
-      good = (refl, refl);
+      good = (refl, refl, refl);
       runs = runs worn (Only sample s₀) s₀ i₀ refl worn-fine;
       named = (refl, (refl, (refl, (refl, (refl, (refl, (refl, (refl, (refl, (refl, (refl, tt)))))))))));
       uncut = (refl, (refl, (refl, (refl, (refl, (refl, (refl, (refl, (refl, (refl, (refl, tt)))))))))));
@@ -92,16 +94,16 @@ pub cut-examples :
     × (finishedCommits sample (stepsOf cutWorn s₀ i₀) ≡ 1)
     × (cuts (feeds sample (stepsOf cutWorn s₀ i₀)) ≡ 1)
     × (map (λ b. wholeErases sample b (stepsOf cutWorn s₀ i₀)) (0 ∷ 1 ∷ 2 ∷ []) ≡ 0 ∷ 2 ∷ 0 ∷ [])
-unfolding insertion deletion isChipSize isTornSize hasBlocks stateOf leaf Ins.insert Ins.allowed Ins.inserted Ins.insertAt Ins.gain Ins.fitOrSplit Ins.halve Ins.raise T.find
+unfolding insertion deletion isChipSize isTornSize hasBlocks stateOf leaf thin Ins.insert Ins.allowed Ins.inserted Ins.insertAt Ins.gain Ins.fitOrSplit Ins.halve Ins.raise T.find Del.delete Del.deleteAt Del.settle Del.join Del.takeOver
 cut-examples = (refl, refl, refl, refl)
 
 -- the law is about this list, and says no more than it does: twice 2 is 1 and 1 and twice 1
 cut-fine : Fine cutWorn s₀ i₀
-unfolding insertion deletion isChipSize isTornSize hasBlocks stateOf leaf Ins.insert Ins.allowed Ins.inserted Ins.insertAt Ins.gain Ins.fitOrSplit Ins.halve Ins.raise T.find
-cut-fine = (insert-proper 3 30, (tt, ((tt, refl, accepted-not 1), (insert-proper 3 30, (tt, tt)))))
+unfolding insertion deletion isChipSize isTornSize hasBlocks stateOf leaf thin Ins.insert Ins.allowed Ins.inserted Ins.insertAt Ins.gain Ins.fitOrSplit Ins.halve Ins.raise T.find Del.delete Del.deleteAt Del.settle Del.join Del.takeOver
+cut-fine = ((insert-proper 3 30, refl), (tt, ((tt, refl, accepted-not 1), ((insert-proper 3 30, refl), (tt, tt)))))
 
 pub sample-few : (b : ℕ) → 2 * wholeErases sample b (stepsOf cutWorn s₀ i₀) ≤ suc (finishedCommits sample (stepsOf cutWorn s₀ i₀) + 2 * cuts (feeds sample (stepsOf cutWorn s₀ i₀)))
-unfolding insertion deletion isChipSize isTornSize hasBlocks stateOf leaf Ins.insert Ins.allowed Ins.inserted Ins.insertAt Ins.gain Ins.fitOrSplit Ins.halve Ins.raise T.find
+unfolding insertion deletion isChipSize isTornSize hasBlocks stateOf leaf thin Ins.insert Ins.allowed Ins.inserted Ins.insertAt Ins.gain Ins.fitOrSplit Ins.halve Ins.raise T.find Del.delete Del.deleteAt Del.settle Del.join Del.takeOver
 sample-few =
-    erases-few sample s₀ i₀ (stepsOf cutWorn s₀ i₀) (refl, refl) (runs cutWorn (Only sample s₀) s₀ i₀ refl cut-fine)
+    erases-few sample s₀ i₀ (stepsOf cutWorn s₀ i₀) (refl, refl, refl) (runs cutWorn (Only sample s₀) s₀ i₀ refl cut-fine)
     (refl, (refl, (refl, (refl, (refl, tt))))) (refl, (refl, (refl, (refl, (refl, tt))))) (refl, (refl, (refl, (refl, (refl, tt)))))

@@ -1,5 +1,5 @@
 -- Erases on record. Document 02, note 5: 'over any list of calls as in the promise that leaves the store on, each figure equals the whole erases of that block in it
--- since that start', the last finished mount or format. The proofs are in proofs/.
+-- since that start', the last finished mount or format; note 6: it 'counts anew' from a finished rebuild, which stands in no list. The proofs are in proofs/.
 use mathlib.Core.Path.{_≡_}
 use mathlib.Core.Bool.{Bool, true, cond, _&&_}
 use mathlib.Core.List.{List, [], _∷_}
@@ -11,7 +11,7 @@ use Rattle.chip.specs.Chip.{Op}
 use Rattle.chip.specs.Erases.{erasesIn}
 use Rattle.tree.specs.Tree.{Table}
 use Rattle.promise.specs.Calls.{Store}
-use Rattle.promise.specs.Steps.{Act, read, update, forecast, format, commit, mount, isAccepted, boots, Step, Only, lastHands, Allowed, Runs}
+use Rattle.promise.specs.Steps.{Act, read, update, forecast, format, commit, mount, isAccepted, boots, Step, Only, lastHands, Allowed, Runs, Rebuilt}
 use Rattle.promise.specs.Promise.{Course}
 
 module _ (S : Store) where
@@ -42,12 +42,15 @@ module _ (S : Store) where
   wholeErases b [] = 0
   wholeErases b (x ∷ xs) = erasesIn b (doneBy x) + wholeErases b xs
 
-  -- every figure is 0, as a finished mount or format leaves it
+  -- every figure is 0, as a finished mount, format or rebuild leaves it
   abbrev pub Unworn : S .State → Type 0
   Unworn s = (b : ℕ) → S .erases s b ≡ 0
 
   abbrev pub StartsUnworn : Type 0
   StartsUnworn = (x : Step S) → begins x ≡ true → Allowed S (x .act) (x .given) (x .lent) (x .answer) (x .ops) (x .state) (x .left) → Unworn (x .state)
+
+  abbrev pub RebuiltUnworn : Type 0
+  RebuiltUnworn = (n : Nand) (K : Table) (G : ℕ) (s : S .State) (i : S .Image) → Rebuilt S n K G s i → Unworn s
 
   -- where a list of the promise leaves the store on, each figure is the whole erases of its block since the last finished mount or format, or since the start
   abbrev pub FiguresTell : Type 0

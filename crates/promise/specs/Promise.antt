@@ -3,14 +3,15 @@ use mathlib.Core.Path.{_≡_}
 use mathlib.Core.Logic.{_⊎_}
 use mathlib.Core.Bool.{true, false, cond}
 use mathlib.Core.List.{List, [], _∷_, _++_, map}
-use Prim.Native.Nat.{ℕ, _<_, _≤_}
+use Prim.Native.Nat.{ℕ, suc, _*_, _<_, _≤_}
 use lib.ListN.{length}
 use Rattle.chip.specs.Geometry.{Nand, geometryOf, blocksOf}
 use Rattle.tree.specs.Tree.{Table, find}
-use Rattle.tree.specs.Step6.{top}
-use Rattle.promise.specs.Plain.{Answer, refuses, accepted, lookedUp, Plain, lastNumber, plainRun, cuts, enoughWrites, enoughMarks}
-use Rattle.promise.specs.Calls.{Store, stateOf}
-use Rattle.promise.specs.Steps.{format, commit, mount, lookUp, Step, Only, Named, lastImage, counts, feeds, choices, seen, expected, boots, Uncut, NoFormat, Unstuck, Runs, Started, Mounted, starts, next, lastPlain, Agrees, promised, AgreesAny}
+use Rattle.tree.specs.Step6.{top, Tree}
+use Rattle.tree.specs.Rebuild.{rebuild}
+use Rattle.promise.specs.Plain.{Answer, refuses, accepted, lookedUp, Plain, lastNumber, plainRun, cuts, leaf, enoughWrites, enoughMarks}
+use Rattle.promise.specs.Calls.{means, Store, stateOf, Rebuild}
+use Rattle.promise.specs.Steps.{format, commit, mount, lookUp, Step, Only, Named, lastImage, counts, feeds, choices, seen, expected, boots, Uncut, NoFormat, Unstuck, Runs, Started, Mounted, Formatted, Rebuilt, starts, next, lastPlain, Agrees, promised, AgreesAny}
 use Rattle.promise.specs.History.{TreeOf, valueOf, Silent, History, begun, dropped, lastHistory, since, AllLawful}
 
 -- ---- which refusals a call of a list can have, where the plain store before it is p
@@ -28,8 +29,26 @@ pub data CommitRefusal (p : Plain) (n : ℕ) : ℕ → Type 0 where
   commit6 : 0 < p .pending → p .number ≡ lastNumber → CommitRefusal p n 6
   commit10 : 0 < p .pending → n < enoughWrites (p .nand) → CommitRefusal p n 10
 
+-- the tree that a rebuild makes of a tree of the chip's numbers is a tree of the chip, and each key has the value that it had
+abbrev pub RebuildKeeps : Type 0
+RebuildKeeps = (nand : Nand) (size : ℕ) (K : Table) → Tree K → length K ≡ 8 * blocksOf (geometryOf nand) size
+    → TreeOf (blocksOf (geometryOf nand) size) (rebuild K) × ((k : ℕ) → k < top → find k (rebuild K) ≡ find k K)
+
 module _ (S : Store) where
-  -- ---- a list of the promise: from a start, each mount naming the part of the last finished format, with no format cut
+  -- ---- the starts: a finished format; and a finished rebuild, with the new tree as K and P, the new commit's number as G and that chip's B, whoever began the chip
+  abbrev pub FormatStarts : Type 0
+  FormatStarts = (nand : Nand) (s : S .State) (i : S .Image) → Formatted S nand s i → Started S nand (leaf (blocksOf (geometryOf nand) (S .size i))) 1 s i
+
+  abbrev pub RebuildStarts : Type 0
+  RebuildStarts = (nand : Nand) (K : Table) (G : ℕ) (s : S .State) (i : S .Image) → Rebuilt S nand K G s i → Started S nand (rebuild K) (suc G) s i
+
+  -- a cut rebuild: too small an allowance, told as the operations done; the state is off, and the image holds the old tree or the new one
+  abbrev pub RebuildCut : Type 0
+  RebuildCut = (nand : Nand) (n : ℕ) (torn : List ℕ) (K : Table) (G : ℕ) (s : S .State) (i : S .Image) (ops : ℕ) (s' : S .State) (i' : S .Image) → S .meaning nand i ≡ means K G
+      → Rebuild S nand n torn s i (refuses 10) ops s' i'
+      → (n < enoughWrites nand) × (ops ≡ n) × (S .on s' ≡ false) × ((S .meaning nand i' ≡ means K G) ⊎ (S .meaning nand i' ≡ means (rebuild K) (suc G)))
+
+  -- ---- a list of the promise: from a start, each mount naming the part of the start or of the last finished format, with no format cut
   pub record Course (nand : Nand) (K : Table) (G : ℕ) (s : S .State) (i : S .Image) (xs : List (Step S)) : Type 0 where
     pub started : Started S nand K G s i
     pub runs : Runs S (Only S s) i xs

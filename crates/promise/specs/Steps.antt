@@ -9,8 +9,9 @@ use lib.ListN.{length}
 use Rattle.chip.specs.Geometry.{Nand, geometryOf, blocksOf}
 use Rattle.chip.specs.declared.geometry.Nand.the-variants.{Small, Large}
 use Rattle.tree.specs.Tree.{Table}
+use Rattle.tree.specs.Thick.{thin}
 use Rattle.promise.specs.Plain.{Answer, refuses, accepted, tells, Plain, ReadCall, UpdateCall, Call, reads, updates, forecasts, formats, commits, mounts, lookingUp, insertion, deletion, lastNumber, resting, fresh, answer, after, Fed, Compared, isCut}
-use Rattle.promise.specs.Calls.{Meaning, means, numberIn, Store, stateOf, Reads, Updates, Forecast, Format, Commit, Mount}
+use Rattle.promise.specs.Calls.{Meaning, means, numberIn, Store, stateOf, Reads, Updates, Forecast, Format, Commit, Mount, Rebuild}
 
 -- a call with its numbers and its torn slice
 pub data Act : Type 0 where
@@ -156,7 +157,7 @@ module _ (S : Store) where
   abbrev pub strays : Nand → Step → Bool
   strays n x = namesOther n (x .act) && not (isOne (x .answer))
 
-  -- each mount that is not refused with 1 names the part of the last finished format before it, n at the start
+  -- each mount that is not refused with 1 names the part of the last finished format before it, n at the start, which a format or a rebuild may have made
   abbrev pub Named : Nand → List Step → Type 0
   Named n [] = Unit {0}
   Named n (x ∷ xs) = (strays n x ≡ false) × Named (nandAfter n x) xs
@@ -233,10 +234,11 @@ module _ (S : Store) where
   Runs H i [] = Unit {0}
   Runs H i (x ∷ xs) = Takes H i x × Runs (Hands S H x) (x .image) xs
 
-  -- ---- on with nothing pending, where the image, read as part n, means (K, G): so a finished mount leaves any image with a meaning
+  -- ---- on with nothing pending, where the image, read as part n, means (K, G), and K is not thin: so a finished mount leaves any image that it accepts
   pub record Mounted (n : Nand) (K : Table) (G : ℕ) (s : S .State) (i : S .Image) : Type 0 where
     pub is : stateOf S s i ≡ resting n K G (blocksOf (geometryOf n) (S .size i))
     pub image : S .meaning n i ≡ means K G
+    pub thick : thin K ≡ false
     pub good : S .Good s i
 
   -- a list starts there, with room
@@ -255,6 +257,16 @@ module _ (S : Store) where
     pub was : S .Image
     pub ops : ℕ
     pub says : Format S n allowance torn before was accepted ops s i
+
+  -- and after a finished rebuild of an image that meant K and G
+  pub record Rebuilt (n : Nand) (K : Table) (G : ℕ) (s : S .State) (i : S .Image) : Type 0 where
+    pub allowance : ℕ
+    pub torn : List ℕ
+    pub before : S .State
+    pub was : S .Image
+    pub ops : ℕ
+    pub image : S .meaning n was ≡ means K G
+    pub says : Rebuild S n allowance torn before was accepted ops s i
 
   -- the plain store after a step from the one image i, and after a list
   abbrev pub next : Plain → S .Image → Step S → Plain

@@ -1,14 +1,17 @@
 -- Trees stay thick. Document 02, note 1: 'Source document 001, 4.3, keeps nodes half full; so should the tree.' Where a list starts with a tree in which every node but the root has
--- 8 entries or more, a leaf c or more, it stays so, for any c up to 8: with 0 leaves may be thin. A finished format is such a start with c = 8. The proofs are in proofs/.
+-- 8 entries or more, a leaf c or more, it stays so, for any c up to 8: with 0 leaves may be thin. A finished format is such a start with c = 8, and so is a finished rebuild of a tree. The proofs are in proofs/.
 use mathlib.Core.Path.{_≡_}
 use mathlib.Core.List.{List, [], _∷_, _++_}
-use Prim.Native.Nat.{ℕ}
+use Prim.Native.Nat.{ℕ, suc, _*_}
+use lib.ListN.{length}
 use Rattle.chip.specs.Geometry.{Nand, geometryOf, blocksOf}
 use Rattle.tree.specs.Tree.{Table}
+use Rattle.tree.specs.Step6.{Tree}
 use Rattle.tree.specs.Thick.{Thick}
+use Rattle.tree.specs.Rebuild.{rebuild}
 use Rattle.promise.specs.Plain.{Plain, UpdateCall, leaf}
 use Rattle.promise.specs.Calls.{Store, means}
-use Rattle.promise.specs.Steps.{Step, Only, lastImage, Named, Uncut, Unstuck, Runs, Mounted, Started, Formatted, starts, Mode, promised, unpromised, modeFor, nextMode}
+use Rattle.promise.specs.Steps.{Step, Only, lastImage, Named, Uncut, Unstuck, Runs, Mounted, Started, Formatted, Rebuilt, starts, Mode, promised, unpromised, modeFor, nextMode}
 use Rattle.promise.specs.History.{TreeOf, AllUpdates}
 use Rattle.promise.specs.Promise.{Course, plainAt}
 
@@ -52,6 +55,12 @@ module _ (S : Store) where
   abbrev pub FormattedThick : Type 0
   FormattedThick = (nand : Nand) (s : S .State) (i : S .Image) (xs ys : List (Step S)) → Formatted S nand s i → Runs S (Only S s) i (xs ++ ys) → Named S nand (xs ++ ys) → Uncut S (xs ++ ys)
       → AllUpdates S (KeepsThick 8) (xs ++ ys) → ThickAt 8 (plainAt S nand (leaf (blocksOf (geometryOf nand) (S .size i))) 1 i xs) (lastImage S i xs)
+
+  -- and after a finished rebuild of a tree of the chip's numbers
+  abbrev pub RebuiltThick : Type 0
+  RebuiltThick = (nand : Nand) (K : Table) (G : ℕ) (s : S .State) (i : S .Image) (xs ys : List (Step S)) → Rebuilt S nand K G s i → Tree K
+      → length K ≡ 8 * blocksOf (geometryOf nand) (S .size i) → Runs S (Only S s) i (xs ++ ys) → Named S nand (xs ++ ys) → Uncut S (xs ++ ys) → AllUpdates S (KeepsThick 8) (xs ++ ys)
+      → ThickAt 8 (plainAt S nand (rebuild K) (suc G) i xs) (lastImage S i xs)
 
   -- formats may be cut, and mounts may name the other part: nothing is said from there to the next finished format
   abbrev pub AnyThick : Type 0

@@ -6,10 +6,12 @@ use mathlib.Core.List.{List, [], _∷_, _++_}
 use Prim.Native.Nat.{ℕ, suc, _+_, _*_, _<_, _≤_}
 use lib.Dec.{ltb}
 use Rattle.lists.specs.Lists.{count}
+use Rattle.chip.specs.Geometry.{Nand}
 use Rattle.chip.specs.Erases.{erasesIn}
+use Rattle.tree.specs.Tree.{Table}
 use Rattle.promise.specs.Plain.{isCommit, cuts}
 use Rattle.promise.specs.Calls.{Store}
-use Rattle.promise.specs.Steps.{fed, isTen, isAccepted, Step, Only, Named, feeds, Uncut, NoFormat, Runs}
+use Rattle.promise.specs.Steps.{fed, isTen, isAccepted, Step, Only, Named, feeds, Uncut, NoFormat, Runs, Rebuilt}
 use Rattle.promise.specs.Erases.{doneBy, wholeErases}
 
 module _ (S : Store) where
@@ -26,13 +28,18 @@ module _ (S : Store) where
   NoneCut [] = Unit {0}
   NoneCut (x ∷ xs) = (isTen (x .answer) ≡ false) × NoneCut xs
 
-  -- a list of note 8: from a state that calls gave for the image, as a finished format gives one; mounts name its part, no call is cut, and no format finishes
+  -- a list of note 8: from a state that calls gave for the image, as a finished format or rebuild gives one; mounts name its part, no call is cut, and no format finishes
   pub record Unbroken (s : S .State) (i : S .Image) (xs : List (Step S)) : Type 0 where
     pub good : S .Good s i
     pub runs : Runs S (Only S s) i xs
     pub named : Named S (S .nand s) xs
     pub uncut : NoneCut xs
     pub unformatted : NoFormat S xs
+
+  -- so from a finished rebuild
+  abbrev pub RebuiltUnbroken : Type 0
+  RebuiltUnbroken = (nand : Nand) (K : Table) (G : ℕ) (s : S .State) (i : S .Image) (xs : List (Step S)) → Rebuilt S nand K G s i → Runs S (Only S s) i xs → Named S nand xs
+      → NoneCut xs → NoFormat S xs → Unbroken s i xs
 
   -- the step x erased block b whole
   abbrev pub Erased : ℕ → Step S → Type 0

@@ -34,7 +34,10 @@ use Rattle.views.proofs.ViewLaws.{view-listed}
 use Rattle.tree.specs.Step6.{step6}
 use Rattle.tree.specs.Shown.{shown}
 use Rattle.tree.specs.Free.{freeNumbers}
-use Rattle.tree.specs.CheckCode.{pagesTable, ChecksTree}
+use Rattle.tree.specs.Thick.{thin}
+use Rattle.tree.specs.declared.check.Growth.{Growth}
+use Rattle.tree.specs.CheckCode.{pagesTable, isGrown, isFoundThin, ChecksTree}
+use Rattle.log.specs.MountCode.{marksOf}
 use Rattle.log.specs.Mount.{lowerPlace, mountOps, retire}
 use Rattle.log.specs.Plan.{nodeAt}
 use Rattle.log.proofs.Voids.{Found, found}
@@ -45,7 +48,7 @@ use Rattle.store.proofs.SettledViews.{map-tab}
 use Rattle.store.proofs.SizeLaws.{chip-pages}
 use Rattle.store.specs.declared.check.Judged.the-variants as J
 use Rattle.store.specs.AdmitCode.{ChipOf}
-use Rattle.store.specs.CheckCode.{isRead, isTree, Passed, JudgesKeys, commitAt, meansBy, Numbered, refusedBy, marksOf, Checks}
+use Rattle.store.specs.CheckCode.{isRead, isTree, Passed, JudgesKeys, commitAt, meansBy, Numbered, refusedBy, Checks}
 
 module _ (g : Geometry) (image lens slots : List ℕ) (limit : ℕ) (few : limit ≤ 256) (v xs : List Live) (st : steps g (pagesOf g image) ≡ stand v xs)
     (read : isRead limit xs ≡ true) (lists : (n : ℕ) → n < 256 → Stores lens slots n (nodeOf n (events limit xs) .pages)) where
@@ -71,25 +74,26 @@ module _ (g : Geometry) (image lens slots : List ℕ) (limit : ℕ) (few : limit
   pub judged-layout : r ≡ false → isRead limit xs ≡ false
   judged-layout e = sym (t .good) ∙ e
 
-  module _ (e : r ≡ true) (counts : List ℕ) (q : Bool) (k : ChecksTree (pagesTable g image lens slots limit) counts q) where
+  module _ (e : r ≡ true) (counts : List ℕ) (q : Growth) (k : ChecksTree (pagesTable g image lens slots limit) counts q) where
     same-views : pagesTable g image lens slots limit ≡ viewsOf (table limit (events limit xs))
     same-views = views-listed g image lens slots limit few v xs st (sym (t .good) ∙ e) (t .lists e)
 
-    judged-same : q ≡ isTree limit xs
+    judged-same : isGrown q ≡ isTree limit xs
     judged-same = k .is ∙ ap step6 same-views
 
     -- the numbers counted by the walk are those that no node has
-    judged-free : q ≡ true → (free : List ℕ) → free ≡ wordsOf (uncounted limit counts) → free ≡ freeNumbers (viewsOf (table limit (events limit xs)))
+    judged-free : isGrown q ≡ true → (free : List ℕ) → free ≡ wordsOf (uncounted limit counts) → free ≡ freeNumbers (viewsOf (table limit (events limit xs)))
     unfolding freeNumbers shown
     judged-free h free f =
         f ∙ ap (λ (n : ℕ). wordsOf (uncounted n counts)) (sym (length-tab (nodeView g limit (pagesOf g image) lens slots 0 []) 0 limit))
         ∙ ap wordsOf (sym (k .counted h)) ∙ ap freeNumbers same-views
 
-    pub judged-shape : q ≡ false → (isRead limit xs ≡ true) × (isTree limit xs ≡ false)
+    pub judged-shape : isGrown q ≡ false → (isRead limit xs ≡ true) × (isTree limit xs ≡ false)
     judged-shape h = (sym (t .good) ∙ e, sym judged-same ∙ h)
 
-    pub judged-tree : q ≡ true → (free : List ℕ) → free ≡ wordsOf (uncounted limit counts) → Passed limit xs lens slots free
-    judged-tree h free f = record { read = sym (t .good) ∙ e; tree = sym judged-same ∙ h; lists = t .lists e; numbers = judged-free h free f }
+    pub judged-tree : (w : Bool) → isGrown q ≡ true → isFoundThin q ≡ w → (free : List ℕ) → free ≡ wordsOf (uncounted limit counts) → Passed limit xs lens slots free w
+    judged-tree w h y free f =
+        record { read = sym (t .good) ∙ e; tree = sym judged-same ∙ h; lists = t .lists e; numbers = judged-free h free f; thin = sym y ∙ k .thin h ∙ ap thin same-views }
 
 -- ---- steps 1 to 3 refuse with 7 or 8
 without-number : (w r : List Live) (n : ℕ) → without w r ≡ refused n → (n ≡ 7 → ⊥) → n ≡ 8
@@ -269,8 +273,8 @@ module _ (g : Geometry) (image order : List ℕ) (first voids : ℕ) (bytes : (i
         let e = h .1 in
         ap (λ (n : ℕ). bySix (Views.meaning g n ps)) (sym is) ∙ ap bySix (meaning-read limit (h .0)) ∙ rw e
 
-    pub tree-checks : Passed limit xs lens slots free → Checks g image lens slots free (meansBy order voids)
-    tree-checks p =
+    pub tree-checks : (w : Bool) → Passed limit xs lens slots free w → Checks g image lens slots free (meansBy order voids w)
+    tree-checks w p =
         record {
           nodes = table limit (events limit xs);
           means = rw (← is, last-number) (meaning-read limit (p .read));
@@ -280,8 +284,12 @@ module _ (g : Geometry) (image order : List ℕ) (first voids : ℕ) (bytes : (i
               let d : nodeAt (table limit (events limit xs)) n ≡ nodeOf n (events limit xs)
               = getD-tab (λ (j : ℕ). nodeOf j (events limit xs)) 0 limit n fresh (omega arith) ∙ ap (λ (j : ℕ). nodeOf j (events limit xs)) z in
               rw d (p .lists n (omega arith));
+          views =
+              subst (λ (n : ℕ). pagesTable g image lens slots n ≡ viewsOf (table limit (events limit xs))) is
+              (views-listed g image lens slots limit few v xs st (p .read) (p .lists));
           numbers = p .numbers;
           marks = marks-by (endOf v) refl;
+          thin = p .thin;
         }
 
 -- ---- from what the code of steps 1 to 3 says
@@ -326,7 +334,7 @@ module _ (g : Geometry) (fit : Fits g) (image order : List ℕ) (first voids blo
         shape-checks g image order first voids bytes pages-few (t .v) (t .xs) (t .is) (t .keys) (8 * blocks) (ap (λ (b : ℕ). 8 * b) (chip .blocks)) nodes-few lens slots free
         (j (t .v) (t .xs) (t .is) (keys-part order first voids (t .v) (t .xs) (t .keys)))
 
-    pub stands-tree : JudgesKeys g image (part first (mostPages - voids - first) order) (8 * blocks) lens slots free J.Tree → Checks g image lens slots free (meansBy order voids)
-    stands-tree j =
-        tree-checks g image order first voids bytes pages-few (t .v) (t .xs) (t .is) (t .keys) (8 * blocks) (ap (λ (b : ℕ). 8 * b) (chip .blocks)) nodes-few lens slots free
+    pub stands-tree : (w : Bool) → JudgesKeys g image (part first (mostPages - voids - first) order) (8 * blocks) lens slots free (J.Tree w) → Checks g image lens slots free (meansBy order voids w)
+    stands-tree w j =
+        tree-checks g image order first voids bytes pages-few (t .v) (t .xs) (t .is) (t .keys) (8 * blocks) (ap (λ (b : ℕ). 8 * b) (chip .blocks)) nodes-few lens slots free w
         (j (t .v) (t .xs) (t .is) (keys-part order first voids (t .v) (t .xs) (t .keys)))

@@ -29,6 +29,7 @@ use Rattle.views.proofs.Meanings.{Kept, nodeIn, kept-node}
 use Rattle.tree.specs.Tree.{Table}
 use Rattle.tree.specs.Free.{freeNumbers}
 use Rattle.tree.specs.Step6.{step6}
+use Rattle.tree.specs.Thick.{thin}
 use Rattle.log.specs.Plan.{Plan, isEmpty, newsOf, nodeAt, opsOf, spareBlocks}
 use Rattle.log.specs.Policy.{planOf}
 use Rattle.log.proofs.EraseLaws.{commit-erases, erased-none, erased-on}
@@ -197,6 +198,7 @@ module _ (g : Geometry) (n : ℕ) (torn : List ℕ) (s : State) (i i' lens slots
             means = finished .is ∙ ap (Views.means nextNodes) (let z : suc (s .commit) ≡ s .commit + 1 = omega arith in z);
             clean = finished .clean;
             tree = next-tree;
+            thick = ap thin next-views ∙ ok .thick;
             lists = next-stores;
             free = ok .free ∙ ap freeNumbers (sym next-views);
             pending = refl;

@@ -100,6 +100,7 @@ module _ (n : ℕ) (torn : List ℕ) (s : State) (i : List ℕ) where
           few = λ c. absurd (d .never (c .proceeds));
           power = λ c. absurd (d .never c);
           choice = λ c. absurd (d .never (c .proceeds));
+          thick = λ c. c .good .thick;
           room = λ c. absurd (d .never (c .proceeds));
           done = λ c. absurd (d .never (c .proceeds));
           once = λ c. absurd (d .never (c .proceeds));
@@ -158,6 +159,7 @@ module _ (n : ℕ) (torn : List ℕ) (s : State) (i : List ℕ) where
               few = λ c b. no-plan b;
               power = λ c b. no-plan b;
               choice = λ c b. no-plan b;
+              thick = λ c. c .good .thick;
               room = λ c b. no-plan b;
               done = λ c b. no-plan b;
               once = λ c b. no-plan b;
@@ -302,6 +304,7 @@ module _ (n : ℕ) (torn : List ℕ) (s : State) (i : List ℕ) where
                 power = λ c b.
                     record { enough = λ m. absurd (omega (arith, short, need)); short = λ m. (refl, omega (arith, told, short)) };
                 choice = λ c b. chosen-count (c .good);
+                thick = λ c. c .good .thick;
                 room = λ c b r. room-after (c .good) r;
                 done = λ c b k. absurd (omega (arith, short, need));
                 once = λ c b. once-each (c .good);
@@ -373,6 +376,7 @@ module _ (n : ℕ) (torn : List ℕ) (s : State) (i : List ℕ) where
                   power = λ c b.
                       record { enough = λ m. (refl, omega (arith, told, enough, need)); short = λ m. absurd (omega (arith, enough, need)) };
                   choice = λ c b. chosen-count (c .good);
+                  thick = λ c. c .good .thick;
                   room = λ c b r. room-after (c .good) r;
                   done = λ c b k. (state-new (c .good), settled-good g after i' (nodes (c .good)) (settled (c .good)));
                   once = λ c b. once-each (c .good);

@@ -1,5 +1,6 @@
 -- The operations that the figures are counted from (`operationsOf`, `doneBy`) are those that the bytes of the image follow, by the contracts alone. Assumes nothing.
 use mathlib.Core.Path.{_≡_, sym, ap, _∙_, subst}
+use mathlib.Core.Bool.{false}
 use mathlib.Core.List.{List}
 use Prim.Native.Nat.{ℕ, min}
 use native.Mathlib.Omega.{arith}
@@ -19,6 +20,7 @@ use Rattle.promise.specs.Image.{imageMeaning}
 use Rattle.promise.specs.Steps.{format, mount, commit}
 use Rattle.promise.specs.Erases.{operationsOf}
 use Rattle.tree.specs.Tree.{Table}
+use Rattle.tree.specs.Thick.{thin}
 use Rattle.store.specs.declared.state.State.{State}
 use Rattle.store.specs.State.{geometryIn}
 use Rattle.store.specs.declared.state.Wrote.{Wrote}
@@ -44,8 +46,8 @@ module _ (n : ℕ) (torn : List ℕ) (s : State) (i : List ℕ) (r : Wrote) (i' 
   format-did m f z = record { whole = first-told n _ (r .ops) (f .kinds z); bytes = f .bytes z }
 
   pub mount-did : (m : Nand) → Mounts m n torn s i r i' → startRefusal (geometryOf m) (length i) (length torn) ≡ 0 → (K : Table) (G : ℕ)
-      → imageMeaning (geometryOf m) i ≡ means K G → Did (geometryOf m) (operationsOf index (mount m n torn) s i) n torn i (total (r .ops)) i'
-  mount-did m f z K G e = record { whole = first-told n _ (r .ops) (f .kinds z K G e); bytes = f .bytes z K G e }
+      → imageMeaning (geometryOf m) i ≡ means K G → thin K ≡ false → Did (geometryOf m) (operationsOf index (mount m n torn) s i) n torn i (total (r .ops)) i'
+  mount-did m f z K G e h = record { whole = first-told n _ (r .ops) (f .kinds z K G e h); bytes = f .bytes z K G e h }
 
   pub commit-did : Commits n torn s i r i' → Proceeds n torn s i → Did (geometryIn s) (operationsOf index (commit n torn) s i) n torn i (total (r .ops)) i'
   commit-did f c =

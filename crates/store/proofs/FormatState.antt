@@ -47,7 +47,7 @@ use Rattle.store.specs.EndingCode.{endedWith}
 use Rattle.store.specs.FreshCode.{freshState}
 use Rattle.store.specs.State.{turnedOff, RoomIn, Room}
 use Rattle.store.specs.Contracts.{index, toldOf, Formats}
-use Rattle.promise.proofs.Promise.{accepted-not}
+use Rattle.promise.proofs.Promise.{accepted-not, leaf-not-thin}
 use Rattle.store.proofs.EndingLaws.{either-end}
 use Rattle.store.proofs.SizeLaws.{first-some, first-none, enough-most}
 use Rattle.store.proofs.Settled.{Settled, settled-meaning, settled-good, settled-state}
@@ -223,6 +223,7 @@ module _ (nand : Nand) (n : ℕ) (torn : List ℕ) (s : State) (i i' : List ℕ)
           clean = kept .clean;
           tree = rw (format-views b pos) (leaf-tree b pos .tree .passes);
           lists = λ k l. format-stores (8 * b) k l;
+          thick = rw (format-views b pos) (leaf-not-thin b);
           free = set ∙ format-free (8 * b) (omega arith);
           pending = refl;
           count = refl;

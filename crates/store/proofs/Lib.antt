@@ -8,6 +8,9 @@ pub mod FormatState
 pub mod CheckLaws
 pub mod MarkCount
 pub mod Mounting
+pub mod PrepareLaws
+pub mod RebuildReady
+pub mod Rebuilding
 pub mod ReportLaws
 pub mod StartTree
 pub mod LookLaws
@@ -25,6 +28,7 @@ pub mod ForecastState
 pub mod Starred
 pub mod StepLaws
 pub mod IndexPromise
+pub mod RebuiltStarts
 pub mod PartLaws
 pub mod LentLists
 pub mod RunsToLaws

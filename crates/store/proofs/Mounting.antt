@@ -1,24 +1,24 @@
--- A mount: refused for its sizes, refused for what the image means, cut, or finished. Assumes nothing.
+-- A mount: refused for its sizes, for what the image means or for a thin tree, cut, or finished. Assumes nothing.
 use mathlib.Core.Path.{_≡_, refl, sym, ap, subst, _∙_}
 use mathlib.Core.Bool.{Bool, true, false, cond}
-use mathlib.Core.List.{List, [], _∷_, _++_, append-assoc}
-use Prim.Native.Nat.{ℕ, suc, _+_, _*_, _^_, _≤_, _<_, min}
+use mathlib.Core.List.{List, [], _∷_}
+use Prim.Native.Nat.{ℕ, suc, _*_, _^_, _≤_, _<_, min}
 use native.Mathlib.Nat.{mul-assoc}
 use native.Mathlib.Omega.{arith}
 use lib.Dec.{eqb, ltb}
-use lib.ListN.{length, getD, length-append}
+use lib.ListN.{length, getD}
 use borrow.Author.Tests.{ltb-true, ltb-false}
-use Rattle.lists.specs.Lists.{All, none, more, At, filter}
-use Rattle.lists.proofs.Tests.{cases}
+use Rattle.lists.specs.Lists.{All, none, filter}
+use Rattle.lists.proofs.Tests.{cases, clash}
 use Rattle.lists.proofs.Alls.{All-filter}
-use Rattle.lists.proofs.Places.{at-seam, getD-same}
+use Rattle.lists.proofs.Places.{getD-same}
 use Rattle.chip.specs.declared.progress.Progress.{Progress}
 use Rattle.chip.specs.declared.power.Power.the-variants.{Left}
 use Rattle.chip.specs.Geometry.{Geometry, Fits, blocksOf, pageSize, Nand, geometryOf}
 use Rattle.chip.proofs.Sizes.{blocks-pages, nand-fits}
 use Rattle.chip.specs.Power.{isGone}
 use Rattle.chip.specs.Counts.{nothing, total}
-use Rattle.chip.specs.Page.{Page, isLive}
+use Rattle.chip.specs.Page.{Page}
 use Rattle.chip.specs.Chip.{Op, Machine, run, pagesOf}
 use Rattle.chip.specs.RunCode.{atStart, machine, Ran}
 use Rattle.chip.proofs.ImageLaws.{same-image}
@@ -29,26 +29,27 @@ use Rattle.views.specs.Table as Views
 use Rattle.views.specs.Table.{Node}
 use Rattle.views.proofs.ViewLaws.{Apart, apart-filter, apart-live}
 use Rattle.tree.specs.Tree.{Table}
+use Rattle.tree.specs.Thick.{thin}
 use Rattle.log.specs.Mount.{mountOps, mountedBy}
 use Rattle.log.specs.Plan.{hasRoom, spareBlocks}
 use Rattle.log.proofs.MountLaws.{clean-none, clean-stays, mount-erases, mount-legal, mount-keeps, mount-clean, mount-gone, image-sized}
 use Rattle.log.proofs.PlanBlocks.{has-room, room-has}
-use Rattle.log.proofs.PlanRoom.{LiveAt, obsoletes, room-marks}
-use Rattle.log.specs.MountCode.{retireOps}
+use Rattle.log.proofs.PlanRoom.{LiveAt, live-from, obsoletes, room-marks}
+use Rattle.log.specs.MountCode.{marksOf, retireOps}
 use Rattle.promise.specs.Plain.{Plain, refuses, resting, startRefusal}
 use Rattle.promise.specs.Plain as Plain
 use Rattle.promise.specs.Calls as P
 use Rattle.promise.specs.Calls.{invalid, isOneOf, acceptsOr}
 use Rattle.promise.specs.Image.{viewsOf, bySix, imageMeaning}
 use Rattle.store.specs.declared.answer.Answer.{Answer}
-use Rattle.store.specs.declared.answer.Answer.the-variants.{Size, Cut}
+use Rattle.store.specs.declared.answer.Answer.the-variants.{Size, Cut, Thin}
 use Rattle.store.specs.declared.state.State.{State}
 use Rattle.store.specs.declared.state.Wrote.{Wrote}
 use Rattle.store.specs.Answers.{answerOf}
 use Rattle.store.specs.AdmitCode.{ChipOf, Sized}
 use Rattle.store.specs.State.{Good, RoomIn, Room, geometryIn}
 use Rattle.store.specs.FreshCode.{mountedState}
-use Rattle.store.specs.CheckCode.{marksOf, Read}
+use Rattle.store.specs.CheckCode.{Read}
 use Rattle.store.specs.EndingCode.{refusedWith, acceptedWith, endedWith}
 use Rattle.store.specs.Contracts.{index, toldOf, Mounts}
 use Rattle.promise.proofs.Promise.{accepted-not}
@@ -56,16 +57,6 @@ use Rattle.store.proofs.EndingLaws.{either-end}
 use Rattle.store.proofs.SizeLaws.{admitted, not-admitted}
 use Rattle.store.proofs.MarkCount.{marks-few}
 use Rattle.store.proofs.Settled.{Settled, settled-good, settled-state}
-
--- ---- every live page is live where it stands
-live-from : (g : Geometry) (pre ps : List Page) (i : ℕ) → i ≡ length pre → All (LiveAt g (pre ++ ps)) (liveFrom g i ps)
-live-from g pre [] i e = none
-live-from g pre (x ∷ xs) i e =
-    let a : At i x (pre ++ x ∷ xs) = rw e (at-seam pre x xs) in
-    let r : All (LiveAt g ((pre ++ (x ∷ [])) ++ xs)) (liveFrom g (suc i) xs)
-    = live-from g (pre ++ (x ∷ [])) xs (suc i) (ap suc e ∙ sym (length-append pre (x ∷ []) ∙ omega arith)) in
-    let q : All (LiveAt g (pre ++ x ∷ xs)) (liveFrom g (suc i) xs) = (rw (append-assoc pre (x ∷ []) xs) at r) in
-    cases (isLive g x) (λ t. rw t (more {x = live g i x} (record { page = x; stands = a; lives = t }) q)) (λ t. rw t q)
 
 -- ---- room, with the meaning known
 module _ (g : Geometry) (i : List ℕ) (nodes : List Node) (G : ℕ)
@@ -80,6 +71,11 @@ module _ (g : Geometry) (i : List ℕ) (nodes : List Node) (G : ℕ)
   room-shut : Spare → Room g i
   unfolding Room
   room-shut h = subst (λ (x : Views.NodesRead). RoomIn g i x) (sym m) h
+
+-- ---- what was read is what the image means
+read-means : (g : Geometry) (i lens slots free : List ℕ) (G v : ℕ) (w : Bool) (rd : Read g i lens slots free G v w) → imageMeaning g i ≡ P.means (viewsOf (rd .nodes)) G
+unfolding imageMeaning
+read-means g i lens slots free G v w rd = ap bySix (rd .means) ∙ ap (λ (t : Bool). cond t (P.means (viewsOf (rd .nodes)) G) (invalid 9)) (rd .tree)
 
 -- ---- an image that calls gave a state for has no void page
 good-none : (g : Geometry) (t : State) (i : List ℕ) → Good g t i → mountOps g (pagesOf g i) ≡ []
@@ -116,6 +112,7 @@ module _ (nand : Nand) (allowance : ℕ) (torn : List ℕ) (s : State) (i : List
           quiet = λ n e d. refl;
           few = marks-few g fit i bytes;
           refused = λ e n m. absurd (never e);
+          refusedThin = λ e K G m. absurd (never e);
           power = λ e K G m. absurd (never e);
           stays = λ e K G m. absurd (never e);
           done = λ e K G m l. absurd (never e);
@@ -137,7 +134,7 @@ module _ (nand : Nand) (allowance : ℕ) (torn : List ℕ) (s : State) (i : List
     passes = admitted g b (length i) (length torn) chip long
 
     -- refused for what the image means
-    pub invalid-mounts : (a : Answer) (n : ℕ) → answerOf a ≡ refuses n → 2 < n → isOneOf n (1 ∷ 7 ∷ 8 ∷ 9 ∷ 10 ∷ []) ≡ true → imageMeaning g i ≡ invalid n → Mounts nand allowance torn s i (refusedWith a nothing s) i
+    pub invalid-mounts : (a : Answer) (n : ℕ) → answerOf a ≡ refuses n → 2 < n → isOneOf n (1 ∷ 7 ∷ 8 ∷ 9 ∷ 12 ∷ 10 ∷ []) ≡ true → imageMeaning g i ≡ invalid n → Mounts nand allowance torn s i (refusedWith a nothing s) i
     invalid-mounts a n is low kind m =
         let zero : first ≡ 0 = passes in
         let no : (K : Table) (G : ℕ) → imageMeaning g i ≡ P.means K G → ⊥ = λ K G e. let u : _≡_ {A = ℕ} 0 1 = cc in omega arith in
@@ -149,10 +146,11 @@ module _ (nand : Nand) (allowance : ℕ) (torn : List ℕ) (s : State) (i : List
               not2 = λ e q. let u : n ≡ 2 = cc in omega arith;
               sameSize = refl;
             };
-            range = subst (λ (x : Plain.Answer). acceptsOr (1 ∷ 7 ∷ 8 ∷ 9 ∷ 10 ∷ []) x ≡ true) (sym is) kind;
+            range = subst (λ (x : Plain.Answer). acceptsOr (1 ∷ 7 ∷ 8 ∷ 9 ∷ 12 ∷ 10 ∷ []) x ≡ true) (sym is) kind;
             quiet = λ k e d. refl;
             few = marks-few g fit i bytes;
             refused = λ e k q. (cc, refl, refl, refl);
+            refusedThin = λ e K G q. absurd (no K G q);
             power = λ e K G q. absurd (no K G q);
             stays = λ e K G q. absurd (no K G q);
             done = λ e K G q l. absurd (no K G q);
@@ -168,8 +166,44 @@ module _ (nand : Nand) (allowance : ℕ) (torn : List ℕ) (s : State) (i : List
           off = λ e k q. refl;
         }
 
-    -- ---- an image that means nodes and G
-    module _ (lens slots free : List ℕ) (G v : ℕ) (rd : Read g i lens slots free G v) (i' : List ℕ) (low : allowance < 2 ^ 32) (p reached : Progress)
+    -- refused for a thin tree
+    pub thin-mounts : (lens slots free : List ℕ) (G v : ℕ) → Read g i lens slots free G v true → Mounts nand allowance torn s i (refusedWith Thin nothing s) i
+    thin-mounts lens slots free G v rd =
+        let zero : first ≡ 0 = passes in
+        let is = read-means g i lens slots free G v true rd in
+        let no : (K : Table) (H : ℕ) → imageMeaning g i ≡ P.means K H → thin K ≡ false → ⊥ = λ K H m h.
+        let e : viewsOf (rd .nodes) ≡ K = cc in
+        clash (sym (rd .thin)) (ap thin e ∙ h) in
+        record {
+          says = record {
+            first = record {
+              refused = λ k e. absurd (omega arith);
+              not1 = λ e q. let u : _≡_ {A = ℕ} 12 1 = cc in omega arith;
+              not2 = λ e q. let u : _≡_ {A = ℕ} 12 2 = cc in omega arith;
+              sameSize = refl;
+            };
+            range = refl;
+            quiet = λ k e d. refl;
+            few = marks-few g fit i bytes;
+            refused = λ e k q. let u : _≡_ {A = ℕ} 0 1 = cc in absurd (omega arith);
+            refusedThin = λ e K H m h. (refl, refl, refl, refl);
+            power = λ e K H m h. absurd (no K H m h);
+            stays = λ e K H m. (m, λ r. r);
+            done = λ e K H m h. absurd (no K H m h);
+            cut = λ e K H m h. absurd (no K H m h);
+            zeros = λ e. absurd (accepted-not 12 (sym e));
+            noErase = mount-erases g (pagesOf g i);
+            still = λ t h e. (good-none g t i (of-part t h e), refl);
+          };
+          kinds = λ e K H m h. absurd (no K H m h);
+          bytes = λ e K H m h. absurd (no K H m h);
+          legal = mount-legal g (pagesOf g i);
+          zeros = λ e. absurd (accepted-not 12 (sym e));
+          off = λ e k q. refl;
+        }
+
+    -- ---- an image that means nodes and G, and they are not thin
+    module _ (lens slots free : List ℕ) (G v : ℕ) (rd : Read g i lens slots free G v false) (i' : List ℕ) (low : allowance < 2 ^ 32) (p reached : Progress)
         (from : p ≡ atStart allowance) (begins : Ran g torn (marksOf g v (pagesOf g i)) p reached i i') where
       ran : Ran g torn (marksOf g v (pagesOf g i)) (atStart allowance) reached i i'
       ran = subst (λ (q : Progress). Ran g torn (marksOf g v (pagesOf g i)) q reached i i') from begins
@@ -215,9 +249,7 @@ module _ (nand : Nand) (allowance : ℕ) (torn : List ℕ) (s : State) (i : List
       same-size = ap (λ (n : ℕ). 8 * blocksOf g n) (ran .size)
 
       means-is : imageMeaning g i ≡ P.means (viewsOf (rd .nodes)) G
-      unfolding imageMeaning
-      means-is =
-          ap bySix (rd .means) ∙ ap (λ (t : Bool). cond t (P.means (viewsOf (rd .nodes)) G) (invalid 9)) (rd .tree)
+      means-is = read-means g i lens slots free G v false rd
 
       means-same : imageMeaning g i' ≡ imageMeaning g i
       unfolding imageMeaning
@@ -249,6 +281,12 @@ module _ (nand : Nand) (allowance : ℕ) (torn : List ℕ) (s : State) (i : List
       stays : (K : Table) (H : ℕ) → imageMeaning g i ≡ P.means K H → (imageMeaning g i' ≡ P.means K H) × (Room g i → Room g i')
       stays K H m = (means-same ∙ m, room-stays)
 
+      never-thin : {Q : Type 0} (K : Table) (H : ℕ) → imageMeaning g i ≡ P.means K H → thin K ≡ true → Q
+      never-thin K H m h =
+          let e = means-is in
+          let p : viewsOf (rd .nodes) ≡ K = cc in
+          clash (ap thin p ∙ h) (sym (rd .thin))
+
       never-invalid : (n : ℕ) → imageMeaning g i ≡ invalid n → ⊥
       never-invalid n e = let m = means-is in let u : _≡_ {A = ℕ} 0 1 = cc in omega arith
 
@@ -270,16 +308,17 @@ module _ (nand : Nand) (allowance : ℕ) (torn : List ℕ) (s : State) (i : List
               quiet = λ k q d. let u : 10 ≡ k = cc in absurd (d (sym u));
               few = marks-few g fit i bytes;
               refused = λ q k m. absurd (never-invalid k m);
-              power = λ q K H m. record { enough = λ l. absurd (omega arith); short = λ l. (refl, told) };
+              refusedThin = λ q K H m h. never-thin K H m h;
+              power = λ q K H m h. record { enough = λ l. absurd (omega arith); short = λ l. (refl, told) };
               stays = λ q K H m. stays K H m;
-              done = λ q K H m l. absurd (omega arith);
-              cut = λ q K H m l. refl;
+              done = λ q K H m h l. absurd (omega arith);
+              cut = λ q K H m h l. refl;
               zeros = λ e. absurd (accepted-not 10 (sym e));
               noErase = mount-erases g (pagesOf g i);
               still = still;
             };
-            kinds = λ q K H m. kinds-are;
-            bytes = λ q K H m. pages-are;
+            kinds = λ q K H m h. kinds-are;
+            bytes = λ q K H m h. pages-are;
             legal = mount-legal g (pagesOf g i);
             zeros = λ e. absurd (accepted-not 10 (sym e));
             off = λ q k r. refl;
@@ -303,6 +342,7 @@ module _ (nand : Nand) (allowance : ℕ) (torn : List ℕ) (s : State) (i : List
               means = ap (λ (n : ℕ). Views.meaning g (8 * n) (pagesOf g i')) (chip .blocks) ∙ keeps ∙ rd .means;
               clean = subst (λ (l : List Page). steps g l ≡ stand [] (ordered (liveFrom g 0 l))) (sym pages-are) k;
               tree = rd .tree;
+              thick = sym (rd .thin);
               lists = λ n l. rd .lists n (omega (arith, chip .blocks));
               free = rd .numbers;
               pending = refl;
@@ -340,23 +380,24 @@ module _ (nand : Nand) (allowance : ℕ) (torn : List ℕ) (s : State) (i : List
                 quiet = λ k q d. let u : _≡_ {A = ℕ} 0 1 = cc in absurd (omega arith);
                 few = marks-few g fit i bytes;
                 refused = λ q k m. absurd (never-invalid k m);
-                power = λ q K H m. record { enough = λ l. (refl, told); short = λ l. absurd (omega arith) };
+                refusedThin = λ q K H m h. never-thin K H m h;
+                power = λ q K H m h. record { enough = λ l. (refl, told); short = λ l. absurd (omega arith) };
                 stays = λ q K H m. stays K H m;
-                done = λ q K H m l. (is-done K H m, settled-good g st i' (rd .nodes) settled);
-                cut = λ q K H m l. absurd (omega arith);
+                done = λ q K H m h l. (is-done K H m, settled-good g st i' (rd .nodes) settled);
+                cut = λ q K H m h l. absurd (omega arith);
                 zeros = λ e b. getD-same 32 b 0;
                 noErase = mount-erases g (pagesOf g i);
                 still = still;
               };
-              kinds = λ q K H m. kinds-are;
-              bytes = λ q K H m. pages-are;
+              kinds = λ q K H m h. kinds-are;
+              bytes = λ q K H m h. pages-are;
               legal = mount-legal g (pagesOf g i);
               zeros = λ e. refl;
               off = λ q k r. let u : _≡_ {A = ℕ} 0 1 = cc in absurd (omega arith);
             }
 
-    -- an image that means nodes and G, marked: the state is made of what was read
-    pub marked-mounts : (lens slots free : List ℕ) (G v : ℕ) → Read g i lens slots free G v → (i' : List ℕ) → allowance < 2 ^ 32 → (p reached : Progress) → p ≡ atStart allowance
+    -- an image that means nodes and G that are not thin, marked: the state is made of what was read
+    pub marked-mounts : (lens slots free : List ℕ) (G v : ℕ) → Read g i lens slots free G v false → (i' : List ℕ) → allowance < 2 ^ 32 → (p reached : Progress) → p ≡ atStart allowance
         → Ran g torn (marksOf g v (pagesOf g i)) p reached i i' → ((j : ℕ) → getD i' j 0 < 256)
         → (buffer : List ℕ) (r : Wrote)
         → r ≡ endedWith reached s (mountedState nand b G free buffer lens slots) → Mounts nand allowance torn s i r i'

@@ -1,6 +1,6 @@
 -- A state with nothing pending whose table holds what the image means: after a finished format, mount or commit. Assumes nothing.
 use mathlib.Core.Path.{_≡_, sym, ap, ap₂, subst, _∙_}
-use mathlib.Core.Bool.{true}
+use mathlib.Core.Bool.{true, false}
 use mathlib.Core.List.{List, [], reverse, reverse-reverse}
 use Prim.Native.Nat.{ℕ, _*_, _≤_, _<_}
 use native.Mathlib.Omega.{arith}
@@ -19,6 +19,7 @@ use Rattle.views.proofs.Groups.{well-is}
 use Rattle.views.proofs.Meanings.{Kept, nodeIn, opened, kept-node, kept-well}
 use Rattle.views.proofs.ViewLaws.{view-stored}
 use Rattle.tree.specs.Tree.{at}
+use Rattle.tree.specs.Thick.{thin}
 use Rattle.tree.specs.Free.{freeNumbers}
 use Rattle.tree.specs.Shown.{shown}
 use Rattle.tree.specs.Step6.{step6}
@@ -66,7 +67,7 @@ module _ (g : Geometry) (s : State) (i : List ℕ) (nodes : List Node) (k : Kept
   unfolding nodesOf
   held-nodes = tab-same (nodeFrom g s i) imageNode 0 (8 * s .blocks) (λ n l. node-read n (omega arith)) ∙ sym tables
 
--- ---- nothing is pending, the table holds the lists of the nodes that the image means, those are a tree, and the free numbers are on record
+-- ---- nothing is pending, the table holds the lists of the nodes that the image means, those are a tree that is not thin, and the free numbers are on record
 pub record Settled (g : Geometry) (s : State) (i : List ℕ) (nodes : List Node) : Type 0 where
   pub chip : ChipOf g (s .blocks) (length i)
   pub bytes : (j : ℕ) → getD i j 0 < 256
@@ -74,6 +75,7 @@ pub record Settled (g : Geometry) (s : State) (i : List ℕ) (nodes : List Node)
   pub clean : steps g (pagesOf g i) ≡ stand [] (ordered (liveFrom g 0 (pagesOf g i)))
   pub tree : step6 (viewsOf nodes) ≡ true
   pub lists : (n : ℕ) → n < 8 * s .blocks → Stores (s .lens) (s .slots) n (nodeAt nodes n .pages)
+  pub thick : thin (viewsOf nodes) ≡ false
   pub free : s .free ≡ freeNumbers (viewsOf nodes)
   pub pending : s .pending ≡ 0
   pub count : s .count ≡ 0
@@ -156,6 +158,7 @@ module _ (g : Geometry) (s : State) (i : List ℕ) (nodes : List Node) (b : Sett
         words = λ n. fair-entries (present-fair n);
         whole = present-whole;
         levels = fair-level (present-fair 0);
+        thick = rw settled-present (b .thick);
         free = b .free ∙ ap freeNumbers (sym settled-present);
         past = b .past;
       }

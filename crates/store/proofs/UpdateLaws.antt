@@ -23,9 +23,10 @@ use Rattle.tree.specs.Delete.{delete}
 use Rattle.tree.specs.Step6.{top, Tree}
 use Rattle.tree.specs.InsertUnits.{insertUnits}
 use Rattle.tree.specs.DeleteUnits.{deleteUnits}
+use Rattle.tree.specs.Thick.{thin}
 use Rattle.tree.specs.Free.{freeNumbers}
 use Rattle.tree.specs.UpdateCode.{Ready, Stepped, Inserts, Deletes}
-use Rattle.tree.proofs.Laws.{inserted-keeps, insert-done, insert-units, delete-keeps, delete-level, delete-units}
+use Rattle.tree.proofs.Laws.{thin-thick, thick-thin, inserted-keeps, inserted-thick, insert-done, insert-units, delete-keeps, delete-level, delete-thick, delete-units}
 use Rattle.promise.specs.Plain as P
 use Rattle.promise.specs.Plain.{refuses, accepted, when, isRefused, tableAfter, insertion, deletion, updated}
 use Rattle.promise.specs.Calls.{treeIn, stateOf}
@@ -67,6 +68,7 @@ pub record Pushed (g : Geometry) (s : State) (i new : List ℕ) (used : ℕ) (fr
   pub words : Words t
   pub whole : Whole t
   pub levels : rootLevel t ≤ 3
+  pub thick : thin t ≡ false
 
 module _ (s : State) (i : List ℕ) (G : Good (geometryIn s) s i) (low : s .pending < 16) where
   abbrev g : Geometry
@@ -111,6 +113,7 @@ module _ (s : State) (i : List ℕ) (G : Good (geometryIn s) s i) (low : s .pend
           words = subst Words (sym table-after) (p .words);
           whole = subst Whole (sym table-after) (p .whole);
           levels = subst (λ (u : Table). rootLevel u ≤ 3) (sym table-after) (p .levels);
+          thick = ap thin table-after ∙ p .thick;
           free = p .stepped .numbers ∙ ap freeNumbers (sym table-after);
           past = G .past;
         }
@@ -151,6 +154,7 @@ module _ (g : Geometry) (k : ℕ) (s : State) (i new : List ℕ) (used : ℕ) (f
         words = w .small hv (G .words) (omega (arith, d .1)) (d .2);
         whole = whole-inserted k v P₀ (G .whole);
         levels = d .2;
+        thick = thick-thin (inserted k v P₀) (inserted-thick 0 k v P₀ (G .tree) hk (omega arith) (thin-thick P₀ (G .thick)));
       }
 
   deleted-pushed : Stepped g i (s .lens) (s .slots) (limitOf s) (s .count) (unitsOf s) (deleteUnits k P₀) (delete k P₀) new free used
@@ -165,6 +169,7 @@ module _ (g : Geometry) (k : ℕ) (s : State) (i new : List ℕ) (used : ℕ) (f
         words = w .small (G .words);
         whole = whole-deleted k P₀ (G .whole);
         levels = omega (arith, delete-level k P₀ (G .tree) hk, G .levels);
+        thick = thick-thin (delete k P₀) (delete-thick 0 k P₀ (G .tree) hk (omega arith) (thin-thick P₀ (G .thick) .nodes));
       }
 
 -- ---- what the code of an insert answers

@@ -28,7 +28,7 @@ whole-put (suc n) w [] a h = whole-put n w [] a refl
 whole-put (suc n) w (x ∷ t) a h =
     and-intro (isWhole x) (all isWhole (put n w t)) (and-left (isWhole x) (all isWhole t) h) (whole-put n w t a (and-right (isWhole x) (all isWhole t) h))
 
-whole-at : (n : ℕ) (t : Table) → Whole t → isWhole (at t n) ≡ true
+pub whole-at : (n : ℕ) (t : Table) → Whole t → isWhole (at t n) ≡ true
 whole-at n [] h = refl
 whole-at zero (x ∷ t) h = and-left (isWhole x) (all isWhole t) h
 whole-at (suc n) (x ∷ t) h = whole-at n t (and-right (isWhole x) (all isWhole t) h)

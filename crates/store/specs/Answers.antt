@@ -2,14 +2,14 @@
 use Prim.Native.Nat.{ℕ}
 use Rattle.promise.specs.Plain as P
 use Rattle.store.specs.declared.answer.Answer.{Answer}
-use Rattle.store.specs.declared.answer.Answer.the-variants.{Accepted, Found, Size, Off, Full, Absent, Nodes, Last, Blank, Layout, Shape, Cut}
+use Rattle.store.specs.declared.answer.Answer.the-variants.{Accepted, Found, Size, Off, Full, Absent, Nodes, Last, Blank, Layout, Shape, Cut, Thin}
 use Rattle.store.specs.declared.answer.Look as L
 use Rattle.store.specs.declared.answer.Look.the-variants as Look
 use Rattle.store.specs.declared.answer.Report as R
 use Rattle.store.specs.declared.answer.Report.the-variants as Report
 
 -- 1 size, 2 off, 3 sixteen are pending, 4 absent, 5 node numbers or levels used up, 6 commit numbers used up, 7 no standing page,
--- 8 the layout, 9 the tree, 10 power gone
+-- 8 the layout, 9 the tree, 10 power gone, 12 a thin tree
 abbrev pub answerOf : Answer → P.Answer
 answerOf Accepted = P.accepted
 answerOf (Found v) = P.finds v
@@ -23,6 +23,7 @@ answerOf Blank = P.refuses 7
 answerOf Layout = P.refuses 8
 answerOf Shape = P.refuses 9
 answerOf Cut = P.refuses 10
+answerOf Thin = P.refuses 12
 
 -- the number of a refusal, 0 for none
 abbrev pub refusalIn : P.Answer → ℕ

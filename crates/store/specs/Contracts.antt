@@ -1,6 +1,6 @@
 -- What each call ensures: the records of the promise, read on the code's state and image, and what those leave out.
 use mathlib.Core.Path.{_≡_}
-use mathlib.Core.Bool.{not, cond}
+use mathlib.Core.Bool.{not, cond, false}
 use mathlib.Core.List.{List}
 use Prim.Native.Nat.{ℕ, _*_, _<_, _≤_, max}
 use lib.Dec.{leb}
@@ -18,6 +18,7 @@ use Rattle.views.specs.Table as Views
 use Rattle.views.specs.Table.{Node}
 use Rattle.views.specs.Stored.{isFreed, lengthOf}
 use Rattle.tree.specs.Tree.{Table, find, path}
+use Rattle.tree.specs.Thick.{thin}
 use Rattle.tree.specs.Shown.{pagesRead}
 use Rattle.log.specs.Format.{formatOps, formattedBy}
 use Rattle.log.specs.Mount.{mountOps, mountedBy}
@@ -25,7 +26,7 @@ use Rattle.log.specs.Commit.{groupsOf}
 use Rattle.log.specs.Plan.{mostOps, nodeAt, opsOf, isEmpty}
 use Rattle.promise.specs.Plain.{UpdateCall, accepted, insertion, deletion, admission, commits, forecasts, lookedUp, refuses, startRefusal, orElse, when}
 use Rattle.promise.specs.Calls as P
-use Rattle.promise.specs.Calls.{Store, means}
+use Rattle.promise.specs.Calls.{Store, invalid, means}
 use Rattle.promise.specs.Image.{imageMeaning}
 use Rattle.store.specs.declared.answer.Look.{Look}
 use Rattle.store.specs.declared.answer.Report.{Report}
@@ -34,6 +35,7 @@ use Rattle.store.specs.declared.state.State.{State}
 use Rattle.store.specs.declared.state.Wrote.{Wrote}
 use Rattle.store.specs.declared.state.Updated.{Updated}
 use Rattle.store.specs.Answers.{answerOf, lookOf, pagesTold, reportRefusal, freeTold, firstTold, erasesTold}
+use Rattle.store.specs.Rebuild.{hasFreeBlocks, rebuildOps, rebuildPlan}
 use Rattle.store.specs.State.{turnedOff, geometryIn, limitOf, presentOf, Good, Room, planAt, commitOps}
 
 -- the store that the promise is about: the code's state, an image as its bytes
@@ -52,7 +54,9 @@ index =
       present = λ s. presentOf (geometryIn s) s;
       meaning = λ n. imageMeaning (geometryOf n);
       free = λ n i. count isFree (pagesOf (geometryOf n) i);
+      hasFreeBlocks = λ n. hasFreeBlocks (geometryOf n);
       mountOps = λ n i. mountOps (geometryOf n) (pagesOf (geometryOf n) i);
+      rebuildOps = λ n. rebuildOps (geometryOf n);
       commitOps = λ s. commitOps (geometryIn s) s;
       formatOps = λ n. formatOps (geometryOf n);
       most = λ n. mostOps (geometryOf n);
@@ -77,18 +81,33 @@ pub record Formats (nand : Nand) (allowance : ℕ) (torn : List ℕ) (s : State)
   pub zeros : answerOf (r .answer) ≡ accepted → r .state .erases ≡ replicate 32 0
   pub off : answerOf (r .answer) ≡ refuses 10 → r .state ≡ turnedOff s
 
--- mount: the operations told by kind; the image's pages are those of a run of its marks where the image has a meaning, and else as they
--- were; finished, no block has an erase; where it is refused with 7, 8, 9 or 10 the state is the one given, off
+-- mount: the operations told by kind; the image's pages are those of a run of its marks where the image means a tree that is not thin, and else as they
+-- were; finished, no block has an erase; where it is refused with 7, 8, 9, 12 or 10 the state is the one given, off
 pub record Mounts (nand : Nand) (allowance : ℕ) (torn : List ℕ) (s : State) (i : List ℕ) (r : Wrote) (i' : List ℕ) : Type 0 where
   pub says : P.Mount index nand allowance torn s i (answerOf (r .answer)) (total (r .ops)) (r .state) i'
   pub kinds : startRefusal (geometryOf nand) (length i) (length torn) ≡ 0 → (K : Table) (G : ℕ)
-      → imageMeaning (geometryOf nand) i ≡ means K G → r .ops ≡ toldOf allowance (mountOps (geometryOf nand) (pagesOf (geometryOf nand) i))
+      → imageMeaning (geometryOf nand) i ≡ means K G → thin K ≡ false → r .ops ≡ toldOf allowance (mountOps (geometryOf nand) (pagesOf (geometryOf nand) i))
   pub bytes : startRefusal (geometryOf nand) (length i) (length torn) ≡ 0 → (K : Table) (G : ℕ)
-      → imageMeaning (geometryOf nand) i ≡ means K G → pagesOf (geometryOf nand) i' ≡ mountedBy (geometryOf nand) torn allowance (pagesOf (geometryOf nand) i) .pages
+      → imageMeaning (geometryOf nand) i ≡ means K G → thin K ≡ false → pagesOf (geometryOf nand) i' ≡ mountedBy (geometryOf nand) torn allowance (pagesOf (geometryOf nand) i) .pages
   pub legal : Legal (geometryOf nand) (pagesOf (geometryOf nand) i) (mountOps (geometryOf nand) (pagesOf (geometryOf nand) i))
   pub zeros : answerOf (r .answer) ≡ accepted → r .state .erases ≡ replicate 32 0
   pub off : startRefusal (geometryOf nand) (length i) (length torn) ≡ 0 → (n : ℕ) → answerOf (r .answer) ≡ refuses n
       → r .state ≡ turnedOff s
+
+-- rebuild, document 02, note 6: where the image means a tree, thin or not, a number is left and enough blocks are wholly free, the operations told by kind, and the
+-- image's pages are those of a run of its operations, each of which the chip allows; finished, no block has an erase; where it is refused with 7, 8, 9 or 10 the state is the
+-- one given, off
+pub record Rebuilds (nand : Nand) (allowance : ℕ) (torn : List ℕ) (s : State) (i : List ℕ) (r : Wrote) (i' : List ℕ) : Type 0 where
+  pub says : P.Rebuild index nand allowance torn s i (answerOf (r .answer)) (total (r .ops)) (r .state) i'
+  pub kinds : (K : Table) (G : ℕ) → P.Rebuilding index nand torn i K G → r .ops ≡ toldOf allowance (rebuildOps (geometryOf nand) i)
+  pub bytes : (K : Table) (G : ℕ) → P.Rebuilding index nand torn i K G
+      → pagesOf (geometryOf nand) i' ≡ run (geometryOf nand) torn (record { power = Left allowance; pages = pagesOf (geometryOf nand) i }) (rebuildOps (geometryOf nand) i) .pages
+  pub legal : (K : Table) (G : ℕ) → P.Rebuilding index nand torn i K G → Legal (geometryOf nand) (pagesOf (geometryOf nand) i) (rebuildOps (geometryOf nand) i)
+  -- the units of one node stand in one page
+  pub once : (K : Table) (G : ℕ) → P.Rebuilding index nand torn i K G → Distinct (groupsOf (rebuildPlan (geometryOf nand) i K .written))
+  pub zeros : answerOf (r .answer) ≡ accepted → r .state .erases ≡ replicate 32 0
+  pub off : startRefusal (geometryOf nand) (length i) (length torn) ≡ 0 → (n : ℕ) → imageMeaning (geometryOf nand) i ≡ invalid n → r .state ≡ turnedOff s
+  pub cut : answerOf (r .answer) ≡ refuses 10 → r .state ≡ turnedOff s
 
 -- the length of a node on flash: that of its list, 0 where it is freed there; a number that is not on flash has length 0
 abbrev pub flashLength : Node → ℕ

@@ -1,9 +1,11 @@
 pub mod Answers
 pub mod State
+pub mod Rebuild
 pub mod Parts
 pub mod FreshCode
 pub mod AdmitCode
 pub mod CheckCode
+pub mod PrepareCode
 pub mod Contracts
 pub mod EndingCode
 pub mod UpdateCode

@@ -3,7 +3,7 @@ ghost use mathlib.Core.Path.{_≡_};
 ghost use Rattle.store.specs.Answers.{refusalNumber};
 use chip::progress::Counts;
 
-// Accepted, or the value that a look up found, or why a call is refused, by the number of the refusal from 1 to 10.
+// Accepted, or the value that a look up found, or why a call is refused, by the number of the refusal from 1 to 10, or 12.
 pub enum Answer {
     Accepted,
     Found(u32),
@@ -17,6 +17,7 @@ pub enum Answer {
     Layout,
     Shape,
     Cut,
+    Thin,
 }
 
 // What a look up answers: the value found and the pages read, the pages read where the key is absent, or the refusals 2 and 1.
@@ -59,5 +60,6 @@ pub fn number(answer: Answer) -> u32
         Answer::Layout => 8,
         Answer::Shape => 9,
         Answer::Cut => 10,
+        Answer::Thin => 12,
     }
 }

@@ -13,24 +13,26 @@ use pages::standing;
 use pages::standing::COMMIT;
 use pages::standing::Standing;
 use tree::check;
+use tree::check::Growth;
 use views::read;
 
 // The index of the last key.
 const LAST: usize = CHIP_PAGES - 1;
 
-// What steps 4 to 6 say of the standing pages: refusal 8, refusal 9, or that the nodes are a tree.
+// What steps 4 to 6 say of the standing pages: refusal 8, refusal 9, or that the nodes are a tree, and whether it is thin.
 enum Judged {
     Layout,
     Shape,
-    Tree,
+    Tree(bool),
 }
 
-// The refusals 7, 8 and 9; or the greatest standing commit number, and the commit number of the void pages, 0 where there are none.
+// The refusals 7, 8 and 9; or the greatest standing commit number, and the commit number of the void pages, 0 where there are none, and
+// whether the tree is thin.
 pub enum Checked {
     Blank,
     Layout,
     Shape,
-    Means(u32, u32),
+    Means(u32, u32, bool),
 }
 
 // Steps 4 to 6 on the standing pages, whose keys are order[from..to]; the node table is read into `lens` and `slots`, and the numbers that no node has into `free`.
@@ -53,12 +55,13 @@ fn judge(
         return Judged::Layout;
     }
     let mut seen = [0; 256];
-    let tree = check::is_tree(geometry, image, lens, slots, limit, &mut seen);
-    if !tree {
-        return Judged::Shape;
-    }
+    let growth = check::check_tree(geometry, image, lens, slots, limit, &mut seen);
     set::gather(&seen, limit, free);
-    Judged::Tree
+    match growth {
+        Growth::NoTree => Judged::Shape,
+        Growth::Thin => Judged::Tree(true),
+        Growth::Thick => Judged::Tree(false),
+    }
 }
 
 // The commit number of the page whose key is order[at], with the keys as a slice.
@@ -79,16 +82,16 @@ fn commit_at(order: &[u64; CHIP_PAGES], at: usize) -> u32
 }
 
 // The answer for an image that passes: the last standing page has the greatest standing commit number, the last void page that of all void pages.
-fn passed(order: &[u64; CHIP_PAGES], voids: usize) -> Checked
+fn passed(order: &[u64; CHIP_PAGES], voids: usize, thin: bool) -> Checked
     requires { ⌜ Numbered (now order) voids ⌝ }
-    ensures { λ r. ⌜ r ≡ meansBy (now (order .entry)) voids ⌝ }
+    ensures { λ r. ⌜ r ≡ meansBy (now (order .entry)) voids thin ⌝ }
 {
     let commit = commit_at(order, LAST - voids);
     if voids == 0 {
-        return Checked::Means(commit, 0);
+        return Checked::Means(commit, 0, thin);
     }
     let void = commit_at(order, LAST);
-    Checked::Means(commit, void)
+    Checked::Means(commit, void, thin)
 }
 
 // The answer for an image that steps 1 to 3 refuse.
@@ -123,7 +126,7 @@ pub fn check(
             match judge(geometry, image, &order, first, to, limit, lens, slots, free) {
                 Judged::Layout => Checked::Layout,
                 Judged::Shape => Checked::Shape,
-                Judged::Tree => passed(&order, voids),
+                Judged::Tree(thin) => passed(&order, voids, thin),
             }
         }
     }

@@ -8,6 +8,8 @@ pub mod find;
 pub mod forecast;
 pub mod format;
 pub mod mount;
+mod prepare;
+pub mod rebuild;
 pub mod report;
 mod scope;
 pub mod show;

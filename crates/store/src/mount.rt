@@ -1,12 +1,6 @@
-// Mount: the image alone is read; after all checks the void pages get their obsolete mark, lowest place first.
-ghost use mathlib.Core.Path.{_≡_};
+// Mount: the image alone is read, and a thin tree is turned away; after all checks the void pages get their obsolete mark, lowest place first.
 ghost use mathlib.Core.List.{List};
-ghost use Prim.Native.Nat.{ℕ, _%_};
-ghost use lib.ListN.{length};
-ghost use Rattle.chip.specs.Geometry.{Fits, pageSize};
-ghost use Rattle.chip.specs.Chip.{pagesOf};
-ghost use Rattle.chip.specs.RunCode.{Ran};
-ghost use Rattle.store.specs.CheckCode.{marksOf};
+ghost use Prim.Native.Nat.{ℕ};
 ghost use Rattle.store.specs.Contracts.{Mounts};
 ghost use Rattle.store.specs.Parts.{joined, wroteWith};
 use crate::admit;
@@ -20,28 +14,9 @@ use crate::state::State;
 use crate::state::Wrote;
 use crate::state::WroteParts;
 use chip::geometry;
-use chip::geometry::Geometry;
 use chip::geometry::Nand;
 use chip::progress;
-use chip::progress::Progress;
 use log;
-
-// The obsolete mark set on each page of the void commit; 0 says that there is none.
-fn retire(
-    geometry: Geometry,
-    image: &mut [u8],
-    void: u32,
-    torn: &[u8],
-    progress: Progress,
-) -> Progress
-    requires { ⌜ (length (now image) % pageSize geometry ≡ 0) × (length (now torn) ≡ pageSize geometry) × Fits geometry ⌝ }
-    ensures { λ r. ⌜ Ran geometry (now (torn .entry)) (marksOf geometry void (pagesOf geometry (now (image .entry)))) progress r (now (image .entry)) (now (image .exit)) ⌝ }
-{
-    if void == 0 {
-        return progress;
-    }
-    log::mount::retire(geometry, image, void, torn, progress)
-}
 
 // Mount as the part named, on a lent node table and lent erases, with power for `allowance` operations. The buffer's bytes stay, whatever they are.
 pub fn mount_lent(
@@ -70,7 +45,10 @@ pub fn mount_lent(
         Checked::Blank => ending::refused(numbers, Answer::Blank),
         Checked::Layout => ending::refused(numbers, Answer::Layout),
         Checked::Shape => ending::refused(numbers, Answer::Shape),
-        Checked::Means(commit, void) => {
+        Checked::Means(commit, void, thin) => {
+            if thin {
+                return ending::refused(numbers, Answer::Thin);
+            }
             let mounted = Numbers {
                 on: true,
                 nand,
@@ -81,7 +59,7 @@ pub fn mount_lent(
                 count: 0,
             };
             let start = progress::begin(allowance);
-            let reached = retire(geometry, image, void, torn, start);
+            let reached = log::mount::retire(geometry, image, void, torn, start);
             ending::ended(numbers, lens, slots, erases, mounted, &l, &s, &e, reached)
         }
     }

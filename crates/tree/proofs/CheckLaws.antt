@@ -1,12 +1,12 @@
 -- The steps of step 6 in the code: the rules of one node, a walk over nodes with its counts, and the counts at the end. Assumes nothing.
 use mathlib.Core.Path.{_≡_, refl, sym, ap, ap₂, _∙_}
 use mathlib.Core.Logic.{⊎-elim}
-use mathlib.Core.Bool.{Bool, true, false, _&&_}
+use mathlib.Core.Bool.{Bool, true, false, _&&_, _||_}
 use mathlib.Core.List.{List, [], _∷_, _++_, map}
 use Prim.Native.Nat.{ℕ, zero, suc, _+_, _<_, _≤_}
 use native.Mathlib.Numerals.{add-one}
 use native.Mathlib.Omega.{arith}
-use lib.Dec.{leb, eqb}
+use lib.Dec.{ltb, leb, eqb}
 use lib.ListN.{length, take, drop, getD, set, replicate, length-take, drop-of-length-le, List·getD-eq-default}
 use lib.Seq.{slice-cons, getD-set-same, getD-set-other}
 use borrow.Author.Tests.{eq-eqb, ne-eqb, le-leb, lt-leb, lt-ltb, le-ltb, eqb-true}
@@ -19,17 +19,21 @@ use Rattle.chip.specs.Chip.{pagesOf}
 use Rattle.views.specs.declared.node.Node.{Node}
 use Rattle.views.specs.declared.fold.Stage.{Stage}
 use Rattle.views.specs.declared.fold.Stage.the-variants.{Untouched, Freed, Broken, Full}
-use Rattle.views.specs.Nodes.{Entry, entry, View, untouched, broken}
+use Rattle.views.specs.Nodes.{Entry, entry, View, untouched, freed, broken, view}
 use Rattle.views.specs.NodeCode as C
 use Rattle.views.specs.FoldCode.{viewAt}
 use Rattle.views.specs.Stored.{storedList, listView, bufferView}
 use Rattle.views.proofs.NodeLaws.{length-entries}
-use Rattle.tree.specs.Tree.{entriesOf, there, Table, at, entriesAt, rootLevel, firstKey}
+use Rattle.tree.specs.Tree.{levelOf, entriesOf, there, Table, at, entriesAt, rootLevel, firstKey}
 use Rattle.tree.specs.Step6.{top, isLevel, keysIn, areSubtrees, isSubtree, reached, times, onceFrom, step6}
 use Rattle.tree.specs.Free.{isOpen}
 use Rattle.tree.specs.Shown.{shown}
-use Rattle.tree.specs.FindCode.{entriesFrom}
-use Rattle.tree.specs.CheckCode.{pagesTable, startsAt, obeysAt, ownAt, under, Twice, Walks, MarksNumber, countsFrom, ChecksTree}
+use Rattle.tree.specs.FindCode.{entriesFrom, ShowsView}
+use Rattle.tree.specs.CheckCode.{pagesTable, startsAt, obeysAt, ownAt, under, Twice, Walks, MarksNumber, countsFrom, CountsNodes, isGrown, isFoundThin, ChecksTree}
+use Rattle.tree.specs.Thick.{fewest, isThin, thinFrom, thin}
+use Rattle.tree.specs.declared.check.Counted.{Counted}
+use Rattle.tree.specs.declared.check.Growth.{Growth}
+use Rattle.tree.specs.declared.check.Growth.the-variants.{NoTree}
 use Rattle.tree.proofs.Shape.{times-append, hit-same}
 use Rattle.tree.proofs.Step6.{at-length, BranchRules, branch-rules, once-at}
 use Rattle.tree.proofs.Paths.{level-there}
@@ -107,6 +111,15 @@ module _ (g : Geometry) (image lens slots : List ℕ) (limit : ℕ) where
   pub listed-same : {X : Type 0} (f : View → X) → f untouched ≡ f broken → (n : ℕ) → f (at t n) ≡ f (v n)
   unfolding bufferView
   listed-same f e n = shown-same g limit (pagesOf g image) lens slots 0 [] f e n
+
+  pub listed-shown : (n : ℕ) (w : View) (r : Node) → w ≡ v n → ShowsView w r → ShowsView (at t n) r
+  listed-shown n w r e s =
+      record {
+        level = s .level ∙ ap levelOf e ∙ sym (listed-same levelOf refl n);
+        entries = s .entries ∙ ap entriesOf e ∙ sym (listed-same entriesOf refl n);
+        len = s .len;
+        room = s .room;
+      }
 
   pub length-listed : length t ≡ limit
   unfolding shown
@@ -306,6 +319,45 @@ counts-open n (w ∷ t) s h =
     (ap (λ (m : ℕ). eqb m 0) (sym (eqb-true (getD s n 0) (there w) (and-left a b h))))
     (counts-open (suc n) t s (and-right a b h))
 
+-- ---- thin nodes
+pub fewest-more : (n : ℕ) → (n ≡ 0 → ⊥) → 8 ≡ fewest n
+fewest-more zero d = absurd (d refl)
+fewest-more (suc n) d = refl
+
+pub thin-leaf : (n : ℕ) (w : View) → levelOf w ≡ 0 → false ≡ isThin n w
+thin-leaf n untouched e = refl
+thin-leaf n freed e = refl
+thin-leaf n broken e = refl
+thin-leaf n (view zero es) e = refl
+thin-leaf n (view (suc l) es) e = absurd (omega arith)
+
+pub thin-branch : (n : ℕ) (w : View) → (levelOf w ≡ 0 → ⊥) → ltb (length (entriesOf w)) (fewest n) ≡ isThin n w
+thin-branch n untouched d = absurd (d refl)
+thin-branch n freed d = absurd (d refl)
+thin-branch n broken d = absurd (d refl)
+thin-branch n (view zero es) d = absurd (d refl)
+thin-branch n (view (suc l) es) d = refl
+
+pub thin-pass : (t : Table) (n : ℕ) (b : Bool) → n < length t
+    → ((b || isThin n (at t n)) || thinFrom (n + 1) (drop (n + 1) t)) ≡ (b || thinFrom n (drop n t))
+thin-pass t n true h = refl
+thin-pass t n false h = rw (drop-table t n h, add-one)
+
+thin-end : (t : Table) (n : ℕ) (b : Bool) → length t ≤ n → (b || thinFrom n (drop n t)) ≡ b
+thin-end t n true h = refl
+thin-end t n false h = rw (drop-of-length-le t {i = n} h)
+
+-- ---- what the counts and the nodes say, up to node n
+module _ (t : Table) (s : List ℕ) (n : ℕ) (e : countsFrom n (drop n t) s ≡ countsFrom 0 t s) where
+  -- node n is not counted once
+  pub counted-fail : n < length t → (getD s n 0 ≡ there (at t n) → ⊥) → CountsNodes t s (record { once = false; thin = false })
+  counted-fail h d = record { once = sym (counts-fail t n s h d) ∙ e; thin = λ q. clash q refl }
+
+  -- no node is left
+  pub counted-end : (b : Bool) → length t ≤ n → (b || thinFrom n (drop n t)) ≡ thinFrom 0 t → CountsNodes t s (record { once = true; thin = b })
+  unfolding thin
+  counted-end b h k = record { once = sym (counts-end t n s h) ∙ e; thin = λ q. sym (thin-end t n b h) ∙ k }
+
 -- ---- the whole of step 6
 module _ (t : Table) (l : ℕ) (s u : List ℕ) (el : l ≡ rootLevel t) (es : s ≡ replicate 256 0) where
   -- a tree is reached: what is left are the counts
@@ -319,8 +371,14 @@ module _ (t : Table) (l : ℕ) (s u : List ℕ) (el : l ≡ rootLevel t) (es : s
       let k = counts-once 0 t u (reached (rootLevel t) t 0) (λ j. w .counts refl j ∙ omega (arith, z j, ap (λ (m : ℕ). times j (reached m t 0)) el)) in
       e ∙ k ∙ sym (rw (b, a))
 
-  pub tree-counts : (r : Bool) → Walks t (isSubtree l t 0 0 top) (reached l t 0) s u true → r ≡ countsFrom 0 t u → ChecksTree t u r
-  tree-counts r w e = record { is = tree-step r w e; counted = λ q. counts-open 0 t u (sym e ∙ q) }
+  pub tree-counts : (c : Counted) (r : Growth) → isGrown r ≡ c .once → isFoundThin r ≡ (c .once && c .thin)
+      → Walks t (isSubtree l t 0 0 top) (reached l t 0) s u true → CountsNodes t u c → ChecksTree t u r
+  tree-counts c r eg ef w k =
+      record {
+        is = eg ∙ tree-step (c .once) w (k .once);
+        thin = λ q. ef ∙ ap (λ (b : Bool). b && c .thin) (sym eg ∙ q) ∙ k .thin (sym eg ∙ q);
+        counted = λ q. counts-open 0 t u (sym (k .once) ∙ sym eg ∙ q);
+      }
 
   once-twice : {A : Type 0} (ns : List ℕ) → onceFrom 0 t ns ≡ true → Twice t s ns → A
   once-twice ns o d =
@@ -344,5 +402,5 @@ module _ (t : Table) (l : ℕ) (s u : List ℕ) (el : l ≡ rootLevel t) (es : s
       (λ h. let k = and-right a (b && o) h in once-twice (reached r t 0) (and-right b o k) (w′ .stops refl (and-left b o k)))
       (λ h. sym h)
 
-  pub no-tree : Walks t (isSubtree l t 0 0 top) (reached l t 0) s u false → ChecksTree t u false
-  no-tree w = record { is = no-step w; counted = λ e. clash e refl }
+  pub no-tree : Walks t (isSubtree l t 0 0 top) (reached l t 0) s u false → ChecksTree t u NoTree
+  no-tree w = record { is = no-step w; thin = λ e. clash e refl; counted = λ e. clash e refl }

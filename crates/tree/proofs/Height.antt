@@ -5,67 +5,24 @@ use mathlib.Core.Bool.{Bool, true, false, cond, _&&_}
 use mathlib.Core.List.{List, [], _∷_, map}
 use Prim.Native.Nat.{ℕ, zero, suc, _+_, _-_, _<_, _≤_}
 use native.Mathlib.Omega.{arith}
-use lib.Dec.{leb, ltb, eqb}
+use lib.Dec.{leb, ltb}
 use lib.ListN.{length, length-append, length-map}
-use borrow.Author.Tests.{eq-eqb, ne-eqb, le-leb, le-ltb}
-use Rattle.lists.specs.Lists.{bit, All, none, more}
-use Rattle.lists.proofs.Tests.{below-or-not, same-or-not, cases}
+use borrow.Author.Tests.{le-leb, le-ltb}
+use Rattle.lists.specs.Lists.{bit, All, more}
+use Rattle.lists.proofs.Tests.{below-or-not}
 use Rattle.views.specs.Nodes.{Entry}
-use Rattle.tree.specs.Tree.{there, Table, at, entriesOf, entriesAt, next, rootLevel, child, nodes}
-use Rattle.tree.specs.Step6.{top, times, Tree}
+use Rattle.tree.specs.Tree.{Table, entriesOf, entriesAt, next, rootLevel, child, nodes}
+use Rattle.tree.specs.Step6.{top, Tree}
 use Rattle.tree.specs.Insert.{refusal, done, inserted, insert, spills, needs}
 use Rattle.tree.specs.Thick.{leastOf, Filled}
-use Rattle.tree.proofs.Tables.{hit}
-use Rattle.tree.proofs.Shape.{Kid, Shape, entryOf, tops, nums, numsOf, hit-same, hit-other}
-use Rattle.tree.proofs.Shaped.{Shaped, top-at, level-at}
+use Rattle.tree.proofs.Shape.{Kid, Shape, entryOf, tops, nums, numsOf}
+use Rattle.tree.proofs.Shaped.{top-at, level-at}
 use Rattle.tree.proofs.Step6.{shape-of}
 use Rattle.tree.proofs.Full.{Full, Strong}
 use Rattle.tree.proofs.ThickLaws.{filled-full}
 use Rattle.tree.proofs.InsertNumbers.{insert-exact}
 use Rattle.tree.proofs.Least.{nodes-next}
-
--- ---- a table has as many nodes as its shape
-abbrev without : ℕ → List ℕ → List ℕ
-without n [] = []
-without n (m ∷ ms) = cond (eqb m n) (without n ms) (m ∷ without n ms)
-
-without-length : (n : ℕ) (ns : List ℕ) → length ns ≡ times n ns + length (without n ns)
-without-length n [] = refl
-without-length n (m ∷ ns) = cases (eqb m n) (λ e. rw e (omega (arith, without-length n ns))) (λ e. rw e (omega (arith, without-length n ns)))
-
-without-same : (n : ℕ) (ns : List ℕ) → times n (without n ns) ≡ 0
-without-same n [] = refl
-without-same n (m ∷ ns) = cases (eqb m n) (λ e. rw e (without-same n ns)) (λ e. rw e (rw e (omega (arith, without-same n ns))))
-
-without-other : (n j : ℕ) (ns : List ℕ) → (n ≡ j → ⊥) → times j (without n ns) ≡ times j ns
-without-other n j [] h = refl
-without-other n j (m ∷ ns) h =
-    ⊎-elim
-    (λ (e : m ≡ n). let z : hit m j ≡ 0 = hit-other m j (λ q. h (sym e ∙ q)) in rw (eq-eqb m n e) (omega (arith, without-other n j ns h)))
-    (λ (e : m ≡ n → ⊥). rw (ne-eqb m n e) (omega (arith, without-other n j ns h)))
-    (same-or-not m n)
-
-none-left : (ns : List ℕ) → ((j : ℕ) → times j ns ≡ 0) → length ns ≡ 0
-none-left [] h = refl
-none-left (m ∷ ns) h = absurd (omega (arith, h m, hit-same m m refl))
-
-at-offset : (ns : List ℕ) (n j : ℕ) → n ≤ j → ((i : ℕ) → times (n + i) ns ≡ 0) → times j ns ≡ 0
-at-offset ns n j q h = ap (λ (i : ℕ). times i ns) (let e : j ≡ n + (j - n) = omega arith in e) ∙ h (j - n)
-
-count-from : (n : ℕ) (t : Table) (ns : List ℕ) → ((j : ℕ) → j < n → times j ns ≡ 0) → ((j : ℕ) → times (n + j) ns ≡ there (at t j)) → nodes t ≡ length ns
-count-from n [] ns low h = sym (none-left ns (λ j. ⊎-elim (λ (q : j < n). low j q) (λ (q : n ≤ j). at-offset ns n j q h) (below-or-not j n)))
-count-from n (w ∷ t) ns low h =
-    let a : times n ns ≡ there w = ap (λ (i : ℕ). times i ns) (omega arith) ∙ h 0 in
-    let b = count-from (suc n) t (without n ns)
-    (λ j q. ⊎-elim
-    (λ (e : n ≡ j). subst (λ (i : ℕ). times i (without n ns) ≡ 0) e (without-same n ns))
-    (λ (e : n ≡ j → ⊥). without-other n j ns e ∙ low j (omega arith))
-    (same-or-not n j))
-    (λ j. without-other n (suc n + j) ns (λ e. omega arith) ∙ ap (λ (i : ℕ). times i ns) (omega arith) ∙ h (suc j)) in
-    omega (arith, without-length n ns)
-
-nodes-shape : (t : Table) (T : Shaped t) → nodes t ≡ length (nums (T .level) (T .shape))
-nodes-shape t T = count-from 0 t (nums (T .level) (T .shape)) (λ j q. absurd (omega arith)) (λ j. ap (λ (i : ℕ). times i (nums (T .level) (T .shape))) (omega arith) ∙ T .once j)
+use Rattle.tree.proofs.NodeCount.{nodes-shape}
 
 -- ---- a node that is not thin has many below it
 abbrev mul : ℕ → ℕ → ℕ

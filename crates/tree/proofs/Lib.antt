@@ -14,6 +14,7 @@ pub mod FindLaws
 pub mod PushLaws
 pub mod BalanceLaws
 pub mod CheckLaws
+pub mod RecordsLaws
 pub mod ShownLaws
 pub mod InsertCodeLaws
 pub mod InsertTreeLaws
@@ -23,6 +24,7 @@ pub mod Becomes
 pub mod Settle
 pub mod Full
 pub mod ThickLaws
+pub mod ThinLaws
 pub mod UnitLaws
 pub mod PairUnits
 pub mod Pairs
@@ -30,6 +32,16 @@ pub mod Neighbours
 pub mod DeleteAt
 pub mod TakeOver
 pub mod Least
+pub mod NodeCount
+pub mod EvenParts
+pub mod LayerFacts
+pub mod Layer
+pub mod Layers
+pub mod LayerNodes
+pub mod Vacated
+pub mod FewestNodes
+pub mod RebuildLaws
+pub mod RebuildExamples
 pub mod DeleteLaws
 pub mod InsertAt
 pub mod InsertRoot

@@ -71,7 +71,7 @@ small-apply freed (Delete k) p h = none
 small-apply (view l es) (Insert k v) p h = cases (leb (length (insertEntry k v es)) 16) (λ e. rw e (small-insert k v (p .0) (p .1) h)) (λ e. rw e none)
 small-apply (view l es) (Delete k) p h = small-delete k h
 
-small-put : (n : ℕ) (w : View) (t : Table) → Small (entriesOf w) → Smalls t → Smalls (put n w t)
+pub small-put : (n : ℕ) (w : View) (t : Table) → Small (entriesOf w) → Smalls t → Smalls (put n w t)
 small-put n w t h s j =
     ⊎-elim
     (λ (e : n ≡ j). rw (← e, at-same) h)

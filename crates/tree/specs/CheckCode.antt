@@ -15,6 +15,10 @@ use Rattle.tree.specs.Tree.{entriesOf, there, Table, at, firstKey}
 use Rattle.tree.specs.Step6.{isLevel, keysIn, reached, times, step6}
 use Rattle.tree.specs.Free.{isOpen}
 use Rattle.tree.specs.Shown.{shown}
+use Rattle.tree.specs.Thick.{thin}
+use Rattle.tree.specs.declared.check.Counted.{Counted}
+use Rattle.tree.specs.declared.check.Growth.{Growth}
+use Rattle.tree.specs.declared.check.Growth.the-variants.{NoTree, Thin, Thick}
 
 -- the table that the pages alone show
 abbrev pub pagesTable : Geometry → List ℕ → List ℕ → List ℕ → ℕ → Table
@@ -60,7 +64,24 @@ abbrev pub countsFrom : ℕ → Table → List ℕ → Bool
 countsFrom n [] counts = true
 countsFrom n (w ∷ t) counts = eqb (getD counts n 0) (there w) && countsFrom (suc n) t counts
 
--- step 6 of a table, and where it passes the numbers that no node has by their counts
-pub record ChecksTree (t : Table) (counts : List ℕ) (r : Bool) : Type 0 where
-  pub is : r ≡ step6 t
-  pub counted : r ≡ true → map isOpen t ≡ uncounted (length t) counts
+-- the same, and whether some node is thin where all are counted so
+pub record CountsNodes (t : Table) (counts : List ℕ) (r : Counted) : Type 0 where
+  pub once : r .once ≡ countsFrom 0 t counts
+  pub thin : r .once ≡ true → r .thin ≡ thin t
+
+-- what is found, as tests: step 6 passes, and the tree is thin
+abbrev pub isGrown : Growth → Bool
+isGrown NoTree = false
+isGrown Thin = true
+isGrown Thick = true
+
+abbrev pub isFoundThin : Growth → Bool
+isFoundThin NoTree = false
+isFoundThin Thin = true
+isFoundThin Thick = false
+
+-- step 6 of a table, and where it passes whether the tree is thin, and the numbers that no node has by their counts
+pub record ChecksTree (t : Table) (counts : List ℕ) (r : Growth) : Type 0 where
+  pub is : isGrown r ≡ step6 t
+  pub thin : isGrown r ≡ true → isFoundThin r ≡ thin t
+  pub counted : isGrown r ≡ true → map isOpen t ≡ uncounted (length t) counts

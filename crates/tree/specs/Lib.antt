@@ -3,6 +3,7 @@ pub mod Step6
 pub mod Insert
 pub mod Delete
 pub mod Thick
+pub mod Rebuild
 pub mod Units
 pub mod InsertUnits
 pub mod DeleteUnits
@@ -10,6 +11,7 @@ pub mod Free
 pub mod Shown
 pub mod FindCode
 pub mod CheckCode
+pub mod RecordsCode
 pub mod UpdateCode
 pub mod InsertCode
 pub mod BalanceCode

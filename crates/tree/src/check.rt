@@ -1,5 +1,7 @@
-// Step 6: the views are those of a tree whose root is node 0. The walk stops where a node comes twice, so that each is read a few times at most.
+// Step 6: the views are those of a tree whose root is node 0; and whether that tree is thin. The walk stops where a node comes twice, so that each is
+// read a few times at most.
 ghost use mathlib.Core.Path.{_≡_};
+ghost use mathlib.Core.Bool.{_&&_, _||_};
 ghost use Prim.Native.Nat.{_+_, _%_, _<_, _≤_};
 ghost use lib.ListN.{length, getD, replicate};
 ghost use Rattle.chip.specs.Geometry.{Fits, pageSize};
@@ -7,8 +9,9 @@ ghost use Rattle.views.specs.FoldCode.{viewOf};
 ghost use Rattle.views.specs.NodeCode.{entriesOf};
 ghost use Rattle.tree.specs.Tree as T;
 ghost use Rattle.tree.specs.Step6.{isLevel, keysIn, areSubtrees, isSubtree, reached};
-ghost use Rattle.tree.specs.FindCode.{entriesFrom};
-ghost use Rattle.tree.specs.CheckCode.{pagesTable, startsAt, obeysAt, ownAt, under, Walks, MarksNumber, countsFrom, ChecksTree};
+ghost use Rattle.tree.specs.FindCode.{entriesFrom, ShowsView};
+ghost use Rattle.tree.specs.Thick.{fewest, isThin};
+ghost use Rattle.tree.specs.CheckCode.{pagesTable, startsAt, obeysAt, ownAt, under, Walks, MarksNumber, CountsNodes, isGrown, isFoundThin, ChecksTree};
 use crate::find::node_or_empty;
 use chip::geometry::Geometry;
 use views::fold::Folded;
@@ -18,6 +21,19 @@ use views::view::list_view;
 
 // The end of the root's keys: every key is below it.
 const TOP: u64 = 4294967296;
+
+// What step 6 finds: no tree, a thin one, or one that is not thin.
+pub enum Growth {
+    NoTree,
+    Thin,
+    Thick,
+}
+
+// Whether each node is counted once, and whether some node is thin.
+pub struct Counted {
+    pub once: bool,
+    pub thin: bool,
+}
 
 // 1 where a node is, 0 where none is.
 fn presence(f: Folded) -> u32
@@ -215,7 +231,39 @@ fn subtrees(
     subtrees(geometry, image, lens, slots, limit, seen, level, n, j, hi)
 }
 
-// Whether each node below `limit` is counted once, and nothing else.
+// The fewest entries of an interior node `number`.
+fn fewest_of(number: u32) -> usize
+    ensures { λ r. ⌜ r ≡ fewest number ⌝ }
+{
+    if number == 0 { 2 } else { 8 }
+}
+
+// Whether node `number` is an interior node with too few entries.
+fn is_thin_node(f: Folded, number: u32) -> bool
+    requires { ⌜ f .node .len ≤ 16 ⌝ }
+    ensures { λ r. ⌜ r ≡ isThin number (viewOf f) ⌝ }
+{
+    let n = node_or_empty(f);
+    if n.level == 0 {
+        return false;
+    }
+    let few = fewest_of(number);
+    n.len < few
+}
+
+// Whether a thin node was found before, or node `number` is one.
+fn or_thin(before: bool, f: Folded, number: u32) -> bool
+    requires { ⌜ f .node .len ≤ 16 ⌝ }
+    ensures { λ r. ⌜ r ≡ (before || isThin number (viewOf f)) ⌝ }
+{
+    if before {
+        true
+    } else {
+        is_thin_node(f, number)
+    }
+}
+
+// Whether each node below `limit` is counted once, and nothing else; and whether some node is thin.
 fn all_once(
     geometry: Geometry,
     image: &[u8],
@@ -223,43 +271,77 @@ fn all_once(
     slots: &[u32; 1024],
     limit: u32,
     seen: &[u32; 256],
-) -> bool
+) -> Counted
     requires { ⌜ (length (now image) % pageSize geometry ≡ 0) × Fits geometry ⌝ }
-    ensures { λ r. ⌜ r ≡ countsFrom 0 (pagesTable geometry (now (image .entry)) (now (lens .entry)) (now (slots .entry)) limit) (now (seen .entry)) ⌝ }
+    ensures { λ r. ⌜ CountsNodes (pagesTable geometry (now (image .entry)) (now (lens .entry)) (now (slots .entry)) limit) (now (seen .entry)) r ⌝ }
 {
+    let mut thin = false;
     let mut n: u32 = 0;
     while n < limit {
         let f = list_view(geometry, image, lens, slots, n, limit);
         let one = presence(f);
         let count = count_at(seen, n);
         if count != one {
-            return false;
+            return Counted {
+                once: false,
+                thin: false,
+            };
         }
+        thin = or_thin(thin, f, n);
         n += 1;
     }
-    true
+    Counted {
+        once: true,
+        thin: thin,
+    }
 }
 
-// Step 6 on the table of the pages; where it passes, `seen` has 1 for each number of a node and 0 for the others.
-pub fn is_tree(
+// What the counts of a tree say of it.
+fn growth_of(c: Counted) -> Growth
+    ensures { λ r. ⌜ (isGrown r ≡ c .once) × (isFoundThin r ≡ (c .once && c .thin)) ⌝ }
+{
+    if !c.once {
+        return Growth::NoTree;
+    }
+    if c.thin { Growth::Thin } else { Growth::Thick }
+}
+
+// The level and the entries of node `number`, from its pages alone.
+pub fn listed_node(
+    geometry: Geometry,
+    image: &[u8],
+    lens: &[u32; 256],
+    slots: &[u32; 1024],
+    number: u32,
+    limit: u32,
+) -> Node
+    requires { ⌜ (length (now image) % pageSize geometry ≡ 0) × Fits geometry ⌝ }
+    ensures { λ r. ⌜ ShowsView (T.at (pagesTable geometry (now (image .entry)) (now (lens .entry)) (now (slots .entry)) limit) number) r ⌝ }
+{
+    let f = list_view(geometry, image, lens, slots, number, limit);
+    node_or_empty(f)
+}
+
+// Step 6 on the table of the pages; where it passes, whether the tree is thin, and `seen` has 1 for each number of a node and 0 for the others.
+pub fn check_tree(
     geometry: Geometry,
     image: &[u8],
     lens: &[u32; 256],
     slots: &[u32; 1024],
     limit: u32,
     seen: &mut [u32; 256],
-) -> bool
+) -> Growth
     requires { ⌜ (length (now image) % pageSize geometry ≡ 0) × Fits geometry ⌝ }
     ensures { λ r. ⌜ ChecksTree (pagesTable geometry (now (image .entry)) (now (lens .entry)) (now (slots .entry)) limit) (now (seen .exit)) r ⌝ }
 {
-    let f = list_view(geometry, image, lens, slots, 0, limit);
-    let n = node_or_empty(f);
+    let n = listed_node(geometry, image, lens, slots, 0, limit);
     let level = n.level;
     clear(seen);
     let tree = visit(geometry, image, lens, slots, limit, seen, level, 0, 0, TOP);
     if tree {
-        all_once(geometry, image, lens, slots, limit, seen)
+        let counted = all_once(geometry, image, lens, slots, limit, seen);
+        growth_of(counted)
     } else {
-        false
+        Growth::NoTree
     }
 }

@@ -50,6 +50,11 @@ pub fn free_pages(geometry: Geometry, image: &[u8], block: usize) -> (usize, usi
     (count, pages.iter().position(|is| *is).unwrap_or(geometry.pages))
 }
 
+/// Whether all pages of a block are free.
+pub fn wholly_free(geometry: Geometry, image: &[u8], block: usize) -> bool {
+    image[block * geometry.block()..(block + 1) * geometry.block()].chunks_exact(geometry.page()).all(free)
+}
+
 /// A flash operation on the chip.
 pub enum Operation<'a> {
     /// Program the data area of the page at a place whose data is all 255.

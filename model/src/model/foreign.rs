@@ -7,11 +7,15 @@ mod fault_units;
 mod grow;
 mod history;
 mod steep;
+mod stock;
+mod thin;
 
 use crate::model::geometry::Geometry;
 use crate::model::tree::Tree;
 use crate::random::Random;
 use draft::Draft;
+pub use stock::{stock, Free, Stock};
+pub use thin::tree as thin_tree;
 
 /// A fault, put into a tree before it is written or into the written pages. False when the image gives no occasion for it.
 enum Make {
@@ -33,20 +37,26 @@ pub struct Damaged {
     pub refusal: u32,
 }
 
-/// An image that obeys the layout and is no product of a store's commits.
+/// An image that obeys the layout, is not thin and is no product of a store's commits.
 pub fn valid(random: &mut Random, geometry: Geometry, blocks: usize) -> Vec<u8> {
     valid_of(random, geometry, blocks).0
 }
 
 /// A valid image, and the tree that it was built to mean.
 pub fn valid_of(random: &mut Random, geometry: Geometry, blocks: usize) -> (Vec<u8>, Tree) {
-    let tree = grow::tree(random, blocks);
+    let tree = grow::thick(random, blocks);
     (history::draft(random, geometry, blocks, &tree).render(), tree)
 }
 
-/// A valid image of several levels whose nodes have few entries each, down to one, and the tree that it was built to mean.
-pub fn thin_of(random: &mut Random, geometry: Geometry, blocks: usize) -> (Vec<u8>, Tree) {
-    let tree = grow::thin(random, blocks);
+/// A valid image of several levels whose nodes have few entries each, and the tree that it was built to mean.
+pub fn slim_of(random: &mut Random, geometry: Geometry, blocks: usize) -> (Vec<u8>, Tree) {
+    let tree = grow::slim(random, blocks);
+    (history::draft(random, geometry, blocks, &tree).render(), tree)
+}
+
+/// An image that obeys the layout, thin or not, and the tree that it was built to mean.
+pub fn any_of(random: &mut Random, geometry: Geometry, blocks: usize) -> (Vec<u8>, Tree) {
+    let tree = grow::tree(random, blocks);
     (history::draft(random, geometry, blocks, &tree).render(), tree)
 }
 

@@ -10,6 +10,8 @@ pub const NOTHING: u32 = 7;
 pub const BROKEN: u32 = 8;
 /// Refusal of step 6: the views are no tree.
 pub const NO_TREE: u32 = 9;
+/// Refusal of mount alone: the tree is thin, note 6 of document 02.
+pub const THIN: u32 = 12;
 /// The greatest length of a list.
 const LIST: usize = 4;
 

@@ -1,9 +1,11 @@
 //! The judge of a script of the probe: holds each line's reply and image to document 01 and to the protocol.
+mod anew;
 mod calls;
 mod commit;
 mod forecast;
 mod legal;
 mod lend;
+mod rebuild;
 mod ways;
 mod writes;
 
@@ -15,6 +17,7 @@ use super::image::{self, Meaning};
 use super::pays::Pays;
 use super::plain::{Call, Lengths, Plain};
 use forecast::Forecasts;
+use rebuild::Rebuilds;
 use std::rc::Rc;
 pub use writes::{format, spend};
 
@@ -37,20 +40,22 @@ pub struct Judge {
     lent: usize,
     torn: Vec<u8>,
     torn_lent: usize,
-    /// The geometry that format, mount and show name.
+    /// The geometry that format, mount, rebuild and show name.
     named: Geometry,
     plain: Plain,
     /// The meaning of the image that the state goes with.
     ground: Shared,
-    /// The erases of each block since the last finished mount or format.
+    /// The erases of each block since the last finished mount, format or rebuild.
     erases: Erases,
     /// The list that note 8 of document 02 is about, while there is one.
     pays: Option<Pays>,
     /// What is foretold of a commit of the state: note 10 of document 02.
     forecasts: Forecasts,
+    /// What rebuilds of one image did.
+    rebuilds: Rebuilds,
     /// Whether an open call gave the state, so that only on or off and B are known of it.
     wild: bool,
-    /// Whether a finished format began the chip that the last call left, and only calls wrote it since.
+    /// Whether a finished format or rebuild began the list of the chip that the last call left, and only calls wrote it since.
     begun: bool,
     /// The image that the last call left, while frames may have changed it since.
     left: Option<Vec<u8>>,
@@ -90,6 +95,7 @@ impl Judge {
             erases: Erases::none(0),
             pays: None,
             forecasts: Forecasts::default(),
+            rebuilds: Rebuilds::default(),
             wild: false,
             begun: false,
             left: None,
@@ -106,7 +112,7 @@ impl Judge {
         held.map_err(|fault| format!("line {}: reply {reply}: {fault}", String::from_utf8_lossy(line)))
     }
 
-    /// Whether the judge's chip was begun by a format, and its state given by a call whose image is lent: all is fixed.
+    /// Whether a format or a rebuild began the list of the judge's chip, and its state given by a call whose image is lent: all is fixed.
     pub fn all_fixed(&mut self) -> bool {
         self.begun && self.fixed()
     }
@@ -131,6 +137,7 @@ impl Judge {
             Frame::Format(allowance) => expect(reply, &self.format(allowance))?,
             Frame::Mount(allowance) => expect(reply, &self.mount(allowance)?)?,
             Frame::Commit(allowance) => return self.commit(allowance, reply, image),
+            Frame::Rebuild(allowance) => return self.rebuild(allowance, reply, image),
             Frame::Insert(key, value) => self.update(Call::Insert(key, value), reply)?,
             Frame::Delete(key) => self.update(Call::Delete(key), reply)?,
             Frame::LookUp(key) => self.look_up(key, reply)?,

@@ -10,9 +10,9 @@ pub const OFF: u32 = 2;
 pub const PENDING: u32 = 3;
 /// Refusal of an absent key, block or page.
 pub const ABSENT: u32 = 4;
-/// Refusal of a tree step without room.
+/// Refusal of a tree step without room, and of a rebuild without free blocks.
 pub const NO_ROOM: u32 = 5;
-/// Refusal of a commit above the greatest commit number.
+/// Refusal of a commit or rebuild above the greatest commit number.
 pub const LAST_NUMBER: u32 = 6;
 /// Refusal of a call whose power is gone.
 pub const POWER: u32 = 10;
@@ -60,9 +60,9 @@ pub struct Plain {
     pub number: u32,
     /// On or off.
     pub on: bool,
-    /// The geometry of the last finished format or mount; before the first that of the small part, read by no call.
+    /// The geometry of the last finished format, mount or rebuild; before the first that of the small part, read by no call.
     pub geometry: Geometry,
-    /// The B of the last finished format or mount.
+    /// The B of the last finished format, mount or rebuild.
     pub blocks: usize,
 }
 
@@ -80,7 +80,7 @@ impl Plain {
         Plain { kept: tree.clone(), present: tree, pending: 0, number: 0, on: false, geometry: Geometry::SMALL, blocks: 0 }
     }
 
-    /// The store as a finished mount of a chip not begun by a format leaves it: from what the image means.
+    /// The store as a finished mount of a chip not begun by a format leaves it, or a finished rebuild: from what the image means.
     pub fn mounted(geometry: Geometry, tree: &Tree, number: u32, blocks: usize) -> Plain {
         Plain { kept: tree.clone(), present: tree.clone(), pending: 0, number, on: true, geometry, blocks }
     }
@@ -106,7 +106,7 @@ impl Plain {
         (!fits).then_some(SIZE)
     }
 
-    /// Refusal 1 of format and mount, read with the geometry named.
+    /// Refusal 1 of format, mount and rebuild, read with the geometry named.
     pub fn size(geometry: Geometry, lengths: Lengths) -> Option<u32> {
         (geometry.blocks_of(lengths.image).is_none() || lengths.torn != geometry.torn).then_some(SIZE)
     }

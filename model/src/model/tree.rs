@@ -1,5 +1,6 @@
 //! The tree of document 01, 'Tree steps', with the joins of note 1 of document 02: find, insert and delete on nodes known by number.
 mod join;
+pub mod thin;
 
 use super::unit::TOP;
 

@@ -148,6 +148,16 @@ fn format(random: &mut Random, writer: &mut Writer) {
     }
 }
 
+/// A rebuild that is cut or has enough power, followed by a checksum and at times by reports of all blocks.
+fn rebuild(random: &mut Random, writer: &mut Writer) {
+    let allowance = if random.once_in(2) { writer.allowance(random, 10) } else { writer.enough() };
+    writer.rebuild(allowance);
+    writer.check();
+    if random.once_in(3) {
+        writer.reports();
+    }
+}
+
 /// One step of a list of calls.
 pub fn step(random: &mut Random, writer: &mut Writer, keys: &mut Keys) {
     let pending = writer.probe().state().pending;
@@ -156,12 +166,14 @@ pub fn step(random: &mut Random, writer: &mut Writer, keys: &mut Keys) {
             0 => read(random, writer, keys),
             1 => drop(update(random, writer, keys)),
             2 => commit(random, writer),
+            3 if random.once_in(3) => rebuild(random, writer),
             _ => mount(random, writer),
         };
     }
     match random.below(120) {
         0 => mount(random, writer),
         1 if random.once_in(6) => format(random, writer),
+        1 if random.once_in(2) => rebuild(random, writer),
         2..=11 if !keys.waits(random, pending) => commit(random, writer),
         12..=31 => read(random, writer, keys),
         _ if pending >= 16 && random.below(3) > 0 => commit(random, writer),

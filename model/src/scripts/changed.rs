@@ -126,6 +126,11 @@ fn go_on(random: &mut Random, writer: &mut Writer, keys: &mut Keys) {
         read(random, writer, keys);
     }
     commit(random, writer);
+    if random.once_in(4) {
+        writer.rebuild(writer.enough());
+        writer.check();
+        read(random, writer, keys);
+    }
 }
 
 /// Whether setting the image back takes too many lines.

@@ -16,7 +16,7 @@ use crate::random::Random;
 const UPLOAD: usize = 120_000;
 
 /// How many lines an image takes.
-fn weight(image: &[u8]) -> usize {
+pub fn weight(image: &[u8]) -> usize {
     image.iter().filter(|&&b| b != 255).count()
 }
 
@@ -39,10 +39,10 @@ pub fn valid_image(random: &mut Random, geometry: Geometry) -> Vec<u8> {
     }
 }
 
-/// A valid image whose nodes have few entries each.
-pub fn thin_image(random: &mut Random, geometry: Geometry) -> Vec<u8> {
+/// A valid image that is not thin and whose nodes have few entries each.
+pub fn slim_image(random: &mut Random, geometry: Geometry) -> Vec<u8> {
     loop {
-        if let Some(image) = short(random, geometry, 2, &|random, n| Some(foreign::thin_of(random, geometry, n).0)) {
+        if let Some(image) = short(random, geometry, 2, &|random, n| Some(foreign::slim_of(random, geometry, n).0)) {
             return image;
         }
     }
@@ -54,13 +54,13 @@ pub fn any_image(random: &mut Random, geometry: Geometry) -> Vec<u8> {
     match random.below(5) {
         0 => spent_image(random, geometry),
         1 => spread::image(random, geometry),
-        2 => thin_image(random, geometry),
+        2 => slim_image(random, geometry),
         _ => valid_image(random, geometry),
     }
 }
 
 /// A damaged image, each fault as often as another.
-fn damaged_image(random: &mut Random, geometry: Geometry) -> Vec<u8> {
+pub fn damaged_image(random: &mut Random, geometry: Geometry) -> Vec<u8> {
     let faults = foreign::faults();
     loop {
         let fault = &faults[random.index(faults.len())];

@@ -2,7 +2,7 @@
 //! over, numbers taken again within one commit and after it.
 
 use super::blocks;
-use super::images::{thin_image, valid_image};
+use super::images::{slim_image, valid_image};
 use super::torn::tear;
 use super::writer::Writer;
 use crate::model::geometry::Geometry;
@@ -248,7 +248,7 @@ fn formatted(random: &mut Random, geometry: Geometry) -> Writer {
 fn foreign(random: &mut Random, geometry: Geometry) -> Writer {
     let mut writer = Writer::new(geometry);
     for _ in 0..1 + random.below(5) {
-        let image = if random.once_in(3) { valid_image(random, geometry) } else { thin_image(random, geometry) };
+        let image = if random.once_in(3) { valid_image(random, geometry) } else { slim_image(random, geometry) };
         writer.bring(&image);
         writer.mount(255);
         let mut aimed = Aimed::new(random, writer);

@@ -7,7 +7,7 @@ use crate::random::Random;
 
 /// A frame, which the changes below take apart.
 fn frame(random: &mut Random) -> Vec<u8> {
-    let kind = [0, 1, 2, 3, 4, 5, 6, 7, 9, 0x10, 0x11, 0x12, 0x13, 0x14, 0x15, 0x16, 0x17][random.index(17)];
+    let kind = [0, 1, 2, 3, 4, 5, 6, 7, 9, 0x0A, 0x10, 0x11, 0x12, 0x13, 0x14, 0x15, 0x16, 0x17][random.index(18)];
     let number = random.below(60) as u32;
     match kind {
         1 => format!("01{number:08X}{:08X}", random.next() as u32),

@@ -11,8 +11,10 @@ pub mod joins;
 pub mod lines;
 pub mod parts;
 pub mod pays;
+pub mod rebuilds;
 pub mod sizes;
 pub mod spread;
+pub mod stock;
 pub mod torn;
 pub mod wide;
 pub mod writer;
@@ -27,7 +29,7 @@ pub struct Kind {
 }
 
 /// All kinds of scripts for the probe.
-pub const KINDS: [Kind; 16] = [
+pub const KINDS: [Kind; 17] = [
     Kind { name: "calls", make: calls::make },
     Kind { name: "valid", make: images::valid },
     Kind { name: "steep", make: images::steep },
@@ -44,6 +46,7 @@ pub const KINDS: [Kind; 16] = [
     Kind { name: "forecast", make: forecast::make },
     Kind { name: "parts", make: parts::make },
     Kind { name: "joins", make: joins::make },
+    Kind { name: "rebuilds", make: rebuilds::make },
 ];
 
 impl Kind {

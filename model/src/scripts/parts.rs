@@ -57,6 +57,7 @@ fn refused_calls(random: &mut Random, writer: &mut Writer, keys: &mut Keys) {
         writer.lend_torn(torn.torn as u32);
         if named != torn {
             writer.mount(255);
+            writer.rebuild(writer.enough());
             writer.format(writer.enough());
         }
         update(random, writer, keys);
@@ -100,7 +101,7 @@ fn after_mount(random: &mut Random, writer: &mut Writer, keys: &mut Keys) {
     writer.reports();
 }
 
-/// The chip mounted as the other part, in half of the cases cut first, and then as its own again.
+/// The chip mounted or rebuilt as the other part, in half of the cases cut first, and then as its own again.
 fn crossed(random: &mut Random, writer: &mut Writer, keys: &mut Keys) {
     let own = own(writer);
     for part in [other(own), own] {
@@ -111,7 +112,10 @@ fn crossed(random: &mut Random, writer: &mut Writer, keys: &mut Keys) {
             writer.mount(allowance);
             writer.check();
         }
-        writer.mount(255);
+        match random.once_in(4) {
+            true => writer.rebuild(writer.enough()),
+            false => writer.mount(255),
+        };
         writer.check();
         after_mount(random, writer, keys);
     }

@@ -7,7 +7,7 @@ use crate::random::Random;
 /// Every call once, with a power that mostly cuts nothing.
 fn all_calls(random: &mut Random, writer: &mut Writer) {
     let key = random.below(40) as u32;
-    let mut kinds: Vec<u32> = (0..9).collect();
+    let mut kinds: Vec<u32> = (0..10).collect();
     random.shuffle(&mut kinds);
     for kind in kinds {
         match kind {
@@ -20,6 +20,7 @@ fn all_calls(random: &mut Random, writer: &mut Writer) {
             6 => writer.forecast(),
             7 if random.once_in(4) => writer.mount(255),
             8 if random.once_in(6) => writer.format(writer.enough()),
+            9 if random.once_in(2) => writer.rebuild([writer.enough(), 0, 3][random.index(3)]),
             _ => 0,
         };
     }
@@ -43,6 +44,7 @@ fn torn_lengths(random: &mut Random, writer: &mut Writer) {
         writer.lend_torn(length);
         writer.format(writer.enough());
         writer.mount(255);
+        writer.rebuild(writer.enough());
         writer.insert(random.below(20) as u32, 1);
         writer.commit(writer.enough());
         all_calls(random, writer);

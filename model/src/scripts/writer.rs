@@ -41,7 +41,7 @@ impl Writer {
         self.lend_torn(geometry.torn as u32);
     }
 
-    /// An allowance with which no format or commit is cut.
+    /// An allowance with which no format, commit or rebuild is cut.
     pub fn enough(&self) -> u32 {
         self.geometry().never_cut
     }
@@ -108,6 +108,11 @@ impl Writer {
     /// Mount with an allowance.
     pub fn mount(&mut self, allowance: u32) -> u32 {
         self.single(5, allowance)
+    }
+
+    /// Rebuild with an allowance.
+    pub fn rebuild(&mut self, allowance: u32) -> u32 {
+        self.single(0x0A, allowance)
     }
 
     /// Block report.
@@ -187,7 +192,7 @@ impl Writer {
         self.upload(image);
     }
 
-    /// An allowance below what a commit (4), mount (5) or format (0) needs, or one that is enough for it.
+    /// An allowance below what a commit (4), mount (5), rebuild (10) or format (0) needs, or one that is enough for it.
     pub fn allowance(&self, random: &mut Random, kind: u32) -> u32 {
         let need = self.probe.need(kind).total();
         match random.below(4) {

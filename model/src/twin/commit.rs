@@ -55,8 +55,8 @@ impl State {
         }
     }
 
-    /// One page of a commit built from the nodes as they are then, written at its place, counted and noted.
-    fn write_page(&mut self, chip: &mut Chip, sorted: &Sorted, plan: &Plan, index: usize, place: usize, counts: &mut Counts) {
+    /// One page of commit G + 1 built from the nodes as they are then, written at its place, counted and noted.
+    pub fn write_page(&mut self, chip: &mut Chip, sorted: &Sorted, plan: &Plan, index: usize, place: usize, counts: &mut Counts) {
         let mut room = [255; AREA];
         let data = &mut room[..self.geometry.area];
         let units = self.gather(sorted, plan, index, data);

@@ -46,7 +46,7 @@ impl Ground {
 }
 
 /// The places of all pages of a block.
-fn pages_of(geometry: Geometry, block: usize) -> Range<usize> {
+pub fn pages_of(geometry: Geometry, block: usize) -> Range<usize> {
     block * geometry.pages..(block + 1) * geometry.pages
 }
 

@@ -2,16 +2,13 @@
 
 use super::chip::{Chip, Mark};
 use super::geometry::{Geometry, PLACES};
-use super::numbers::Numbers;
-use super::standing::{place_of, Standing};
 use super::state::State;
+use super::thin::is_thin;
 use super::told::{Counts, Told};
-use super::tree::is_tree;
-use super::unit::units_of;
-use super::view::{Stage, View};
+use super::view::View;
 
 impl State {
-    /// The image mounted: 1 size; 7, 8, 9; 10.
+    /// The image mounted: 1 size; 7, 8, 9; 12 a thin tree; 10.
     pub fn mount(&mut self, geometry: Geometry, image: &mut [u8], torn: &[u8], allowance: u32) -> Told {
         let blocks = geometry.sized(image.len(), torn.len());
         if blocks == 0 {
@@ -19,11 +16,14 @@ impl State {
         }
         self.on = false;
         self.geometry = geometry;
-        let mut keys = [0; PLACES];
-        let mut standing = match self.read(image, 8 * blocks as u32, &mut keys) {
+        let (mut keys, mut views) = ([0; PLACES], [View::UNTOUCHED; 256]);
+        let mut standing = match self.read(image, 8 * blocks as u32, &mut keys, &mut views) {
             Ok(standing) => standing,
             Err(refusal) => return Told::quiet(refusal),
         };
+        if is_thin(&views) {
+            return Told::quiet(12);
+        }
         let mut chip = Chip::new(geometry, image, torn, allowance);
         let mut counts = Counts::default();
         for &place in standing.voids() {
@@ -38,34 +38,5 @@ impl State {
         self.pending = 0;
         self.count = 0;
         chip.told(counts)
-    }
-
-    /// Steps 1 to 6 by the state's geometry; the node table and the numbers in use are read from the standing pages.
-    fn read<'a>(&mut self, image: &[u8], limit: u32, keys: &'a mut [u64; PLACES]) -> Result<Standing<'a>, u32> {
-        let standing = Standing::of(self.geometry, image, keys)?;
-        self.lens = [0; 256];
-        for &key in standing.keys() {
-            let place = place_of(key);
-            let units = units_of(self.geometry, self.geometry.page_at(image, place)).ok_or(8u32)?;
-            if !self.note(units, place as u32, limit) {
-                return Err(8);
-            }
-        }
-        let mut views = [View::UNTOUCHED; 256];
-        for n in 0..limit {
-            match self.lens[n as usize] {
-                0 => continue,
-                1..=4 => views[n as usize] = self.stored(image, n, limit),
-                _ => return Err(8),
-            }
-            if views[n as usize].stage == Stage::Broken {
-                return Err(8);
-            }
-        }
-        if !is_tree(&views[..limit as usize]) {
-            return Err(9);
-        }
-        self.free = Numbers::of(&views, limit);
-        Ok(standing)
     }
 }

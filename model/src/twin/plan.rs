@@ -88,6 +88,17 @@ impl Plan {
         self.whole[n] = view.len as u8 + 1;
     }
 
+    /// All nodes of these views anew, packed in the order of their numbers into pages of at most `units` units.
+    pub fn anew(views: &[View], units: usize) -> Plan {
+        let mut plan = Plan::empty();
+        for (n, view) in views.iter().enumerate() {
+            plan.keep(n, view);
+            plan.anew[n] = true;
+            plan.pack(n, plan.whole[n], units);
+        }
+        plan
+    }
+
     /// The first page with room for this many units.
     fn first(&self, size: u8) -> Option<usize> {
         self.rooms[..self.pages].iter().position(|&room| room >= size)

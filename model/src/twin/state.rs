@@ -9,8 +9,8 @@ use super::view::{key_of, value_of, Stage, View};
 pub const BUFFER: usize = 960;
 
 /// On or off, the geometry, B, G, the pending updates, the numbers in use by nodes of P, the reservation buffer with its count of units,
-/// the node table: for each number the length of its list and its pages; and for each block the erases done since the last finished mount or
-/// format.
+/// the node table: for each number the length of its list and its pages; and for each block the erases done since the last finished mount,
+/// format or rebuild.
 #[derive(Clone, PartialEq, Eq)]
 pub struct State {
     pub on: bool,

@@ -1,4 +1,4 @@
-//! What format, mount, commit and forecast tell: the refusal, and how many operations of each kind were done, or would be.
+//! What format, mount, rebuild, commit and forecast tell: the refusal, and how many operations of each kind were done, or would be.
 
 /// The kinds of operations.
 #[derive(Clone, Copy, PartialEq, Eq, Debug)]

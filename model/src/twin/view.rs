@@ -40,6 +40,16 @@ impl View {
     /// A node before its first unit.
     pub const UNTOUCHED: View = View { stage: Stage::Untouched, level: 0, len: 0, entries: [0; 17] };
 
+    /// A freed node.
+    pub const FREED: View = View { stage: Stage::Freed, ..View::UNTOUCHED };
+
+    /// A node of a level with these entries in key order, at most 16.
+    pub fn node(level: u32, entries: &[u64]) -> View {
+        let mut view = View { stage: Stage::Full, level, len: entries.len(), ..View::UNTOUCHED };
+        view.entries[..entries.len()].copy_from_slice(entries);
+        view
+    }
+
     /// The entries in key order.
     pub fn entries(&self) -> &[u64] {
         &self.entries[..self.len]

@@ -12,8 +12,8 @@ pub struct Seen {
     pub moves: [u32; 2],
     /// Inner nodes that joined, and inner nodes between which an entry moved.
     pub parents: [u32; 2],
-    /// Node 0 took over one level, and more than one.
-    pub over: [u32; 2],
+    /// Node 0 took over its child: one level, as the tree is not thin.
+    pub over: u32,
     /// A number taken again before a commit, and one that is freed on flash.
     pub again: [u32; 2],
     /// Inserts refused with 5, and those accepted with the greatest number given.
@@ -38,8 +38,8 @@ impl Seen {
         let path = before.path(key);
         self.freed.extend(without(before, after));
         let levels = before.node(0).level - after.node(0).level;
-        self.over[0] += (levels == 1) as u32;
-        self.over[1] += (levels > 1) as u32;
+        assert!(levels <= 1);
+        self.over += levels;
         for depth in (1..path.len()).rev() {
             if !self.look(before, after, path[depth - 1], path[depth], depth + 1 == path.len()) {
                 break;
@@ -80,13 +80,13 @@ impl Seen {
 
     /// The least of all figures.
     pub fn least(&self) -> u32 {
-        let all = [self.joins, self.moves, self.parents, self.over, self.again, self.full];
-        all.concat().into_iter().min().unwrap_or(0)
+        let all = [self.joins, self.moves, self.parents, self.again, self.full];
+        all.concat().into_iter().min().unwrap_or(0).min(self.over)
     }
 
     /// The figures as a text.
     pub fn told(&self) -> String {
         let Seen { joins, moves, parents, over, again, full, .. } = self;
-        format!("joins {joins:?}, moves {moves:?}, parents {parents:?}, over {over:?}, again {again:?}, full {full:?}")
+        format!("joins {joins:?}, moves {moves:?}, parents {parents:?}, over {over}, again {again:?}, full {full:?}")
     }
 }

@@ -4,10 +4,10 @@ pub mod steps;
 pub mod units;
 
 use model::random::Random;
-use model::twin::geometry::Geometry;
+use model::twin::geometry::{Geometry, PLACES};
 use model::twin::state::State;
 use model::twin::unit::{encode, put_header, Header, Update, UNIT};
-use model::twin::view::{key_of, value_of, Stage};
+use model::twin::view::{key_of, value_of, Stage, View};
 use std::collections::{BTreeMap, BTreeSet};
 
 /// A key and a value, or the number of a child.
@@ -55,6 +55,12 @@ pub fn records(table: &Table) -> Vec<Entry> {
 pub fn is_thick(table: &Table) -> bool {
     let fewest = |number| if number > 0 { 8 } else { 2 };
     table.iter().all(|(&number, node)| number == 0 && node.level == 0 || node.entries.len() >= fewest(number))
+}
+
+/// Whether an interior node other than node 0 has fewer than 8 entries, or node 0 above level 0 fewer than 2.
+pub fn is_thin(table: &Table) -> bool {
+    let fewest = |number| if number > 0 { 8 } else { 2 };
+    table.iter().any(|(&number, node)| node.level > 0 && node.entries.len() < fewest(number))
 }
 
 /// The table that a store has in P.
@@ -108,20 +114,22 @@ pub fn image_of(part: Geometry, blocks: usize, table: &Table) -> Vec<u8> {
     image
 }
 
-/// A store mounted from a chip whose commit 1 is this table.
-pub fn mounted(part: Geometry, blocks: usize, table: &Table) -> (State, Vec<u8>) {
-    let (mut state, mut image) = (State::new(), image_of(part, blocks, table));
-    assert_eq!(state.mount(part, &mut image, &vec![0x5A; part.page()], 255).refusal, 0);
+/// A store on a chip whose commit 1 is this table, thin or not.
+pub fn store_of(part: Geometry, blocks: usize, table: &Table) -> (State, Vec<u8>) {
+    let mut state = State { on: true, geometry: part, blocks, commit: 1, ..State::new() };
+    let image = image_of(part, blocks, table);
+    assert!(state.read(&image, state.limit(), &mut [0; PLACES], &mut [View::UNTOUCHED; 256]).is_ok());
     assert!(table_of(&state, &image) == *table);
     (state, image)
 }
 
-/// The sizes of nodes that a tree is made of.
+/// The sizes of nodes that a tree is made of: any, few entries, the fewest and the most, or few in interior nodes alone.
 #[derive(Clone, Copy)]
 pub enum Sizes {
     Any,
     Thin,
     Ends,
+    Slim,
 }
 
 impl Sizes {
@@ -130,6 +138,8 @@ impl Sizes {
         match self {
             Sizes::Any => least + random.below(17 - least),
             Sizes::Thin => least + random.below(3),
+            Sizes::Slim if least > 0 => least + random.below(3),
+            Sizes::Slim => random.below(17),
             Sizes::Ends => [least, least, least + 1, 8, 15, 16][random.index(6)],
         }
     }

@@ -25,8 +25,8 @@ pub fn delete(tree: &mut Tree, key: u32, bug: Bug) -> bool {
     while depth > 0 && look(tree, path[depth - 1], path[depth], bug) {
         depth = if bug == Bug::ParentsStay { 0 } else { depth - 1 };
     }
-    if bug != Bug::TakesOverAfterJoins || depth + 1 < path.len() {
-        take_over(tree, bug);
+    if bug != Bug::RootStays {
+        take_over(tree);
     }
     true
 }
@@ -82,14 +82,11 @@ fn shift(tree: &mut Tree, parent: u32, entry: usize, to_left: bool, bug: Bug) {
     }
 }
 
-/// Node 0 takes over its only child, again and again unless that is the fault.
-fn take_over(tree: &mut Tree, bug: Bug) {
+/// Node 0 takes over its only child, again and again.
+fn take_over(tree: &mut Tree) {
     while tree.node(0).level > 0 && tree.node(0).entries.len() == 1 {
         let child = tree.node(0).entries[0].1;
         tree.nodes[0] = tree.nodes[child as usize].take();
-        if bug == Bug::TakesOverOnce {
-            return;
-        }
     }
 }
 

@@ -3,6 +3,7 @@ mod erases;
 mod forecast;
 mod joins;
 mod parts;
+mod rebuild;
 
 use model::model::chip::{self, Operation, Power, OBSOLETE, VALID};
 use model::model::counts::Counts;
@@ -111,8 +112,7 @@ pub enum Bug {
     KeyNotRenewed,
     GreatestPlusOne,
     FreedLeftOut,
-    TakesOverOnce,
-    TakesOverAfterJoins,
+    RootStays,
     LooksLeft,
     JoinsAt15,
     LooksAtSix,
@@ -123,6 +123,46 @@ pub enum Bug {
     NewHasNoLength,
     MountRefusesFreed,
     MountLosesFreed,
+    ThinNode,
+    ThinRoot,
+    ThinOfSeven,
+    ThinRootOfTwo,
+    ThinLeaf,
+    TwelveAfterMarks,
+    TwelveLeavesOn,
+    RebuildTwelve,
+    RebuildOnlyOn,
+    RebuildKeepsPart,
+    RebuildRefusedOn,
+    RebuildFiveOff,
+    RebuildFiveMarks,
+    FiveBeforeSix,
+    OneBlockFewer,
+    OneBlockMore,
+    ManyBlocks,
+    FreePages,
+    VoidsAfterPages,
+    VoidsHighestFirst,
+    LastIndexFirst,
+    LeavesLastPage,
+    KeepsNumber,
+    KeepsThin,
+    LeavesNode,
+    LeavesFreed,
+    LosesRecord,
+    ChangesRecord,
+    NodeInTwo,
+    RebuildErases,
+    RebuildTold,
+    RebuildTenAt2000,
+    RebuildCutOn,
+    RebuildLeavesOff,
+    PendingKept,
+    PendingCount,
+    PendingWritten,
+    OldTree,
+    OldNumber,
+    RebuildKeepsErases,
 }
 
 impl Bug {
@@ -206,13 +246,12 @@ impl Bug {
 
 impl Bug {
     /// The faults of a store in joins, numbers and freed nodes.
-    pub const JOINS: [Bug; 16] = [
+    pub const JOINS: [Bug; 15] = [
         Bug::RightKept,
         Bug::KeyNotRenewed,
         Bug::GreatestPlusOne,
         Bug::FreedLeftOut,
-        Bug::TakesOverOnce,
-        Bug::TakesOverAfterJoins,
+        Bug::RootStays,
         Bug::LooksLeft,
         Bug::JoinsAt15,
         Bug::LooksAtSix,
@@ -223,6 +262,52 @@ impl Bug {
         Bug::NewHasNoLength,
         Bug::MountRefusesFreed,
         Bug::MountLosesFreed,
+    ];
+}
+
+impl Bug {
+    /// The faults of a store in mounts of thin trees and in rebuilds.
+    pub const REBUILDS: [Bug; 40] = [
+        Bug::ThinNode,
+        Bug::ThinRoot,
+        Bug::ThinOfSeven,
+        Bug::ThinRootOfTwo,
+        Bug::ThinLeaf,
+        Bug::TwelveAfterMarks,
+        Bug::TwelveLeavesOn,
+        Bug::RebuildTwelve,
+        Bug::RebuildOnlyOn,
+        Bug::RebuildKeepsPart,
+        Bug::RebuildRefusedOn,
+        Bug::RebuildFiveOff,
+        Bug::RebuildFiveMarks,
+        Bug::FiveBeforeSix,
+        Bug::OneBlockFewer,
+        Bug::OneBlockMore,
+        Bug::ManyBlocks,
+        Bug::FreePages,
+        Bug::VoidsAfterPages,
+        Bug::VoidsHighestFirst,
+        Bug::LastIndexFirst,
+        Bug::LeavesLastPage,
+        Bug::KeepsNumber,
+        Bug::KeepsThin,
+        Bug::LeavesNode,
+        Bug::LeavesFreed,
+        Bug::LosesRecord,
+        Bug::ChangesRecord,
+        Bug::NodeInTwo,
+        Bug::RebuildErases,
+        Bug::RebuildTold,
+        Bug::RebuildTenAt2000,
+        Bug::RebuildCutOn,
+        Bug::RebuildLeavesOff,
+        Bug::PendingKept,
+        Bug::PendingCount,
+        Bug::PendingWritten,
+        Bug::OldTree,
+        Bug::OldNumber,
+        Bug::RebuildKeepsErases,
     ];
 }
 
@@ -328,6 +413,7 @@ impl Tiny {
             Frame::Report(block) => self.report(block),
             Frame::Show(page) => self.show(page),
             Frame::Forecast => self.forecast(),
+            Frame::Rebuild(allowance) => self.rebuild(allowance),
             _ => self.lend(frame),
         }
     }
@@ -483,6 +569,9 @@ impl Tiny {
             Ok(means) => means,
             Err(refusal) => return reply(refusal, Counts::NONE),
         };
+        if let Some(refusal) = self.too_thin(&means) {
+            return refusal;
+        }
         if self.is(Bug::MountHighestFirst) {
             means.void.reverse();
         }

@@ -6,22 +6,30 @@ use crate::model::geometry::Geometry;
 use crate::model::tree::{Node, Tree, FULL};
 use crate::model::unit::{self, Deed, Unit, FREED, UNIT};
 use crate::random::Random;
-use std::collections::BTreeMap;
+use std::collections::{BTreeMap, BTreeSet};
 
 /// A draft whose meaning is a given tree, if the tree obeys step 6. Some of the other numbers are freed in it.
 pub fn draft(random: &mut Random, geometry: Geometry, blocks: usize, tree: &Tree) -> Draft {
+    let mut draft = draft_at(random, geometry, blocks, tree, (0..blocks * geometry.pages).collect());
+    let held: BTreeSet<usize> = draft.pages.iter().map(|page| page.place).collect();
+    let mut places: Vec<usize> = (0..blocks * geometry.pages).filter(|place| !held.contains(place)).collect();
+    random.shuffle(&mut places);
+    draft.others = rubbish(random, geometry, &places, blocks);
+    draft
+}
+
+/// The same with pages at some places alone, and without other pages.
+pub fn draft_at(random: &mut Random, geometry: Geometry, blocks: usize, tree: &Tree, mut places: Vec<usize>) -> Draft {
     loop {
         let freed = freed(random, tree);
-        if let Some(slots) = slots(random, geometry, blocks, tree, &freed) {
+        if let Some(slots) = slots(random, geometry, places.len(), tree, &freed) {
             let mut pages = commits(random, geometry, slots);
-            pages.extend(void_commit(random, geometry, &pages, blocks));
-            let mut places: Vec<usize> = (0..blocks * geometry.pages).collect();
+            pages.extend(void_commit(random, geometry, &pages, blocks, places.len()));
             random.shuffle(&mut places);
             for (page, place) in pages.iter_mut().zip(&places) {
                 page.place = *place;
             }
-            let others = rubbish(random, geometry, &places[pages.len()..], blocks);
-            return Draft { geometry, blocks, pages, others, patches: Vec::new() };
+            return Draft { geometry, blocks, pages, others: Vec::new(), patches: Vec::new() };
         }
     }
 }
@@ -99,10 +107,10 @@ fn last_units(random: &mut Random, number: usize, tree: &Tree) -> Vec<Unit> {
     }
 }
 
-/// Pages' worth of units in order that make a tree and freed numbers; none when a node found no room.
-fn slots(random: &mut Random, geometry: Geometry, blocks: usize, tree: &Tree, freed: &[usize]) -> Option<Vec<Vec<Unit>>> {
+/// Pages' worth of units in order, for so many places, that make a tree and freed numbers; none when a node found no room.
+fn slots(random: &mut Random, geometry: Geometry, places: usize, tree: &Tree, freed: &[usize]) -> Option<Vec<Vec<Unit>>> {
     let nodes = tree.nodes.iter().flatten().count();
-    let most = blocks * geometry.pages * 3 / 4;
+    let most = places * 3 / 4;
     let least = nodes + 1 + freed.len() / 8;
     let mut slots = vec![Vec::new(); (least + random.index(2 * least)).min(most)];
     let mut order: Vec<usize> = (0..tree.nodes.len()).filter(|number| tree.nodes[*number].is_some()).collect();
@@ -187,11 +195,11 @@ fn indexes(random: &mut Random, pages: usize, whole: bool) -> (Vec<u8>, u8) {
 }
 
 /// Pages of a commit above all others that lacks an index; their units may be anything.
-fn void_commit(random: &mut Random, geometry: Geometry, pages: &[Page], blocks: usize) -> Vec<Page> {
+fn void_commit(random: &mut Random, geometry: Geometry, pages: &[Page], blocks: usize, places: usize) -> Vec<Page> {
     let greatest = pages.last().map_or(0, |page| page.commit);
     let number = greatest.checked_add(1 + random.below(3) as u32);
     let (Some(number), true) = (number, random.once_in(2)) else { return Vec::new() };
-    let room = blocks * geometry.pages - pages.len();
+    let room = places - pages.len();
     let most = if random.once_in(8) { room.min(254) } else { room.min(4) };
     let held = 1 + random.index(most);
     let count = (held + 1 + random.index(3)).min(255);

@@ -13,10 +13,10 @@ use std::rc::Rc;
 /// Digits of the three counts.
 const THREE: usize = 24;
 
-/// A commit's allowance and reply: the refusal, 0 for none, and the three counts told.
+/// The allowance and the reply of a commit or rebuild: the refusal, 0 for none, and the three counts told.
 pub(super) struct Told {
     pub(super) allowance: u32,
-    refusal: u32,
+    pub(super) refusal: u32,
     pub(super) counts: Counts,
 }
 
@@ -31,7 +31,7 @@ impl Judge {
             expect(reply, &told(refusal, Counts::NONE))?;
             return self.same(image, usize::MAX);
         }
-        let told = self.told(allowance, reply, image)?;
+        let told = self.told(allowance, reply, &[0, LAST_NUMBER, POWER], image)?;
         match told.refusal {
             LAST_NUMBER => self.foretell(LAST_NUMBER, Counts::NONE)?,
             refusal => self.as_foretold(&told, refusal == POWER)?,
@@ -56,9 +56,9 @@ impl Judge {
         }
     }
 
-    /// Reads the reply of a commit, finished, refused with 6 or cut: the sum of the counts is at most the allowance.
-    fn told(&self, allowance: u32, reply: &str, image: &[u8]) -> Result<Told, String> {
-        let (refusal, counts) = three(reply, &[0, LAST_NUMBER, POWER])?;
+    /// Reads the reply of a commit or rebuild, one of several refusals: the sum of the counts is at most the allowance.
+    pub(super) fn told(&self, allowance: u32, reply: &str, refusals: &[u32], image: &[u8]) -> Result<Told, String> {
+        let (refusal, counts) = three(reply, refusals)?;
         if counts.sum() > allowance as u64 {
             return Err("more operations than the allowance".to_string());
         }
@@ -182,12 +182,12 @@ pub(super) fn three(reply: &str, refusals: &[u32]) -> Result<(u32, Counts), Stri
     Ok((refusal, counts))
 }
 
-/// The sum of the counts told by a commit of a list: the allowance when cut, never with the bound of 2,000 or 4,000; else at most the
-/// bound.
-fn held_operations(geometry: Geometry, told: &Told) -> Result<(), String> {
+/// The sum of the counts told by a commit of a list or a rebuild: the allowance when cut, never with the bound of 2,000 or 4,000; else at
+/// most the bound.
+pub(super) fn held_operations(geometry: Geometry, told: &Told) -> Result<(), String> {
     let (operations, bound) = (told.counts.sum(), geometry.never_cut);
     match told.refusal {
-        0 if operations > bound as u64 => Err(format!("a commit of more than {bound} operations")),
+        0 if operations > bound as u64 => Err(format!("more than {bound} operations")),
         0 => Ok(()),
         POWER if told.allowance >= bound => Err(format!("cut with an allowance of {bound} or more")),
         POWER if operations != told.allowance as u64 => Err("cut, but the counts do not add up to the allowance".to_string()),

@@ -8,7 +8,7 @@ use crate::model::image::{self, Head};
 use crate::model::unit::{self, HEAD, UNIT};
 use std::ops::Range;
 
-/// The images before and after a commit of a number on a chip of a geometry, finished or cut, and the torn bytes.
+/// The images before and after a commit or rebuild of a number on a chip of a geometry, finished or cut, and the torn bytes.
 pub struct Change<'a> {
     pub geometry: Geometry,
     pub before: &'a [u8],
@@ -34,12 +34,12 @@ impl Change<'_> {
     }
 
     /// The page at a place before the commit.
-    fn page_before(&self, place: usize) -> &[u8] {
+    pub(super) fn page_before(&self, place: usize) -> &[u8] {
         chip::page(self.geometry, self.before, place)
     }
 
     /// The page at a place after the commit.
-    fn page_after(&self, place: usize) -> &[u8] {
+    pub(super) fn page_after(&self, place: usize) -> &[u8] {
         chip::page(self.geometry, self.after, place)
     }
 
@@ -155,7 +155,7 @@ impl Change<'_> {
     }
 
     /// The head of a page that is whole and of this commit: its own rules in step 2 and each unit's layout.
-    fn page_of_commit(&self, page: &[u8], place: usize) -> Option<Head> {
+    pub(super) fn page_of_commit(&self, page: &[u8], place: usize) -> Option<Head> {
         let head = image::own_rules(self.geometry, page, place).filter(|head| head.commit == self.number)?;
         let mut units = page[HEAD..HEAD + head.units * UNIT].chunks_exact(UNIT);
         units.all(|bytes| unit::decode(bytes, 8 * self.blocks).is_some()).then_some(head)
@@ -169,7 +169,7 @@ impl Change<'_> {
     }
 
     /// Units of one node stand in one page of the commit.
-    fn one_page_a_node(&self, pages: &[Head]) -> Result<(), String> {
+    pub(super) fn one_page_a_node(&self, pages: &[Head]) -> Result<(), String> {
         let mut home = vec![None; 8 * self.blocks];
         for head in pages {
             let page = self.page_after(head.place);

@@ -96,7 +96,8 @@ impl Judge {
         }
         true
     }
-    /// Frame 17: the geometry that format, mount and show name, and whose blocks frame 10 lends; 0 is the small part, 1 the large one.
+
+    /// Frame 17: the geometry that format, mount, rebuild and show name, and whose blocks frame 10 lends; 0 is the small part, 1 the large one.
     fn name_part(&mut self, part: u8) -> bool {
         match part {
             0 => self.named = Geometry::SMALL,

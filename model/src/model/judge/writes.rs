@@ -4,7 +4,7 @@ use crate::model::chip::{self, Operation, Power, OBSOLETE};
 use crate::model::counts::Counts;
 use crate::model::erases::Erases;
 use crate::model::geometry::Geometry;
-use crate::model::image::Meaning;
+use crate::model::image::{Meaning, THIN};
 use crate::model::pays::Pays;
 use crate::model::plain::{Call, Plain, POWER};
 use crate::model::unit::{self, Deed, Unit};
@@ -56,30 +56,48 @@ impl Judge {
     }
 
     /// Mount, which names the geometry: does it on the judge's image and answers the reply. Where it names another one than the last
-    /// finished format, the chip is as one that no format began.
+    /// finished format or rebuild, the chip is as one that none of them began.
     pub(super) fn mount(&mut self, allowance: u32) -> Result<String, String> {
         if let Some(refusal) = Plain::size(self.named, self.lengths()) {
             return Ok(told(refusal, Counts::NONE));
         }
         let meaning = self.read();
-        self.begun &= self.aligned() && self.named == self.plain.geometry;
-        self.pays.take_if(|_| !self.begun);
-        self.leave();
+        self.begun = self.in_list(&meaning)?;
         match &*meaning {
-            Ok(means) => self.mount_meaning(allowance, means, &meaning),
-            Err(refusal) if self.begun => Err(format!("the image of a list means refusal {refusal}")),
-            Err(refusal) => {
-                self.plain.on = false;
-                Ok(told(*refusal, Counts::NONE))
-            }
+            Err(refusal) => Ok(self.turn_away(*refusal)),
+            Ok(means) if means.tree.thin() => Ok(self.turn_away(THIN)),
+            Ok(means) => Ok(self.mount_meaning(allowance, means, &meaning)),
         }
     }
 
-    /// Mount of an image that has a meaning.
-    fn mount_meaning(&mut self, allowance: u32, means: &Meaning, shared: &Shared) -> Result<String, String> {
-        if self.begun && (self.plain.kept != means.tree || self.plain.number != means.greatest) {
-            return Err("the image of a list does not mean K with G".to_string());
+    /// Whether the image of a mount or rebuild is that of a list and named as its part. It means K with G then, which is not thin.
+    pub(super) fn in_list(&mut self, meaning: &Shared) -> Result<bool, String> {
+        if !self.begun || !self.aligned() || self.named != self.plain.geometry {
+            return Ok(false);
         }
+        match &**meaning {
+            Err(refusal) => Err(format!("the image of a list means refusal {refusal}")),
+            Ok(means) if means.tree != self.plain.kept || means.greatest != self.plain.number => {
+                Err("the image of a list does not mean K with G".to_string())
+            }
+            Ok(means) if means.tree.thin() => Err("the tree of a list is thin".to_string()),
+            Ok(_) => Ok(true),
+        }
+    }
+
+    /// The answer of a mount or rebuild of an image that it does not take: off, without an operation.
+    pub(super) fn turn_away(&mut self, refusal: u32) -> String {
+        self.leave();
+        self.begun = false;
+        self.pays = None;
+        self.plain.on = false;
+        told(refusal, Counts::NONE)
+    }
+
+    /// Mount of an image that has a meaning and is not thin.
+    fn mount_meaning(&mut self, allowance: u32, means: &Meaning, shared: &Shared) -> String {
+        self.leave();
+        self.pays.take_if(|_| !self.begun);
         let mut power = Power::new(self.named, allowance, &self.torn[..self.named.torn]);
         spend(&mut self.buffer[..self.lent], &means.void, &mut power);
         let (cut, counts) = (power.gone(), power.told());
@@ -89,7 +107,7 @@ impl Judge {
         self.mounted(allowance, means, cut);
         self.pays.take_if(|_| cut);
         if cut {
-            return Ok(told(POWER, counts));
+            return told(POWER, counts);
         }
         self.wild = false;
         self.erases = Erases::none(self.plain.blocks);
@@ -99,7 +117,7 @@ impl Judge {
             self.ground = Rc::new(Ok(Meaning { void: Vec::new(), ..means.clone() }));
             self.meaning = Some((self.named, self.ground.clone()));
         }
-        Ok(told(0, counts))
+        told(0, counts)
     }
 
     /// The plain store after a finished or cut mount.

@@ -1,6 +1,9 @@
 use mathlib.Core.Path.{refl}
+use Rattle.chip.specs.Geometry.{Nand}
 use borrow.Author.Needs.{needs}
-use Rattle.exports.proofs.CallLaws.{formatted, format-unnamed}
+use Rattle.exports.proofs.CallLaws.{named-part, unnamed-part}
+use Rattle.exports.proofs.ExactLaws.{format-narrow}
+use Rattle.store.specs.Contracts.{Formats}
 use Rattle.exports.proofs.writes.vehinoke_format.Statement.{statement}
 use Rattle.exports.proofs.writes.vehinoke_format.Tie as tie
 use Rattle.exports.proofs.writes.vehinoke_format.Reads as reads
@@ -33,7 +36,7 @@ returns : tie.Need-returns
 returns c =
     let t = c .before .before in
     let a = t .before .before .before .args in
-    format-unnamed (a .part) (t .if1 .taken) (a .allowance) (a .torn .now) (a .numbers .now) (a .free .now) (a .lens .now) (a .slots .now) (a .erases .now) (a .image .now) _ _ (c .no-part .ensures)
+    unnamed-part (λ (n : Nand). Formats n (a .allowance) (a .torn .now)) (a .part) (t .if1 .taken) (a .numbers .now) (a .free .now) (a .lens .now) (a .slots .now) (a .erases .now) (a .image .now) _ _ (c .no-part .ensures)
 
 returns-2 : tie.Need-returns-2
 returns-2 c =
@@ -42,8 +45,9 @@ returns-2 c =
     let p = l .before .before .before in
     let e = p .before in
     let a = e .before .before .before .args in
-    formatted (a .numbers .now) (a .free .now) (l .load-free .result) (l .load-free .ensures) (a .part) (p .part-in .result) (p .part-in .ensures) (e .if1 .left) (a .allowance) (a .torn .now) (a .lens .now)
-    (a .slots .now) (a .erases .now) (a .image .now) (w .format-lent .result) _ _ _ _ _ _ _ _ (c .give .ensures) refl (w .format-lent .ensures)
+    named-part (a .numbers .now) (a .free .now) (l .load-free .result) (l .load-free .ensures) (λ (n : Nand). Formats n (a .allowance) (a .torn .now)) (a .part) (p .part-in .result) (p .part-in .ensures)
+    (e .if1 .left) (a .lens .now) (a .slots .now) (a .erases .now) (a .image .now) (w .format-lent .result) _ _ _ _ _ _ _ _ (c .give .ensures) refl
+    (format-narrow (p .part-in .result) (a .allowance) (a .torn .now) _ (a .image .now) _ _) (w .format-lent .ensures)
 
 pub vehinoke-format-spec : {M : Type 1} → statement M
 vehinoke-format-spec =

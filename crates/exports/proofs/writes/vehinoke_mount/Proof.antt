@@ -1,6 +1,9 @@
 use mathlib.Core.Path.{refl}
+use Rattle.chip.specs.Geometry.{Nand}
 use borrow.Author.Needs.{needs}
-use Rattle.exports.proofs.CallLaws.{mounted, mount-unnamed}
+use Rattle.exports.proofs.CallLaws.{named-part, unnamed-part}
+use Rattle.exports.proofs.ExactLaws.{mount-narrow}
+use Rattle.store.specs.Contracts.{Mounts}
 use Rattle.exports.proofs.writes.vehinoke_mount.Statement.{statement}
 use Rattle.exports.proofs.writes.vehinoke_mount.Tie as tie
 use Rattle.exports.proofs.writes.vehinoke_mount.Reads as reads
@@ -33,7 +36,7 @@ returns : tie.Need-returns
 returns c =
     let t = c .before .before in
     let a = t .before .before .before .args in
-    mount-unnamed (a .part) (t .if1 .taken) (a .allowance) (a .torn .now) (a .numbers .now) (a .free .now) (a .lens .now) (a .slots .now) (a .erases .now) (a .image .now) _ _ (c .no-part .ensures)
+    unnamed-part (λ (n : Nand). Mounts n (a .allowance) (a .torn .now)) (a .part) (t .if1 .taken) (a .numbers .now) (a .free .now) (a .lens .now) (a .slots .now) (a .erases .now) (a .image .now) _ _ (c .no-part .ensures)
 
 returns-2 : tie.Need-returns-2
 returns-2 c =
@@ -42,8 +45,9 @@ returns-2 c =
     let p = l .before .before .before in
     let e = p .before in
     let a = e .before .before .before .args in
-    mounted (a .numbers .now) (a .free .now) (l .load-free .result) (l .load-free .ensures) (a .part) (p .part-in .result) (p .part-in .ensures) (e .if1 .left) (a .allowance) (a .torn .now) (a .lens .now)
-    (a .slots .now) (a .erases .now) (a .image .now) (w .mount-lent .result) _ _ _ _ _ _ _ _ (c .give .ensures) refl (w .mount-lent .ensures)
+    named-part (a .numbers .now) (a .free .now) (l .load-free .result) (l .load-free .ensures) (λ (n : Nand). Mounts n (a .allowance) (a .torn .now)) (a .part) (p .part-in .result) (p .part-in .ensures)
+    (e .if1 .left) (a .lens .now) (a .slots .now) (a .erases .now) (a .image .now) (w .mount-lent .result) _ _ _ _ _ _ _ _ (c .give .ensures) refl
+    (mount-narrow (p .part-in .result) (a .allowance) (a .torn .now) _ (a .image .now) _ _) (w .mount-lent .ensures)
 
 pub vehinoke-mount-spec : {M : Type 1} → statement M
 vehinoke-mount-spec =

@@ -103,6 +103,14 @@ enum-told-11 c = search needs
 short-text-requires-11 : tie.Need-short-text-requires-11
 short-text-requires-11 c κs = search needs
 
+-- src/text.rt:78:27
+enum-told-12 : tie.Need-enum-told-12
+enum-told-12 c = search needs
+
+-- src/text.rt:78:27
+short-text-requires-12 : tie.Need-short-text-requires-12
+short-text-requires-12 c κs = search needs
+
 -- src/text.rt:62:1
 returns : tie.Need-returns
 unfolding answerText
@@ -163,6 +171,11 @@ returns-12 : tie.Need-returns-12
 unfolding answerText
 returns-12 c = rw (c .before .enum-told11 .given .1) (c .short-text11 .ensures)
 
+-- src/text.rt:62:1
+returns-13 : tie.Need-returns-13
+unfolding answerText
+returns-13 c = rw (c .before .enum-told12 .given .1) (c .short-text12 .ensures)
+
 pub answer-text-spec : {M : Type 1} → statement M
 answer-text-spec =
     tie.close
@@ -191,6 +204,8 @@ answer-text-spec =
     short-text-requires-10
     enum-told-11
     short-text-requires-11
+    enum-told-12
+    short-text-requires-12
     returns
     returns-2
     returns-3
@@ -202,4 +217,5 @@ answer-text-spec =
     returns-9
     returns-10
     returns-11
-    returns-12)
+    returns-12
+    returns-13)

@@ -66,12 +66,12 @@ enum-told c = search needs
 enum-told-2 : tie.Need-enum-told-2
 enum-told-2 c = search needs
 
-enum-told-3 : tie.Need-enum-told-3
-enum-told-3 c = search needs
+enum-known-thin : tie.Need-enum-known-thin
+enum-known-thin c = search needs
 
 passed-requires : tie.Need-passed-requires
 passed-requires c κs =
-    let w = c .before .before .before .before .before .before .before .before .before in
+    let w = c .before .before .before .before .before .before .before .before .before .before in
     let b = w .before .before .before .before in
     let a = b .before in
     stands-numbered (a .args .geometry) (a .pre .1) (a .args .image .now) _ _ _ (a .args .blocks) (a .pre .0) (λ i. omega (arith, b .shared-slice-known .given i)) (stood w)
@@ -108,14 +108,14 @@ returns-3 c =
 
 returns-4 : tie.Need-returns-4
 returns-4 c =
-    let e = c .before .before in
+    let e = c .before .before .before in
     let j = e .before .before in
     let w = j .before .before .before .before .before .before in
     let b = w .before .before .before .before in
     let a = b .before in
     let k = j .judge .ensures in
     rw (c .passed .ensures)
-    (stands-tree (a .args .geometry) (a .pre .1) (a .args .image .now) _ _ _ (a .args .blocks) (a .pre .0) (λ i. omega (arith, b .shared-slice-known .given i)) (stood w) _ _ _ (rw (e .enum-told3 .given .1) at k))
+    (stands-tree (a .args .geometry) (a .pre .1) (a .args .image .now) _ _ _ (a .args .blocks) (a .pre .0) (λ i. omega (arith, b .shared-slice-known .given i)) (stood w) _ _ _ (e .thin .given .0 .0) (rw (e .thin .given .1) at k))
 
 pub check-spec : {M : Type 1} → statement M
 check-spec =
@@ -131,7 +131,7 @@ check-spec =
     judge-requires
     enum-told
     enum-told-2
-    enum-told-3
+    enum-known-thin
     passed-requires
     returns
     returns-2

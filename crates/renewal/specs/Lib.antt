@@ -1,0 +1,3 @@
+pub mod LayersCode
+pub mod MakeCode
+pub mod RenewCode
