@@ -10,7 +10,7 @@ type Slots = [u32; 1024];
 type Erases = [u64; 32];
 type Buffer = [u8; 11520];
 
-/// The number of the small part, which format and mount take.
+/// The number of the small part, which format, mount and rebuild take.
 const SMALL: u32 = 0;
 
 /// What a call counts: data programs, marks set, erases.
@@ -84,6 +84,20 @@ extern "C" {
         allowance: u32,
         ops: &mut Ops,
     ) -> u32;
+    fn vehinoke_rebuild(
+        numbers: &mut Numbers,
+        free: &mut Free,
+        lens: &mut Lens,
+        slots: &mut Slots,
+        erases: &mut Erases,
+        image: *mut u8,
+        image_len: usize,
+        torn: *const u8,
+        torn_len: usize,
+        part: u32,
+        allowance: u32,
+        ops: &mut Ops,
+    ) -> u32;
     fn vehinoke_commit(
         numbers: &mut Numbers,
         lens: &mut Lens,
@@ -125,7 +139,7 @@ pub struct Library {
     buffer: Box<Buffer>,
 }
 
-/// What format, mount, commit and forecast tell, by the refusal that they return and the counts that they leave.
+/// What format, mount, rebuild, commit and forecast tell, by the refusal that they return and the counts that they leave.
 fn told(refusal: u32, [programs, marks, erases]: Ops) -> Told {
     Told { refusal, counts: Counts { programs, marks, erases } }
 }
@@ -167,6 +181,14 @@ impl Library {
         let (i, t) = (image.as_mut_ptr(), torn.as_ptr());
         let (n, f, l, s, e) = (&mut self.numbers, &mut self.free, &mut self.lens, &mut self.slots, &mut self.erases);
         let refusal = unsafe { vehinoke_mount(n, f, l, s, e, i, image.len(), t, torn.len(), SMALL, allowance, &mut ops) };
+        told(refusal, ops)
+    }
+
+    pub fn rebuild(&mut self, image: &mut [u8], torn: &[u8], allowance: u32) -> Told {
+        let mut ops = [0; 3];
+        let (i, t) = (image.as_mut_ptr(), torn.as_ptr());
+        let (n, f, l, s, e) = (&mut self.numbers, &mut self.free, &mut self.lens, &mut self.slots, &mut self.erases);
+        let refusal = unsafe { vehinoke_rebuild(n, f, l, s, e, i, image.len(), t, torn.len(), SMALL, allowance, &mut ops) };
         told(refusal, ops)
     }
 

@@ -109,7 +109,7 @@ pub fn put(name: &str, table: &str) {
 /// The plot of the ratios.
 pub fn plot_times(rows: &[Row]) {
     let mut groups: Vec<(String, Vec<f64>)> = Vec::new();
-    for call in ["look up", "insert", "commit", "forecast", "mount", "block report", "format"] {
+    for call in ["look up", "insert", "commit", "forecast", "mount", "rebuild", "block report", "format"] {
         groups.push((call.to_string(), rows.iter().filter(|r| r.call == call).map(|r| r.ratio).collect()));
     }
     let top = rows.iter().map(|r| r.ratio).fold(2.0, f64::max).ceil();

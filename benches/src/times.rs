@@ -166,6 +166,21 @@ pub fn mount(both: &mut Both, rounds: usize) -> Vec<Round> {
     (0..rounds).map(|_| turn()).collect()
 }
 
+/// Rebuilds of the image, each of a copy.
+fn rebuild(both: &Both, rounds: usize) -> Vec<Round> {
+    let mut at = both.clone();
+    let mut turn = || {
+        at.image.copy_from_slice(&both.image);
+        at.twin_image.copy_from_slice(&both.twin_image);
+        let clock = reading();
+        let library = nanos(|| assert_eq!(at.library.rebuild(&mut at.image, &TORN, ALLOWANCE).refusal, 0)) - clock;
+        let twin = nanos(|| assert_eq!(twin::rebuild(&mut at.twin, &mut at.twin_image, &TORN, ALLOWANCE).refusal, 0)) - clock;
+        assert!(at.image == at.twin_image, "the images differ after a rebuild");
+        (library, twin)
+    };
+    (0..rounds).map(|_| turn()).collect()
+}
+
 /// Formats of the image; a round is 4 of them.
 pub fn format(blocks: usize, rounds: usize) -> Vec<Round> {
     let mut both = Both::formatted(blocks);
@@ -188,6 +203,8 @@ pub fn table(rounds: usize) -> Vec<Row> {
     for blocks in [3, 8, 32] {
         let mut random = Random::new(blocks as u64);
         let (mut both, keys) = Both::filled(blocks, usize::MAX, &mut random);
+        // Before the tree is used, while enough blocks are wholly free.
+        let rebuilt = row("rebuild", blocks, format!("{} keys, root of level {}", keys.len(), both.root_level()), &rebuild(&both, rounds));
         both.churn(&keys, 100, &mut random);
         let note = format!("{} keys, {} live pages, root of level {}", keys.len(), both.live_pages(), both.root_level());
         rows.push(row("look up", blocks, note.clone(), &look_up(&both, &keys, rounds, &mut random)));
@@ -195,6 +212,7 @@ pub fn table(rounds: usize) -> Vec<Row> {
         rows.push(row("commit", blocks, note.clone(), &commit(&mut both, &keys, rounds, &mut random)));
         rows.push(row("forecast", blocks, note.clone(), &forecast(&mut both.clone(), &keys, rounds, &mut random)));
         rows.push(row("mount", blocks, note.clone(), &mount(&mut both, rounds)));
+        rows.push(rebuilt);
         rows.push(row("block report", blocks, note.clone(), &block_report(&both, rounds)));
         rows.push(row("format", blocks, String::new(), &format(blocks, rounds)));
     }

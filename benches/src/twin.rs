@@ -14,6 +14,11 @@ pub fn mount(state: &mut State, image: &mut [u8], torn: &[u8], allowance: u32) -
     state.mount(SMALL, image, torn, allowance)
 }
 
+/// The small part rebuilt.
+pub fn rebuild(state: &mut State, image: &mut [u8], torn: &[u8], allowance: u32) -> Told {
+    state.rebuild(SMALL, image, torn, allowance)
+}
+
 /// The refusal, 0 for none, the value found and the pages read.
 pub fn look_up(state: &State, image: &[u8], key: u32) -> (u32, u32, u32) {
     let look = state.look_up(image, key);
