@@ -18,7 +18,7 @@ fn lines(path: &Path) -> Vec<Vec<u8>> {
 #[test]
 fn replies() {
     let paths = scripts();
-    assert!(paths.len() >= 22);
+    assert!(paths.len() >= 29);
     for path in paths {
         let (script, stored) = (lines(&path), lines(&path.with_extension("out")));
         let verdict = match path.file_stem().is_some_and(|stem| stem == "bench") {

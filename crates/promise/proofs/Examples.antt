@@ -190,7 +190,7 @@ unfolding lookingUp insertion deletion isChipSize isTornSize hasBlocks verdict r
 later =
     record {
       course = record { started = format-starts sample Small s₀ i₀ formatted; runs = runs kept (Only sample s₀) s₀ i₀ refl kept-fine; named = (refl, (refl, (refl, (refl, (refl, (refl, tt)))))); uncut = (refl, (refl, (refl, (refl, (refl, (refl, tt)))))) };
-      tree = leaf-tree 3 (omega arith);
+      tree = leaf-tree 0 3 (omega arith) (omega arith);
       lawful = (insert-lawful 7 99 (omega arith), (tt, (insert-lawful 7 1 (omega arith), (delete-lawful 9 (omega arith), (tt, (tt, tt))))));
       unformatted = (refl, (refl, (refl, tt)));
       key = omega arith;

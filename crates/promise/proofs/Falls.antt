@@ -2,21 +2,24 @@
 use mathlib.Core.Path.{_≡_, refl, sym, ap, _∙_}
 use mathlib.Core.Bool.{Bool, true, false, cond, _&&_, _||_}
 use mathlib.Core.List.{List}
-use Prim.Native.Nat.{ℕ, zero, suc, _<_, _≤_}
+use Prim.Native.Nat.{ℕ, zero, suc, _+_, _*_, _<_, _≤_}
 use native.Mathlib.Omega.{arith}
 use lib.Dec.{ltb, leb, eqb}
 use lib.ListN.{length, getD}
-use borrow.Author.Tests.{leb-true, leb-false, ltb-true, ltb-false}
+use borrow.Author.Tests.{le-leb, lt-leb, leb-true, leb-false, ltb-true, ltb-false}
 use Rattle.lists.proofs.Tests.{cases, clash}
 use Rattle.chip.specs.Geometry.{Nand, geometryOf, blocksOf}
 use Rattle.chip.specs.Power.{takesEffect}
 use Rattle.chip.specs.Erases.{erasesIn}
-use Rattle.tree.specs.Tree.{Table, find, found}
+use Rattle.tree.specs.Tree.{Table, nodes, rootLevel, find, found}
+use Rattle.tree.specs.Step6.{top}
+use Rattle.tree.specs.Insert.{done, inserted, insert, needs}
 use Rattle.tree.specs.Thick.{thin}
 use Rattle.tree.specs.Rebuild.{rebuild}
-use Rattle.promise.specs.Plain.{Answer, refuses, accepted, finds, lookedUp, Plain, when, UpdateCall, updates, reads, forecasts, commits, mounts, lookingUp, numbersRefusal, laterRefusal, noNumberLeft, resting, updated, enoughWrites}
-use Rattle.promise.specs.Calls.{means, treeIn, numberIn, Store, stateOf, PassesFirst, Updates, LookUp, OpsTold, Format, Proceeding, Committing, Commit, Forecast, Mount}
+use Rattle.promise.specs.Plain.{Answer, refuses, accepted, finds, lookedUp, Plain, when, UpdateCall, updates, reads, forecasts, commits, mounts, lookingUp, insertion, numbersRefusal, laterRefusal, noNumberLeft, resting, updated, enoughWrites}
+use Rattle.promise.specs.Calls.{means, treeIn, numberIn, Store, stateOf, PassesFirst, Updates, Insert, LookUp, OpsTold, Format, Proceeding, Committing, Commit, Forecast, Mount}
 use Rattle.promise.specs.Steps.{commit, Step, counts, Rebuilt}
+use Rattle.promise.specs.Height.{Low}
 use Rattle.promise.proofs.Promise.{apart, accepted-not, counts-not, counts-so, stepIs, mount-mounts, rebuild-starts, when-is}
 
 module _ (S : Store) (s : S .State) (i : S .Image) (good : S .Good s i) where
@@ -67,6 +70,16 @@ module _ (S : Store) (s : S .State) (i : S .Image) (good : S .Good s i) where
   pub early-three : (u : UpdateCall) (s' : S .State) (i' : S .Image) → S .pending s < 16 → PassesFirst S (updates u (S .size i)) s
       → Updates S u s i (refuses 3) s' i' → ⊥
   early-three u s' i' l t c = c .notFull t l refl
+
+  -- an insert that gives 5, for the height or for anything else, though as many numbers are left as the nodes that split need
+  pub early-five : (k v : ℕ) (s' : S .State) (i' : S .Image) → Low (S .blocks s) (S .present s i) → k < top → nodes (S .present s i) + needs (rootLevel (S .present s i)) 0 k v (S .present s i) ≤ 8 * S .blocks s
+      → S .pending s < 16 → PassesFirst S (updates (insertion k v) (S .size i)) s → Insert S k v s i (refuses 5) s' i' → ⊥
+  unfolding insertion stateOf
+  early-five k v s' i' low h few l t c =
+      let P = S .present s i in
+      let B = S .blocks s in
+      let e : insert (8 * B) k v P ≡ done (inserted k v P) = low .five k v h ∙ rw (le-leb (nodes P + needs (rootLevel P) 0 k v P) (8 * B) few) in
+      accepted-not 5 (sym (c .done good t (rw (lt-leb 16 (S .pending s) l, e)) .0))
 
   -- a commit that gives 10 with an allowance of 2,000, on the large part of 4,000
   ten-by : (n k : ℕ) (torn : List ℕ) (ops : ℕ) (s' : S .State) (i' : S .Image) → numbersRefusal (S .pending s) (S .number s) (commits n (S .size i) (length torn)) ≡ k → enoughWrites (S .nand s) ≤ n

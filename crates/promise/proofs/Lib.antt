@@ -6,6 +6,7 @@ pub mod Trees
 pub mod Values
 pub mod Durable
 pub mod Thickness
+pub mod Height
 pub mod Effects
 pub mod Figures
 pub mod Wear

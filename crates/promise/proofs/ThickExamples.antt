@@ -1,4 +1,4 @@
--- The entries of the nodes computed on short lists, with a split, a join and a cut; and the law of thick trees about a list of the sample store. Assumes nothing.
+-- The entries of the nodes computed on short lists, with a split, a join and a cut; and the laws of thick trees and of their height about a list of the sample store. Assumes nothing.
 use mathlib.Core.Path.{_≡_, refl}
 use mathlib.Core.Bool.{Bool, true, false}
 use mathlib.Core.List.{List, [], _∷_, map}
@@ -15,8 +15,10 @@ use Rattle.promise.specs.Plain.{deletes, commits, mounts, insertion, del
 use Rattle.promise.specs.Calls.{stateOf}
 use Rattle.promise.specs.Steps.{insert, delete, commit, mount, Only, lastImage}
 use Rattle.promise.specs.Promise.{plainAt}
+use Rattle.promise.specs.Height.{LowPlain}
 use Rattle.promise.specs.Thickness.{ThickAt}
 use Rattle.promise.proofs.Trees.{insert-keeps-thick, delete-keeps-thick}
+use Rattle.promise.proofs.Height.{formatted-low}
 use Rattle.promise.proofs.Thickness.{formatted-thick}
 use Rattle.promise.proofs.Proper.{insert-proper, delete-proper}
 use Rattle.promise.proofs.Sample.{sample, grown, Order, next, stepsOf, Fine, runs}
@@ -67,3 +69,10 @@ sample-thick = (
   formatted-thick sample Small s₀ i₀ (stepsOf kept s₀ i₀) [] formatted (runs kept (Only sample s₀) s₀ i₀ refl kept-fine) (refl, (refl, (refl, (refl, tt)))) (refl, (refl, (refl, (refl, tt))))
       (insert-keeps-thick 8 7 99 (omega arith) (omega arith), (tt, (tt, (delete-keeps-thick 8 7 (omega arith) (omega arith), tt)))),
 )
+
+-- and of the height, at the same place
+pub sample-low : LowPlain (plainAt sample Small (leaf 3) 1 i₀ (stepsOf kept s₀ i₀))
+unfolding insertion deletion isChipSize isTornSize hasBlocks stateOf leaf thin Ins.insert Ins.allowed Ins.inserted Ins.insertAt Ins.gain Ins.fitOrSplit T.find Del.delete Del.deleteAt Del.settle Del.join Del.takeOver
+sample-low =
+    formatted-low sample Small s₀ i₀ (stepsOf kept s₀ i₀) [] formatted (runs kept (Only sample s₀) s₀ i₀ refl kept-fine) (refl, (refl, (refl, (refl, tt)))) (refl, (refl, (refl, (refl, tt))))
+    (insert-keeps-thick 0 7 99 (omega arith) (omega arith), (tt, (tt, (delete-keeps-thick 0 7 (omega arith) (omega arith), tt))))

@@ -12,16 +12,16 @@ use Rattle.tree.specs.Rebuild.{rebuild}
 use Rattle.promise.specs.Plain.{Answer, accepted, Plain, UpdateCall, updates, firstRefusal, startRefusal, numbersRefusal, laterRefusal, refusalOf, mayCut, judge, verdict, leaf, resting, updated, committed, finished, off, cutOff, after, afterBy}
 use Rattle.promise.specs.Calls.{Store, Format}
 use Rattle.promise.specs.Steps.{Act, read, update, forecast, format, commit, mount, fed, isTen, isAccepted, Step, Lends, Only, Hands, lastImage, counts, strays, isCutFormat, Mode, promised, unpromised, begunBy, Allowed, Takes, Runs, Mounted, Formatted, starts, next, lastPlain, Agrees, modeFor, nextMode, MeaningIs, AgreesAny}
-use Rattle.promise.specs.History.{OfUpdate, AllUpdates}
-use Rattle.promise.specs.Thickness.{ThickTree, KeepsThick, ThickPlain, ThickAt, ThickIn, lastMode, StaysThick, FormattedThick, RebuiltThick, AnyThick, ForeignThick}
+use Rattle.promise.specs.History.{TreeOf, KeepsThick, OfUpdate, AllUpdates}
+use Rattle.promise.specs.Thickness.{ThickPlain, ThickAt, ThickIn, lastMode, StaysThick, FormattedThick, RebuiltThick, AnyThick, ForeignThick}
 use Rattle.promise.proofs.Promise.{accepted-not, accepted-is, format-starts, format-again, rebuild-starts}
 use Rattle.promise.proofs.Claims.{promise, promise-any, promise-foreign}
 use Rattle.promise.proofs.Values.{or-zero, chip-blocks}
-use Rattle.promise.proofs.Trees.{leaf-thick, rebuild-thick}
+use Rattle.promise.proofs.Trees.{blocks-most, leaf-tree, rebuild-thick}
 
 -- ---- one call of the plain store
 module _ (c : ℕ) where
-  thick-resting : (nand : Nand) (K : Table) (G B : ℕ) → ThickTree c B K → ThickPlain c (resting nand K G B)
+  thick-resting : (nand : Nand) (K : Table) (G B : ℕ) → TreeOf c B K → ThickPlain c (resting nand K G B)
   unfolding resting
   thick-resting nand K G B t = record { kept = t; present = t }
 
@@ -48,7 +48,7 @@ module _ (c : ℕ) where
   thick-finished p (format nand n torn) image e k h =
       let g = geometryOf nand in
       let B = blocksOf g image in
-      thick-resting nand (leaf B) 1 B (leaf-thick c B (chip-blocks g image (length torn) (or-zero (startRefusal g image (length torn)) 0 e .0)))
+      thick-resting nand (leaf B) 1 B (leaf-tree c B (chip-blocks g image (length torn) (or-zero (startRefusal g image (length torn)) 0 e .0)) (blocks-most nand image))
   thick-finished p (commit n torn) image e k h = cases (ltb 0 (p .pending)) (λ t. rw t (thick-committed p h)) (λ t. rw t h)
   thick-finished p (mount nand n torn) image e k h = thick-resting nand (p .kept) (p .number) (p .blocks) (h .kept)
 
@@ -75,7 +75,7 @@ module _ (c : ℕ) where
 
 module _ (S : Store) where
   -- ---- where a list starts
-  thick-start : (c : ℕ) (nand : Nand) (K : Table) (G : ℕ) (s : S .State) (i : S .Image) → Mounted S nand K G s i → ThickTree c (blocksOf (geometryOf nand) (S .size i)) K
+  thick-start : (c : ℕ) (nand : Nand) (K : Table) (G : ℕ) (s : S .State) (i : S .Image) → Mounted S nand K G s i → TreeOf c (blocksOf (geometryOf nand) (S .size i)) K
       → ThickAt S c (starts S nand K G i) i
   unfolding resting
   thick-start c nand K G s i m t = record { plain = thick-resting c nand K G (blocksOf (geometryOf nand) (S .size i)) t; image = m .image }
@@ -87,10 +87,11 @@ module _ (S : Store) where
 
   -- a finished format leaves a thick tree, whatever c is
   pub formatted-tree : (c : ℕ) (nand : Nand) (s : S .State) (i : S .Image) → Formatted S nand s i
-      → ThickTree c (blocksOf (geometryOf nand) (S .size i)) (leaf (blocksOf (geometryOf nand) (S .size i)))
+      → TreeOf c (blocksOf (geometryOf nand) (S .size i)) (leaf (blocksOf (geometryOf nand) (S .size i)))
   formatted-tree c nand s i f =
-      leaf-thick c (blocksOf (geometryOf nand) (S .size i))
+      leaf-tree c (blocksOf (geometryOf nand) (S .size i))
       (blocks-by nand (f .allowance) (f .torn) (f .before) (f .was) (f .ops) s i (startRefusal (geometryOf nand) (S .size (f .was)) (length (f .torn))) refl (f .says))
+      (blocks-most nand (S .size i))
 
   -- ---- a list that agrees with the plain store
   thick-next : (c : ℕ) (p : Plain) (i : S .Image) (x : Step S) → OfUpdate (KeepsThick c) (x .act) → ThickPlain c p → ThickPlain c (next S p i x)

@@ -16,7 +16,7 @@ use Rattle.promise.specs.Calls.{Store}
 use Rattle.promise.specs.Steps.{Act, read, update, forecast, format, commit, mount, fed, isTen, Step, counts, starts, next, lastPlain}
 use Rattle.promise.specs.History.{TreeOf, afterSaid, Lawful, LawfulAct, valueOf, Silent, History, begun, flushed, dropped, historyAfter, nextHistory, lastHistory, AllLawful}
 use Rattle.promise.proofs.Promise.{on-of}
-use Rattle.promise.proofs.Trees.{leaf-tree}
+use Rattle.promise.proofs.Trees.{blocks-most, leaf-tree}
 
 pub or-zero : (a b : ℕ) → orElse a b ≡ 0 → (a ≡ 0) × (b ≡ 0)
 or-zero zero b e = (refl, e)
@@ -37,8 +37,8 @@ chip-blocks g image torn e = ltb-true 0 (blocksOf g image) (chip-of (ltb 0 (bloc
 
 -- the plain store p is what its history l says: trees, with the values of the newest updates
 pub record Tells (p : Plain) (l : History) : Type 0 where
-  pub kept : TreeOf (p .blocks) (p .kept)
-  pub present : TreeOf (p .blocks) (p .present)
+  pub kept : TreeOf 0 (p .blocks) (p .kept)
+  pub present : TreeOf 0 (p .blocks) (p .present)
   pub keptValue : (k : ℕ) → k < top → find k (p .kept) ≡ valueOf k (l .base) (l .kept)
   pub presentValue : p .on ≡ true → (k : ℕ) → k < top → find k (p .present) ≡ valueOf k (l .base) (l .pending ++ l .kept)
   pub count : p .on ≡ true → length (l .pending) ≡ p .pending
@@ -52,7 +52,7 @@ LawfulCall (formats nand a image torn) = Unit {0}
 LawfulCall (commits a image torn) = Unit {0}
 LawfulCall (mounts nand a image torn) = Unit {0}
 
-pub tells-resting : (nand : Nand) (K : Table) (G B : ℕ) → TreeOf B K → Tells (resting nand K G B) (begun K)
+pub tells-resting : (nand : Nand) (K : Table) (G B : ℕ) → TreeOf 0 B K → Tells (resting nand K G B) (begun K)
 unfolding resting
 tells-resting nand K G B t =
     record { kept = t; present = t; keptValue = λ k b. refl; presentValue = λ o k b. refl; count = λ o. refl; rests = λ o z. refl }
@@ -115,7 +115,7 @@ tells-finished w p (forecasts image) l e k h = h
 tells-finished w p (formats nand a image torn) l e k h =
     let b = or-zero (firstRefusal (p .nand) (p .on) (p .blocks) (formats nand a image torn)) 0 e in
     let B = blocksOf (geometryOf nand) image in
-    tells-resting nand (leaf B) 1 B (leaf-tree B (chip-blocks (geometryOf nand) image torn (b .0)))
+    tells-resting nand (leaf B) 1 B (leaf-tree 0 B (chip-blocks (geometryOf nand) image torn (b .0)) (blocks-most nand image))
 tells-finished w p (commits a image torn) l e k h =
     let b = or-zero (firstRefusal (p .nand) (p .on) (p .blocks) (commits a image torn)) (laterRefusal p (commits a image torn)) e in
     let o = on-of (p .on) _ (b .0) in
@@ -168,6 +168,6 @@ module _ (S : Store) where
       (tells-after (counts S i x) p (fed (x .act) (S .size (x .lent))) l (isTen (x .answer)) (lawful-fed (x .act) (S .size (x .lent)) (k .0)) h)
 
   -- at each place of a list K and P are trees, and the values are those of the history
-  pub tells-at : (nand : Nand) (K : Table) (G : ℕ) (i : S .Image) (xs : List (Step S)) → TreeOf (blocksOf (geometryOf nand) (S .size i)) K → AllLawful S xs
+  pub tells-at : (nand : Nand) (K : Table) (G : ℕ) (i : S .Image) (xs : List (Step S)) → TreeOf 0 (blocksOf (geometryOf nand) (S .size i)) K → AllLawful S xs
       → Tells (lastPlain S (starts S nand K G i) i xs) (lastHistory S (starts S nand K G i) i xs (begun K))
   tells-at nand K G i xs t k = tells-last xs (starts S nand K G i) i (begun K) k (tells-resting nand K G (blocksOf (geometryOf nand) (S .size i)) t)

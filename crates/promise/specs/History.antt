@@ -5,19 +5,22 @@ use mathlib.Core.List.{List, [], _∷_, _++_}
 use Prim.Native.Nat.{ℕ, _*_, _<_, _≤_}
 use lib.ListN.{length}
 use Rattle.chip.specs.Geometry.{geometryOf, blocksOf}
-use Rattle.tree.specs.Tree.{Table, Found, absent, found, find, rootLevel}
+use Rattle.tree.specs.Tree.{Table, Found, absent, found, find}
 use Rattle.tree.specs.Tree as T
 use Rattle.tree.specs.Step6.{top, Tree}
+use Rattle.tree.specs.Thick.{Thick}
 use Rattle.promise.specs.Plain.{Plain, UpdateCall, Said, nothing, holds, gone, Call, reads, updates, forecasts, formats, commits, mounts, Verdict, denied, cut, passed, verdict, leaf}
 use Rattle.promise.specs.Calls.{Store}
 use Rattle.promise.specs.Steps.{Act, read, update, forecast, format, commit, mount, Step, fed, isTen, counts, next}
 
--- a tree of a chip with B blocks; `next` is the greatest number of a node, plus 1
-pub record TreeOf (B : ℕ) (t : Table) : Type 0 where
+-- a tree of a chip with B blocks, 32 at most, in which every node but the root has 8 entries or more, a leaf c or more; the root above level 0 has 2 or more;
+-- `next` is the greatest number of a node, plus 1
+pub record TreeOf (c B : ℕ) (t : Table) : Type 0 where
   pub tree : Tree t
   pub size : length t ≡ 8 * B
   pub numbers : T.next t ≤ 8 * B
-  pub levels : rootLevel t ≤ 3
+  pub blocks : B ≤ 32
+  pub thick : Thick c t
 
 -- the value of a key after an update that said so
 abbrev pub afterSaid : Said → Found → Found
@@ -25,10 +28,14 @@ afterSaid nothing f = f
 afterSaid (holds v) f = found v
 afterSaid gone f = absent
 
--- an update whose step makes trees of trees, and of each key's value what it says
+-- an update whose step makes trees of the chip, thick by c, of such trees; inserts and deletes do, where c is at most 8
+abbrev pub KeepsThick : ℕ → UpdateCall → Type 0
+KeepsThick c u = (B : ℕ) (t : Table) → TreeOf c B t → u .refusal B t ≡ 0 → TreeOf c B (u .step B t)
+
+-- and which makes of each key's value what it says
 pub record Lawful (u : UpdateCall) : Type 0 where
-  pub tree : (B : ℕ) (t : Table) → TreeOf B t → u .refusal B t ≡ 0 → TreeOf B (u .step B t)
-  pub value : (B : ℕ) (t : Table) (k : ℕ) → TreeOf B t → u .refusal B t ≡ 0 → k < top → find k (u .step B t) ≡ afterSaid (u .says k) (find k t)
+  pub tree : KeepsThick 0 u
+  pub value : (B : ℕ) (t : Table) (k : ℕ) → TreeOf 0 B t → u .refusal B t ≡ 0 → k < top → find k (u .step B t) ≡ afterSaid (u .says k) (find k t)
 
 -- a call of which Q holds, if it is an update
 abbrev pub OfUpdate : (UpdateCall → Type 0) → Act → Type 0

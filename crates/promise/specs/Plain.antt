@@ -92,7 +92,7 @@ lookedUp (found v) = finds v
 unfoldable pub lookingUp : ℕ → ReadCall
 lookingUp k = record { numbers = 4 ∷ []; answer = λ p. lookedUp (find k (p .present)) }
 
--- insert: 5 by the tree step, when it needs more node numbers than are left below 8 × B, or a root above level 3
+-- insert: 5 by the tree step, when it needs more node numbers than are left below 8 × B
 unfoldable pub insertion : ℕ → ℕ → UpdateCall
 insertion k v =
     record {

@@ -32,7 +32,7 @@ pub data CommitRefusal (p : Plain) (n : ℕ) : ℕ → Type 0 where
 -- the tree that a rebuild makes of a tree of the chip's numbers is a tree of the chip, and each key has the value that it had
 abbrev pub RebuildKeeps : Type 0
 RebuildKeeps = (nand : Nand) (size : ℕ) (K : Table) → Tree K → length K ≡ 8 * blocksOf (geometryOf nand) size
-    → TreeOf (blocksOf (geometryOf nand) size) (rebuild K) × ((k : ℕ) → k < top → find k (rebuild K) ≡ find k K)
+    → TreeOf 0 (blocksOf (geometryOf nand) size) (rebuild K) × ((k : ℕ) → k < top → find k (rebuild K) ≡ find k K)
 
 module _ (S : Store) where
   -- ---- the starts: a finished format; and a finished rebuild, with the new tree as K and P, the new commit's number as G and that chip's B, whoever began the chip
@@ -136,14 +136,14 @@ module _ (S : Store) where
   -- a look up, refused with neither 2 nor 1, tells what the newest accepted update that speaks of its key says, kept or pending
   abbrev pub LookUpTells : Type 0
   LookUpTells = (nand : Nand) (K : Table) (G : ℕ) (s : S .State) (i : S .Image) (xs ys : List (Step S)) (x : Step S) → Course nand K G s i (xs ++ (x ∷ ys))
-      → TreeOf (blocksOf (geometryOf nand) (S .size i)) K → AllLawful S (xs ++ (x ∷ ys)) → (k : ℕ) → k < top → LooksUp k x → (x .answer ≡ refuses 2 → ⊥)
+      → TreeOf 0 (blocksOf (geometryOf nand) (S .size i)) K → AllLawful S (xs ++ (x ∷ ys)) → (k : ℕ) → k < top → LooksUp k x → (x .answer ≡ refuses 2 → ⊥)
       → x .answer ≡ lookedUp (valueOf k (historyAt nand K G i xs .base) (historyAt nand K G i xs .pending ++ historyAt nand K G i xs .kept))
 
   -- a commit x, calls ys without a finished format, a look up w on a store that is on: no update speaks of the key that commits of ys kept,
   -- or that is pending then. Refused updates do not count, nor do those that a mount or a cut dropped (`MountDrops`)
   pub record Later (nand : Nand) (K : Table) (G : ℕ) (s : S .State) (i : S .Image) (xs ys vs : List (Step S)) (x w : Step S) (k : ℕ) : Type 0 where
     pub course : Course nand K G s i (xs ++ (x ∷ (ys ++ (w ∷ vs))))
-    pub tree : TreeOf (blocksOf (geometryOf nand) (S .size i)) K
+    pub tree : TreeOf 0 (blocksOf (geometryOf nand) (S .size i)) K
     pub lawful : AllLawful S (xs ++ (x ∷ (ys ++ (w ∷ vs))))
     pub unformatted : NoFormat S ys
     pub key : k < top

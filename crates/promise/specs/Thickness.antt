@@ -7,27 +7,17 @@ use lib.ListN.{length}
 use Rattle.chip.specs.Geometry.{Nand, geometryOf, blocksOf}
 use Rattle.tree.specs.Tree.{Table}
 use Rattle.tree.specs.Step6.{Tree}
-use Rattle.tree.specs.Thick.{Thick}
 use Rattle.tree.specs.Rebuild.{rebuild}
-use Rattle.promise.specs.Plain.{Plain, UpdateCall, leaf}
+use Rattle.promise.specs.Plain.{Plain, leaf}
 use Rattle.promise.specs.Calls.{Store, means}
 use Rattle.promise.specs.Steps.{Step, Only, lastImage, Named, Uncut, Unstuck, Runs, Mounted, Started, Formatted, Rebuilt, starts, Mode, promised, unpromised, modeFor, nextMode}
-use Rattle.promise.specs.History.{TreeOf, AllUpdates}
+use Rattle.promise.specs.History.{TreeOf, KeepsThick, AllUpdates}
 use Rattle.promise.specs.Promise.{Course, plainAt}
 
--- a tree of a chip with B blocks in which every node but the root has 8 entries or more, a leaf c or more; the root above level 0 has 2 or more
-pub record ThickTree (c B : ℕ) (t : Table) : Type 0 where
-  pub tree : TreeOf B t
-  pub thick : Thick c t
-
--- an update whose step makes such trees of such trees; inserts and deletes do, where c is at most 8
-abbrev pub KeepsThick : ℕ → UpdateCall → Type 0
-KeepsThick c u = (B : ℕ) (t : Table) → ThickTree c B t → u .refusal B t ≡ 0 → ThickTree c B (u .step B t)
-
--- K and P are such trees
+-- K and P are trees of the chip, thick by c
 pub record ThickPlain (c : ℕ) (p : Plain) : Type 0 where
-  pub kept : ThickTree c (p .blocks) (p .kept)
-  pub present : ThickTree c (p .blocks) (p .present)
+  pub kept : TreeOf c (p .blocks) (p .kept)
+  pub present : TreeOf c (p .blocks) (p .present)
 
 module _ (S : Store) where
   -- and the tree of the image is K
@@ -49,7 +39,7 @@ module _ (S : Store) where
   -- of a list of the promise, from a start with such a tree
   abbrev pub StaysThick : Type 0
   StaysThick = (c : ℕ) (nand : Nand) (K : Table) (G : ℕ) (s : S .State) (i : S .Image) (xs ys : List (Step S)) → Course S nand K G s i (xs ++ ys)
-      → ThickTree c (blocksOf (geometryOf nand) (S .size i)) K → AllUpdates S (KeepsThick c) (xs ++ ys) → ThickAt c (plainAt S nand K G i xs) (lastImage S i xs)
+      → TreeOf c (blocksOf (geometryOf nand) (S .size i)) K → AllUpdates S (KeepsThick c) (xs ++ ys) → ThickAt c (plainAt S nand K G i xs) (lastImage S i xs)
 
   -- so after a finished format every node but the root has 8 entries or more
   abbrev pub FormattedThick : Type 0
@@ -65,10 +55,10 @@ module _ (S : Store) where
   -- formats may be cut, and mounts may name the other part: nothing is said from there to the next finished format
   abbrev pub AnyThick : Type 0
   AnyThick = (c : ℕ) (nand : Nand) (K : Table) (G : ℕ) (s : S .State) (i : S .Image) (xs ys : List (Step S)) → Started S nand K G s i → Runs S (Only S s) i (xs ++ ys)
-      → ThickTree c (blocksOf (geometryOf nand) (S .size i)) K → AllUpdates S (KeepsThick c) (xs ++ ys) → ThickIn c (lastMode (promised (starts S nand K G i)) i xs) (lastImage S i xs)
+      → TreeOf c (blocksOf (geometryOf nand) (S .size i)) K → AllUpdates S (KeepsThick c) (xs ++ ys) → ThickIn c (lastMode (promised (starts S nand K G i)) i xs) (lastImage S i xs)
 
   -- from any mounted chip, as long as no commit or forecast answers 6 before the last number
   abbrev pub ForeignThick : Type 0
   ForeignThick = (c : ℕ) (nand : Nand) (K : Table) (G : ℕ) (s : S .State) (i : S .Image) (xs ys : List (Step S)) → Mounted S nand K G s i → Runs S (Only S s) i (xs ++ ys)
-      → Named S nand (xs ++ ys) → Uncut S (xs ++ ys) → Unstuck S (xs ++ ys) → ThickTree c (blocksOf (geometryOf nand) (S .size i)) K → AllUpdates S (KeepsThick c) (xs ++ ys)
+      → Named S nand (xs ++ ys) → Uncut S (xs ++ ys) → Unstuck S (xs ++ ys) → TreeOf c (blocksOf (geometryOf nand) (S .size i)) K → AllUpdates S (KeepsThick c) (xs ++ ys)
       → ThickAt c (plainAt S nand K G i xs) (lastImage S i xs)

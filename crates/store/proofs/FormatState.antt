@@ -221,7 +221,7 @@ module _ (nand : Nand) (n : ℕ) (torn : List ℕ) (s : State) (i i' : List ℕ)
           bytes = bytes;
           means = kept .is;
           clean = kept .clean;
-          tree = rw (format-views b pos) (leaf-tree b pos .tree .passes);
+          tree = rw (format-views b pos) (leaf-tree 0 b pos (z .chip pos .most) .tree .passes);
           lists = λ k l. format-stores (8 * b) k l;
           thick = rw (format-views b pos) (leaf-not-thin b);
           free = set ∙ format-free (8 * b) (omega arith);

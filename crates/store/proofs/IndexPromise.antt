@@ -15,9 +15,8 @@ use Rattle.promise.specs.Calls as C
 use Rattle.promise.specs.Calls.{means, stateOf}
 use Rattle.promise.specs.Image.{imageMeaning}
 use Rattle.promise.specs.Steps.{Step, Only, Named, NoFormat, boots, one, Runs, Takes, Mounted, Started, Formatted}
-use Rattle.promise.specs.History.{TreeOf, Lawful, OfUpdate, LawfulAct}
+use Rattle.promise.specs.History.{TreeOf, KeepsThick, Lawful, OfUpdate, LawfulAct}
 use Rattle.promise.specs.Thickness as T
-use Rattle.promise.specs.Thickness.{KeepsThick}
 use Rattle.promise.specs.Promise as P
 use Rattle.promise.specs.Erases as E
 use Rattle.promise.specs.Wear as W
@@ -70,7 +69,7 @@ pub index-mounts : (nand : Nand) (n : ℕ) (torn : List ℕ) (s : State) (i : Li
     → Mounted index nand K G s' i' × (Room (geometryOf nand) i → Started index nand K G s' i')
 index-mounts = mount-mounts index
 
-pub index-tree : (nand : Nand) (K : Table) (G : ℕ) (s : State) (i : List ℕ) → Mounted index nand K G s i → TreeOf (blocksOf (geometryOf nand) (length i)) K
+pub index-tree : (nand : Nand) (K : Table) (G : ℕ) (s : State) (i : List ℕ) → Mounted index nand K G s i → TreeOf 0 (blocksOf (geometryOf nand) (length i)) K
 index-tree = mounted-tree
 
 -- the state is of the part that the start names

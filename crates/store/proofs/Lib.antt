@@ -29,6 +29,7 @@ pub mod Starred
 pub mod StepLaws
 pub mod IndexPromise
 pub mod RebuiltStarts
+pub mod IndexHeight
 pub mod PartLaws
 pub mod LentLists
 pub mod RunsToLaws

@@ -10,9 +10,9 @@ use Rattle.tree.specs.Rebuild.{rebuild}
 use Rattle.promise.specs.Calls.{means}
 use Rattle.promise.specs.Image.{imageMeaning}
 use Rattle.promise.specs.Steps.{Step, Only, lastImage, Named, Uncut, Runs, Rebuilt}
-use Rattle.promise.specs.History.{TreeOf, AllUpdates}
+use Rattle.promise.specs.History.{TreeOf, KeepsThick, AllUpdates}
 use Rattle.promise.specs.Promise as P
-use Rattle.promise.specs.Thickness.{KeepsThick, ThickAt}
+use Rattle.promise.specs.Thickness.{ThickAt}
 use Rattle.promise.specs.Erases as E
 use Rattle.promise.specs.Wear as W
 use Rattle.promise.proofs.Images.{ReadTree, image-tree}
@@ -33,7 +33,7 @@ index-rebuild-cut = rebuild-cut index
 
 -- the new tree is one of the chip, and each key has the value that it had: the tree of an image is a tree
 pub index-rebuild-keeps : (nand : Nand) (i : List ℕ) (K : Table) (G : ℕ) → imageMeaning (geometryOf nand) i ≡ means K G
-    → TreeOf (blocksOf (geometryOf nand) (length i)) (rebuild K) × ((k : ℕ) → k < top → find k (rebuild K) ≡ find k K)
+    → TreeOf 0 (blocksOf (geometryOf nand) (length i)) (rebuild K) × ((k : ℕ) → k < top → find k (rebuild K) ≡ find k K)
 index-rebuild-keeps nand i K G e =
     let t = image-tree (geometryOf nand) i K G e in
     rebuild-keeps nand (length i) K (t .tree) (t .size)

@@ -34,7 +34,7 @@ use Rattle.store.specs.declared.state.State.{State}
 use Rattle.store.specs.AdmitCode.{ChipOf}
 use Rattle.store.specs.State.{nodeFrom, nodesOf, goods, unitsOf, presentOf, Good, geometryIn}
 use Rattle.store.specs.Contracts.{index}
-use Rattle.store.proofs.SettledViews.{map-tab, views-at, views-all, image-bytes, fair-entries, fair-level}
+use Rattle.store.proofs.SettledViews.{map-tab, views-at, views-all, image-bytes, fair-entries}
 
 -- ---- the arrays hold the lists of the nodes that the image means
 module _ (g : Geometry) (s : State) (i : List ℕ) (nodes : List Node) (k : Kept g (8 * s .blocks) (pagesOf g i) nodes (s .commit))
@@ -157,7 +157,6 @@ module _ (g : Geometry) (s : State) (i : List ℕ) (nodes : List Node) (b : Sett
         tree = rw settled-present (image-tree g i (viewsOf nodes) (s .commit) settled-meaning .tree);
         words = λ n. fair-entries (present-fair n);
         whole = present-whole;
-        levels = fair-level (present-fair 0);
         thick = rw settled-present (b .thick);
         free = b .free ∙ ap freeNumbers (sym settled-present);
         past = b .past;

@@ -6,13 +6,16 @@ use native.Mathlib.Omega.{arith}
 use lib.ListN.{length}
 use Rattle.lists.proofs.Flats.{length-tab}
 use Rattle.chip.specs.Geometry.{Geometry, blocksOf, Nand, geometryOf}
+use Rattle.chip.proofs.Sizes.{chip-size}
 use Rattle.tree.specs.Tree.{Table, next}
 use Rattle.tree.specs.Shown.{shown}
-use Rattle.tree.proofs.Laws.{next-length}
+use Rattle.tree.proofs.Laws.{next-length, thin-thick}
 use Rattle.promise.specs.Plain.{Plain, resting}
 use Rattle.promise.specs.Calls.{stateOf}
 use Rattle.promise.specs.Steps.{Mounted}
 use Rattle.promise.specs.History.{TreeOf}
+use Rattle.promise.specs.Height.{Low}
+use Rattle.promise.proofs.Trees.{tree-low}
 use Rattle.store.specs.declared.state.State.{State}
 use Rattle.store.specs.State.{geometryIn, limitOf, presentOf, Good}
 use Rattle.store.specs.Contracts.{index}
@@ -25,13 +28,22 @@ present-size g s i = simp length-tab
 pub present-next : (g : Geometry) (s : State) (i : List ℕ) → next (presentOf g s i) ≤ limitOf s
 present-next g s i = omega (arith, next-length (presentOf g s i), present-size g s i)
 
-pub good-tree : (g : Geometry) (s : State) (i : List ℕ) → Good g s i → TreeOf (s .blocks) (presentOf g s i)
-good-tree g s i ok = record { tree = ok .tree; size = present-size g s i; numbers = present-next g s i; levels = ok .levels }
+-- a chip has 32 blocks at most, so there are 256 numbers at most
+pub good-blocks : (g : Geometry) (s : State) (i : List ℕ) → Good g s i → s .blocks ≤ 32
+good-blocks g s i ok = chip-size g (length i) (s .blocks) (ok .blocks) (λ z. omega (arith, ok .chip)) .most
 
-pub mounted-tree : (n : Nand) (K : Table) (G : ℕ) (s : State) (i : List ℕ) → Mounted index n K G s i → TreeOf (blocksOf (geometryOf n) (length i)) K
+pub good-tree : (g : Geometry) (s : State) (i : List ℕ) → Good g s i → TreeOf 0 (s .blocks) (presentOf g s i)
+good-tree g s i ok =
+    record { tree = ok .tree; size = present-size g s i; numbers = present-next g s i; blocks = good-blocks g s i ok; thick = thin-thick (presentOf g s i) (ok .thick) }
+
+-- P has a root of level 3 at most, and keeps it, whatever is inserted
+pub good-low : (g : Geometry) (s : State) (i : List ℕ) → Good g s i → Low (s .blocks) (presentOf g s i)
+good-low g s i ok = tree-low 0 (s .blocks) (presentOf g s i) (good-tree g s i ok)
+
+pub mounted-tree : (n : Nand) (K : Table) (G : ℕ) (s : State) (i : List ℕ) → Mounted index n K G s i → TreeOf 0 (blocksOf (geometryOf n) (length i)) K
 unfolding stateOf resting
 mounted-tree n K G s i m =
     let g = geometryIn s in
     let p : presentOf g s i ≡ K = ap (λ (q : Plain). q .present) (m .is) in
     let b : s .blocks ≡ blocksOf (geometryOf n) (length i) = ap (λ (q : Plain). q .blocks) (m .is) in
-    subst (λ (t : Table). TreeOf (blocksOf (geometryOf n) (length i)) t) p (subst (λ (B : ℕ). TreeOf B (presentOf g s i)) b (good-tree g s i (m .good)))
+    subst (λ (t : Table). TreeOf 0 (blocksOf (geometryOf n) (length i)) t) p (subst (λ (B : ℕ). TreeOf 0 B (presentOf g s i)) b (good-tree g s i (m .good)))

@@ -17,7 +17,7 @@ use Rattle.views.specs.Nodes.{Entry}
 use Rattle.views.proofs.TableLaws.{length-decodes}
 use Rattle.tree.specs.declared.insert.Inserted.{Inserted}
 use Rattle.tree.specs.declared.delete.Deleted.{Deleted}
-use Rattle.tree.specs.Tree.{Table, entriesAt, next, rootLevel, find, isAbsent}
+use Rattle.tree.specs.Tree.{Table, entriesAt, next, find, isAbsent}
 use Rattle.tree.specs.Insert.{inserted, TreeStep, refusal, done, insert}
 use Rattle.tree.specs.Delete.{delete}
 use Rattle.tree.specs.Step6.{top, Tree}
@@ -26,7 +26,7 @@ use Rattle.tree.specs.DeleteUnits.{deleteUnits}
 use Rattle.tree.specs.Thick.{thin}
 use Rattle.tree.specs.Free.{freeNumbers}
 use Rattle.tree.specs.UpdateCode.{Ready, Stepped, Inserts, Deletes}
-use Rattle.tree.proofs.Laws.{thin-thick, thick-thin, inserted-keeps, inserted-thick, insert-done, insert-units, delete-keeps, delete-level, delete-thick, delete-units}
+use Rattle.tree.proofs.Laws.{thin-thick, thick-thin, inserted-keeps, inserted-thick, insert-done, insert-units, delete-keeps, delete-thick, delete-units}
 use Rattle.promise.specs.Plain as P
 use Rattle.promise.specs.Plain.{refuses, accepted, when, isRefused, tableAfter, insertion, deletion, updated}
 use Rattle.promise.specs.Calls.{treeIn, stateOf}
@@ -39,7 +39,7 @@ use Rattle.store.specs.Answers.{answerOf}
 use Rattle.store.specs.State.{limitOf, nodesOf, goods, unitsOf, presentOf, Good, geometryIn}
 use Rattle.store.specs.Contracts.{index, KeepsBounds}
 use Rattle.store.specs.UpdateCode.{Stays, withUnits, InsertsIn, DeletesIn}
-use Rattle.store.proofs.StartTree.{present-next}
+use Rattle.store.proofs.StartTree.{present-next, good-low}
 use Rattle.store.proofs.Wholes.{Whole, whole-inserted, whole-deleted, some-inserted, some-deleted}
 
 -- keys and values of 32 bits
@@ -67,7 +67,6 @@ pub record Pushed (g : Geometry) (s : State) (i new : List ℕ) (used : ℕ) (fr
   pub tree : Tree t
   pub words : Words t
   pub whole : Whole t
-  pub levels : rootLevel t ≤ 3
   pub thick : thin t ≡ false
 
 module _ (s : State) (i : List ℕ) (G : Good (geometryIn s) s i) (low : s .pending < 16) where
@@ -80,7 +79,7 @@ module _ (s : State) (i : List ℕ) (G : Good (geometryIn s) s i) (low : s .pend
         tree = G .tree;
         words = G .words;
         numbers = G .free;
-        levels = G .levels;
+        thick = thin-thick (presentOf g s i) (G .thick);
         units = G .units;
         room = omega (arith, G .few);
       }
@@ -112,7 +111,6 @@ module _ (s : State) (i : List ℕ) (G : Good (geometryIn s) s i) (low : s .pend
           tree = subst Tree (sym table-after) (p .tree);
           words = subst Words (sym table-after) (p .words);
           whole = subst Whole (sym table-after) (p .whole);
-          levels = subst (λ (u : Table). rootLevel u ≤ 3) (sym table-after) (p .levels);
           thick = ap thin table-after ∙ p .thick;
           free = p .stepped .numbers ∙ ap freeNumbers (sym table-after);
           past = G .past;
@@ -145,22 +143,22 @@ module _ (g : Geometry) (k : ℕ) (s : State) (i new : List ℕ) (used : ℕ) (f
       → Pushed g s i new used free (insertUnits k v P₀) (inserted k v P₀)
   inserted-pushed v hv hl e p =
       let d = insert-done (limitOf s) k v P₀ (inserted k v P₀) e in
-      let w = insert-units k v P₀ (G .tree) hk (G .levels) in
+      let l = good-low g s i G in
+      let w = insert-units k v P₀ (G .tree) hk (l .level) in
       record {
         stepped = p;
-        valid = valid-units (limitOf s) (next (inserted k v P₀)) (d .1) (w .known) (w .valid hv (G .words) (omega (arith, d .1)) (d .2));
+        valid = valid-units (limitOf s) (next (inserted k v P₀)) (d .1) (w .known) (w .valid hv (G .words) (omega (arith, d .1)) (l .inserts k v hk));
         some = some-inserted k v P₀;
         tree = inserted-keeps k v P₀ (G .tree) hk .tree;
-        words = w .small hv (G .words) (omega (arith, d .1)) (d .2);
+        words = w .small hv (G .words) (omega (arith, d .1)) (l .inserts k v hk);
         whole = whole-inserted k v P₀ (G .whole);
-        levels = d .2;
         thick = thick-thin (inserted k v P₀) (inserted-thick 0 k v P₀ (G .tree) hk (omega arith) (thin-thick P₀ (G .thick)));
       }
 
   deleted-pushed : Stepped g i (s .lens) (s .slots) (limitOf s) (s .count) (unitsOf s) (deleteUnits k P₀) (delete k P₀) new free used
       → Pushed g s i new used free (deleteUnits k P₀) (delete k P₀)
   deleted-pushed p =
-      let w = delete-units k P₀ (G .tree) hk (G .levels) in
+      let w = delete-units k P₀ (G .tree) hk (good-low g s i G .level) in
       record {
         stepped = p;
         valid = valid-units (limitOf s) (next P₀) (present-next g s i) (w .known) (w .valid (G .words));
@@ -168,7 +166,6 @@ module _ (g : Geometry) (k : ℕ) (s : State) (i new : List ℕ) (used : ℕ) (f
         tree = delete-keeps k P₀ (G .tree) hk .tree;
         words = w .small (G .words);
         whole = whole-deleted k P₀ (G .whole);
-        levels = omega (arith, delete-level k P₀ (G .tree) hk, G .levels);
         thick = thick-thin (delete k P₀) (delete-thick 0 k P₀ (G .tree) hk (omega arith) (thin-thick P₀ (G .thick) .nodes));
       }
 

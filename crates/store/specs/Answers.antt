@@ -8,7 +8,7 @@ use Rattle.store.specs.declared.answer.Look.the-variants as Look
 use Rattle.store.specs.declared.answer.Report as R
 use Rattle.store.specs.declared.answer.Report.the-variants as Report
 
--- 1 size, 2 off, 3 sixteen are pending, 4 absent, 5 node numbers or levels used up, 6 commit numbers used up, 7 no standing page,
+-- 1 size, 2 off, 3 sixteen are pending, 4 absent, 5 node numbers used up, 6 commit numbers used up, 7 no standing page,
 -- 8 the layout, 9 the tree, 10 power gone, 12 a thin tree
 abbrev pub answerOf : Answer → P.Answer
 answerOf Accepted = P.accepted

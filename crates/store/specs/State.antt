@@ -19,7 +19,7 @@ use Rattle.views.specs.Groups.{own}
 use Rattle.views.specs.Table as Views
 use Rattle.views.specs.Table.{Node, isWhole}
 use Rattle.views.specs.Stored.{storedList, listView}
-use Rattle.tree.specs.Tree.{Table, entriesAt, rootLevel}
+use Rattle.tree.specs.Tree.{Table, entriesAt}
 use Rattle.tree.specs.Step6.{top, step6, Tree}
 use Rattle.tree.specs.Thick.{thin}
 use Rattle.tree.specs.Free.{freeNumbers}
@@ -112,11 +112,10 @@ pub record Good (g : Geometry) (s : State) (image : List ℕ) : Type 0 where
   pub few : s .count ≤ 60 * s .pending
   pub some : 0 < s .pending → 0 < s .count
   pub pending : s .pending ≤ 16
-  -- P is a tree with a root of level 3 at most, and not thin; its keys and values have 32 bits; no view is broken; its free numbers are on record
+  -- P is a tree, and not thin; its keys and values have 32 bits; no view is broken; its free numbers are on record
   pub tree : Tree (presentOf g s image)
   pub words : (n : ℕ) → All (λ (e : Entry). (e .key < top) × (e .value < top)) (entriesAt (presentOf g s image) n)
   pub whole : all isWhole (presentOf g s image) ≡ true
-  pub levels : rootLevel (presentOf g s image) ≤ 3
   pub thick : thin (presentOf g s image) ≡ false
   pub free : s .free ≡ freeNumbers (presentOf g s image)
   -- a block past the chip has no erase on record

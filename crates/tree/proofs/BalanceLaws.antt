@@ -30,7 +30,7 @@ use Rattle.tree.specs.Tree.{firstKey, Found, isAbsent}
 use Rattle.tree.specs.Delete.{Two, two, behind, neighbours}
 use Rattle.tree.specs.DeleteUnits.{firstOf, joinUnits, toLeft, toRight, shareUnits}
 use Rattle.tree.specs.UpdateCode.{UnitsPushed}
-use Rattle.tree.specs.BalanceCode.{leftOf, rightOf, lastOf, Named, HasRoom, Keeps, Shares, Balances, Loses, IsLeft, takeOverUnits}
+use Rattle.tree.specs.BalanceCode.{leftOf, rightOf, lastOf, NumbersFit, HasRoom, Keeps, Shares, Balances, Loses, IsLeft, takeOverUnits}
 use Rattle.tree.proofs.PairUnits.{join-length, share-length}
 use Rattle.tree.proofs.PushLaws.{written-one, written-two, written-more, length-before, front-pushed, front-same}
 
@@ -140,7 +140,7 @@ module _ (k : ℕ) (n : N.Node) (lk : length (n .keys) ≡ 17) (lv : length (n .
 
 -- ---- whether units fit
 module _ (count more : ℕ) (p : Pair) where
-  pub room-none : (count + more ≤ 960 → Named p → ⊥) → HasRoom count more p false
+  pub room-none : (count + more ≤ 960 → NumbersFit p → ⊥) → HasRoom count more p false
   room-none f = record { fits = λ e. clash e refl; full = λ _. f }
 
   pub room-last : count + more ≤ 960 → p .parent < 65536 → p .left < 65536 → HasRoom count more p (ltb (p .right) 65536)
@@ -277,7 +277,7 @@ module _ (p : Pair) (len : ℕ) (x y : N.Node) (lx : length (entriesOf x) ≡ x 
     share-right b w = share-pushes (rw (le-ltb (length (entriesOf x)) (length (entriesOf y)) (omega arith)) w)
 
   -- they do not fit
-  pub share-full : (old : List ℕ) (r : Fall) → count ≤ 960 → Keeps false len count r → (count + 4 ≤ 960 → Named p → ⊥)
+  pub share-full : (old : List ℕ) (r : Fall) → count ≤ 960 → Keeps false len count r → (count + 4 ≤ 960 → NumbersFit p → ⊥)
       → Shares p len (entriesOf x) (entriesOf y) count old old r
   share-full old r h k f = record {
     keeps = front-same count (r .count) old (k .count) h;
@@ -310,7 +310,7 @@ module _ (p : Pair) (len : ℕ) (x y : N.Node) (lx : length (entriesOf x) ≡ x 
     size-join = join-length (p .parent) (leftOf p) (rightOf p) (entriesOf y) ∙ ap (λ (m : ℕ). m + 2) ly
 
     -- 16 or fewer, but their units do not fit
-    pub balance-full : (old free : List ℕ) (r : Fall) → count ≤ 960 → Keeps false len count r → (count + (y .len + 2) ≤ 960 → Named p → ⊥)
+    pub balance-full : (old free : List ℕ) (r : Fall) → count ≤ 960 → Keeps false len count r → (count + (y .len + 2) ≤ 960 → NumbersFit p → ⊥)
         → Balances p len (entriesOf x) (entriesOf y) count old free old free r
     balance-full old free r h k f = record {
       keeps = front-same count (r .count) old (k .count) h;

@@ -28,8 +28,8 @@ use Rattle.tree.specs.DeleteUnits.{joinUnits, toLeft, toRight, shareUnit
 use Rattle.tree.specs.Free.{freeNumbers}
 use Rattle.tree.specs.Shown.{tableIn}
 use Rattle.tree.specs.UpdateCode.{UnitsPushed}
-use Rattle.tree.specs.BalanceCode.{leftOf, rightOf, Named, Keeps, pairUnits, Balances, Loses, IsLeft}
-use Rattle.tree.specs.DeleteCode.{Holds, Makes, isLost, Fell, IsPair, Settles, Mends, Way, Falls}
+use Rattle.tree.specs.BalanceCode.{leftOf, rightOf, NumbersFit, Keeps, pairUnits, Balances, Loses, IsLeft}
+use Rattle.tree.specs.DeleteCode.{TableHeld, UnitsMake, isLost, Fell, IsPair, Settles, Mends, DeleteWay, Falls}
 use Rattle.tree.proofs.Tables.{at-same, at-other, there-old, put-there}
 use Rattle.tree.proofs.Least.{there-length}
 use Rattle.tree.proofs.ShownLaws.{shown-pushed, pushed-good}
@@ -139,20 +139,20 @@ module _ (g : Geometry) (image lens slots : List ℕ) (limit : ℕ) (hl : limit 
   show = tableIn g image lens slots limit
 
   -- the length of a table that is shown
-  pub holds-long : {count : ℕ} {bytes free : List ℕ} {us : List U.Unit} {t : Table} → Holds show limit count bytes free us t → length t ≡ limit
+  pub holds-long : {count : ℕ} {bytes free : List ℕ} {us : List U.Unit} {t : Table} → TableHeld show limit count bytes free us t → length t ≡ limit
   holds-long {count} {bytes} H = ap length (sym (H .table)) ∙ shown-length g image lens slots limit count bytes
 
   -- a node that is there has a number that fits its field
-  pub holds-small : {count : ℕ} {bytes free : List ℕ} {us : List U.Unit} {t : Table} → Holds show limit count bytes free us t → (n : ℕ) → there (at t n) ≡ 1 → n < 65536
+  pub holds-small : {count : ℕ} {bytes free : List ℕ} {us : List U.Unit} {t : Table} → TableHeld show limit count bytes free us t → (n : ℕ) → there (at t n) ≡ 1 → n < 65536
   holds-small {t = t} H n p = omega (arith, there-length t n p, holds-long H)
 
   -- the count is that of the units
-  pub holds-count : {count : ℕ} {bytes free : List ℕ} {us : List U.Unit} {t : Table} → Holds show limit count bytes free us t → count ≡ length us
+  pub holds-count : {count : ℕ} {bytes free : List ℕ} {us : List U.Unit} {t : Table} → TableHeld show limit count bytes free us t → count ≡ length us
   holds-count {count} {bytes} {us = us} H = sym (length-decodes limit count bytes) ∙ ap length (H .units) ∙ length-map us Good
 
   -- units that are pushed
-  pub holds-pushed : {count used : ℕ} {old new free after : List ℕ} {us vs : List U.Unit} {t u : Table} → Holds show limit count old free us t → UnitsPushed vs count old new used
-      → count + length vs ≤ 960 → Makes limit t vs u → after ≡ freeNumbers u → Holds show limit used new after (us ++ vs) u
+  pub holds-pushed : {count used : ℕ} {old new free after : List ℕ} {us vs : List U.Unit} {t u : Table} → TableHeld show limit count old free us t → UnitsPushed vs count old new used
+      → count + length vs ≤ 960 → UnitsMake limit t vs u → after ≡ freeNumbers u → TableHeld show limit used new after (us ++ vs) u
   holds-pushed {count} {used} {old} {new} {us = us} {vs = vs} {t = t} H p room m e = record {
     table =
         ap₂ (λ (c : ℕ) (b : List ℕ). show c b) (p .size) (p .bytes)
@@ -193,20 +193,20 @@ module _ (g : Geometry) (image lens slots : List ℕ) (limit : ℕ) (hl : limit 
       keeps = front-same count (r .count) old (K .count) h;
       there = K .absent;
       is = λ l us t H e S room.
-          let G : Holds show limit (r .count) old free (us ++ []) t
-          = subst (λ (c : ℕ). Holds show limit c old free (us ++ []) t) (sym (K .count)) (subst (λ (vs : List U.Unit). Holds show limit count old free vs t) (sym (append-nil us)) H) in
+          let G : TableHeld show limit (r .count) old free (us ++ []) t
+          = subst (λ (c : ℕ). TableHeld show limit c old free (us ++ []) t) (sym (K .count)) (subst (λ (vs : List U.Unit). TableHeld show limit count old free vs t) (sym (append-nil us)) H) in
           let R : Fell show limit n (us ++ []) (kept t) old free r = record { holds = G; lost = K .lost; len = K .len ∙ sym el ∙ ap length e } in
           subst (λ (w : Two). Fell show limit n (us ++ settleUnits n w t) (settle l n w t) old free r) (sym (alone-below k es (omega arith))) R;
     }
 
     -- with one: they join, or an entry moves over
     module _ (l len : ℕ) (bs : List Entry) (a b : Entry) (ds xs ys zs : List Entry) (p : Pair) (new after : List ℕ) (r : Fall) (us : List U.Unit) (t : Table)
-        (H : Holds show limit count old free us t) (B : Balances p len xs ys count old free new after r)
+        (H : TableHeld show limit count old free us t) (B : Balances p len xs ys count old free new after r)
         (en : p .parent ≡ n) (ea : p .left ≡ a .value) (eb : rightOf p ≡ b) (ex : xs ≡ entriesAt t (a .value)) (ey : ys ≡ entriesAt t (b .value))
         (pn : at t n ≡ view (suc l) zs) (pa : at t (a .value) ≡ view l xs) (pb : at t (b .value) ≡ view l ys) (el : len ≡ suc (length (bs ++ (a ∷ ds))))
-        (m : Makes limit t (settleUnits n (two bs a b ds) t) (leaves (settle l n (two bs a b ds) t)))
+        (m : UnitsMake limit t (settleUnits n (two bs a b ds) t) (leaves (settle l n (two bs a b ds) t)))
         (room : count + length (settleUnits n (two bs a b ds) t) ≤ 960) where
-      named : Named p
+      named : NumbersFit p
       named = record {
         parent = subst (λ (i : ℕ). i < 65536) (sym en) (holds-small H n (ap there pn));
         left = subst (λ (i : ℕ). i < 65536) (sym ea) (holds-small H (a .value) (ap there pa));
@@ -273,8 +273,8 @@ module _ (g : Geometry) (image lens slots : List ℕ) (limit : ℕ) (hl : limit 
           let fb : ys ≡ entriesAt t (b .value) = ey ∙ ap₂ (λ (s : Table) (j : Entry). entriesAt s (j .value)) (H .table) (P .right) in
           let nb : neighbours k (entriesAt t n) ≡ two bs a b ds = ap (neighbours k) (sym e) ∙ L .is in
           let el′ : len ≡ suc (length (bs ++ (a ∷ ds))) = omega (arith, L .low, length-append bs (a ∷ ds), length-take-le i es (omega (arith, L .low)), length-drop (i + 2) es) in
-          let m : Makes limit t (settleUnits n (two bs a b ds) t) (leaves (settle l n (two bs a b ds) t))
-          = subst (λ (w : Two). Makes limit t (settleUnits n w t) (leaves (settle l n w t))) nb (S .makes) in
+          let m : UnitsMake limit t (settleUnits n (two bs a b ds) t) (leaves (settle l n (two bs a b ds) t))
+          = subst (λ (w : Two). UnitsMake limit t (settleUnits n w t) (leaves (settle l n w t))) nb (S .makes) in
           subst (λ (w : Two). Fell show limit n (us ++ settleUnits n w t) (settle l n w t) new after r) (sym (L .is))
           (balanced l len bs a b ds xs ys (entriesAt t n) p new after r us t H B (P .parent) (P .left) (P .right) fa fb (S .node)
           (S .left bs a b ds nb ∙ ap (view l) (sym fa)) (S .right bs a b ds nb ∙ ap (view l) (sym fb)) el′ m
@@ -290,8 +290,8 @@ module _ (g : Geometry) (image lens slots : List ℕ) (limit : ℕ) (hl : limit 
       there = K .absent;
       is = λ l c us d F e S room.
           let q = mend-kept l n c k d r (F .lost) (F .len) (sym z ∙ zb) in
-          let H : Holds show limit (f .count) old free (us ++ []) (leaves d)
-          = subst (λ (x : ℕ). Holds show limit x old free (us ++ []) (leaves d)) (sym (K .count)) (subst (λ (vs : List U.Unit). Holds show limit (r .count) old free vs (leaves d)) (sym (append-nil us)) (F .holds)) in
+          let H : TableHeld show limit (f .count) old free (us ++ []) (leaves d)
+          = subst (λ (x : ℕ). TableHeld show limit x old free (us ++ []) (leaves d)) (sym (K .count)) (subst (λ (vs : List U.Unit). TableHeld show limit (r .count) old free vs (leaves d)) (sym (append-nil us)) (F .holds)) in
           let R : Fell show limit n (us ++ []) (kept (leaves d)) old free f = record { holds = H; lost = K .lost; len = K .len ∙ sym el ∙ ap length e } in
           subst (λ (x : Down). Fell show limit n (us ++ mendUnits n c k d) x old free f) (sym (q .0))
           (subst (λ (vs : List U.Unit). Fell show limit n (us ++ vs) (kept (leaves d)) old free f) (sym (q .1)) R);
@@ -322,7 +322,7 @@ module _ (g : Geometry) (image lens slots : List ℕ) (limit : ℕ) (hl : limit 
     falls-absent q = rw z (record { keeps = F .keeps; absent = F .absent ∙ same-find; stays = F .stays; is = λ p us t H w room. clash q p })
 
     module _ (new after : List ℕ) (f : Fall) (q : r .absent ≡ false) (M : Mends show limit n k es r mid freed new after f) where
-      up-is : (us : List U.Unit) (t : Table) → Holds show limit count old free us t → Way limit (suc m) n k t → count + length (deleteUnitsAt (suc m) n k t) ≤ 960
+      up-is : (us : List U.Unit) (t : Table) → TableHeld show limit count old free us t → DeleteWay limit (suc m) n k t → count + length (deleteUnitsAt (suc m) n k t) ≤ 960
           → Fell show limit n (us ++ deleteUnitsAt (suc m) n k t) (deleteAt (suc m) n k t) new after f
       unfolding deleteAt deleteUnitsAt
       up-is us t H w room =

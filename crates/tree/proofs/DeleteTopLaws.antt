@@ -25,13 +25,15 @@ use Rattle.tree.specs.DeleteUnits.{shareUnits, settleUnits, mendUnits, d
 use Rattle.tree.specs.Free.{freeNumbers}
 use Rattle.tree.specs.Shown.{tableIn}
 use Rattle.tree.specs.UpdateCode.{UnitsPushed, FrontKept, Ready, Stepped, Deletes}
-use Rattle.tree.specs.BalanceCode.{leftOf, rightOf, Named, Shares, pairUnits, takeOverUnits, Merges}
-use Rattle.tree.specs.DeleteCode.{Holds, Makes, isLost, Fell, IsPair, Settling, Mends, Falls, Way, Collapsing, Collapses, thinUnits, thinTable, MergesOrShares, Finishes}
+use Rattle.tree.specs.BalanceCode.{leftOf, rightOf, NumbersFit, Shares, pairUnits, takeOverUnits, Merges}
+use Rattle.tree.specs.DeleteCode.{TableHeld, UnitsMake, isLost, Fell, IsPair, Settling, Mends, Falls, DeleteWay, Collapsing, Collapses, thinUnits, thinTable, MergesOrShares, Finishes}
 use Rattle.tree.proofs.Tables.{at-same, at-other, there-old, put-there}
 use Rattle.tree.proofs.Least.{there-length, put-length}
 use Rattle.tree.proofs.UnitLaws.{touches, after-append}
 use Rattle.tree.proofs.PairUnits.{share-length}
 use Rattle.tree.proofs.DeleteUnits.{merging-two}
+use Rattle.tree.proofs.NodeCount.{nodes-length}
+use Rattle.tree.proofs.Height.{thick-level}
 use Rattle.tree.proofs.Joints.{Planned, planned}
 use Rattle.tree.proofs.FreeLaws.{free-given, free-kept, shown-length}
 use Rattle.tree.proofs.PushLaws.{front-pushed, front-same, front-then}
@@ -144,14 +146,14 @@ module _ (g : Geometry) (image lens slots : List ℕ) (limit : ℕ) (hl : limit 
   show = tableIn g image lens slots limit
 
   -- nothing is pushed
-  holds-same : {count : ℕ} {bytes free : List ℕ} {us vs : List U.Unit} {t u : Table} → Holds show limit count bytes free us t → (vs ≡ []) × (u ≡ t) → Holds show limit count bytes free (us ++ vs) u
+  holds-same : {count : ℕ} {bytes free : List ℕ} {us vs : List U.Unit} {t u : Table} → TableHeld show limit count bytes free us t → (vs ≡ []) × (u ≡ t) → TableHeld show limit count bytes free (us ++ vs) u
   holds-same {count} {bytes} {free} {us} {vs} {t} {u} H q =
-      subst (λ (w : Table). Holds show limit count bytes free (us ++ vs) w) (sym (q .1))
-      (subst (λ (xs : List U.Unit). Holds show limit count bytes free xs t) (sym (append-nil us) ∙ ap (λ (xs : List U.Unit). us ++ xs) (sym (q .0))) H)
+      subst (λ (w : Table). TableHeld show limit count bytes free (us ++ vs) w) (sym (q .1))
+      (subst (λ (xs : List U.Unit). TableHeld show limit count bytes free xs t) (sym (append-nil us) ∙ ap (λ (xs : List U.Unit). us ++ xs) (sym (q .0))) H)
 
   -- ---- node 0 of level l, as long as it has one entry
   module _ (l count : ℕ) (old free : List ℕ) (few : count ≤ 960) where
-    collapses-none : ((us : List U.Unit) (t : Table) → Holds show limit count old free us t → Collapsing limit l t → count + length (collapseUnits l t) ≤ 960 → (collapseUnits l t ≡ []) × (collapsed l t ≡ t))
+    collapses-none : ((us : List U.Unit) (t : Table) → TableHeld show limit count old free us t → Collapsing limit l t → count + length (collapseUnits l t) ≤ 960 → (collapseUnits l t ≡ []) × (collapsed l t ≡ t))
         → Collapses show limit l count old free old free count
     collapses-none f = record { keeps = front-same count count old refl few; is = λ us t H C room. holds-same H (f us t H C room) }
 
@@ -160,7 +162,7 @@ module _ (g : Geometry) (image lens slots : List ℕ) (limit : ℕ) (hl : limit 
     collapses-leaf z = collapses-none (λ us t H C room. rw z (refl, refl))
 
     module _ (es : List Entry) (e : es ≡ entriesAt (show count old) 0) where
-      root-is : {us : List U.Unit} {t : Table} → Holds show limit count old free us t → es ≡ entriesAt t 0
+      root-is : {us : List U.Unit} {t : Table} → TableHeld show limit count old free us t → es ≡ entriesAt t 0
       root-is H = e ∙ ap (λ (s : Table). entriesAt s 0) (H .table)
 
       -- with more or fewer
@@ -169,7 +171,7 @@ module _ (g : Geometry) (image lens slots : List ℕ) (limit : ℕ) (hl : limit 
 
       -- with one: child c of level lv with the entries ms
       module _ (m c lv : ℕ) (ms : List Entry) (z : l ≡ suc m) (one : length es ≡ 1) (ec : c ≡ below 0 0 es) (em : ms ≡ entriesAt (show count old) c) where
-        module _ (us : List U.Unit) (t : Table) (H : Holds show limit count old free us t) where
+        module _ (us : List U.Unit) (t : Table) (H : TableHeld show limit count old free us t) where
           child-is : c ≡ child t 0 0
           child-is = ec ∙ ap (below 0 0) (root-is H)
 
@@ -180,7 +182,7 @@ module _ (g : Geometry) (image lens slots : List ℕ) (limit : ℕ) (hl : limit 
           root-one = ap length (sym (root-is H)) ∙ one
 
         -- there is room, and the number fits its field
-        collapse-able : (us : List U.Unit) (t : Table) → Holds show limit count old free us t → Collapsing limit (suc m) t → count + length (collapseUnits (suc m) t) ≤ 960
+        collapse-able : (us : List U.Unit) (t : Table) → TableHeld show limit count old free us t → Collapsing limit (suc m) t → count + length (collapseUnits (suc m) t) ≤ 960
             → (count + length ms + 2 ≤ 960) × (c < 65536)
         collapse-able us t H C room =
             let i = child t 0 0 in
@@ -208,8 +210,8 @@ module _ (g : Geometry) (image lens slots : List ℕ) (limit : ℕ) (hl : limit 
           is = is-over;
         })
           where
-            is-over : (us : List U.Unit) (t : Table) → Holds show limit count old free us t → Collapsing limit (suc m) t → count + length (collapseUnits (suc m) t) ≤ 960
-                → Holds show limit last new after (us ++ collapseUnits (suc m) t) (collapsed (suc m) t)
+            is-over : (us : List U.Unit) (t : Table) → TableHeld show limit count old free us t → Collapsing limit (suc m) t → count + length (collapseUnits (suc m) t) ≤ 960
+                → TableHeld show limit last new after (us ++ collapseUnits (suc m) t) (collapsed (suc m) t)
             is-over us t H C room =
                 let i = child t 0 0 in
                 let Q = C (root-one us t H) in
@@ -222,21 +224,21 @@ module _ (g : Geometry) (image lens slots : List ℕ) (limit : ℕ) (hl : limit 
                 let P′ : UnitsPushed xs count old mid used
                 = subst (λ (vs : List U.Unit). UnitsPushed vs count old mid used) (over-same m lv c i ms t lm (child-is us t H) (entries-are us t H)) (P .0) in
                 let ch : Changes true i free between = subst (λ (j : ℕ). Changes true j free between) (child-is us t H) (P .1) in
-                let H₁ : Holds show limit used mid between (us ++ xs) (takeOver i t)
+                let H₁ : TableHeld show limit used mid between (us ++ xs) (takeOver i t)
                 = holds-pushed g image lens slots limit hl H P′ (omega (arith, length-append xs ys)) (O .makes)
                 (over-numbers m i (entriesAt t i) t free between (omega (arith, holds-long g image lens slots limit hl H)) (H .numbers) (O .root) (O .child) ch) in
-                let H₂ : Holds show limit last new after ((us ++ xs) ++ ys) (collapsed m (takeOver i t))
+                let H₂ : TableHeld show limit last new after ((us ++ xs) ++ ys) (collapsed m (takeOver i t))
                 = K .is (us ++ xs) (takeOver i t) H₁ (Q .1) (omega (arith, length-append xs ys, P′ .size)) in
-                subst (λ (w : Table). Holds show limit last new after (us ++ collapseUnits (suc m) t) w) (sym (q .1))
-                (subst (λ (vs : List U.Unit). Holds show limit last new after (us ++ vs) (collapsed m (takeOver i t))) (sym (q .0))
-                (subst (λ (vs : List U.Unit). Holds show limit last new after vs (collapsed m (takeOver i t))) (append-assoc us xs ys) H₂))
+                subst (λ (w : Table). TableHeld show limit last new after (us ++ collapseUnits (suc m) t) w) (sym (q .1))
+                (subst (λ (vs : List U.Unit). TableHeld show limit last new after (us ++ vs) (collapsed m (takeOver i t))) (sym (q .0))
+                (subst (λ (vs : List U.Unit). TableHeld show limit last new after vs (collapsed m (takeOver i t))) (append-assoc us xs ys) H₂))
 
   -- ---- node 0 with two children p, one of them thin
   module _ (level k count : ℕ) (es xs ys : List Entry) (p : Pair) (old free : List ℕ) (two-es : length es ≡ 2) (P : IsPair 0 es 0 p)
       (ex : xs ≡ entriesAt (show count old) (p .left)) (ey : ys ≡ entriesAt (show count old) (p .right)) where
     -- what is known of them in a table
     record Children (l : ℕ) (us : List U.Unit) (t : Table) (a b : Entry) : Type 0 where
-      pub holds : Holds show limit count old free us t
+      pub holds : TableHeld show limit count old free us t
       pub near : neighbours k es ≡ two [] a b []
       pub left : p .left ≡ a .value
       pub right : rightOf p ≡ b
@@ -246,7 +248,7 @@ module _ (g : Geometry) (image lens slots : List ℕ) (limit : ℕ) (hl : limit 
       pub on-left : at t (a .value) ≡ view l xs
       pub on-right : at t (b .value) ≡ view l ys
 
-    children : (l : ℕ) (us : List U.Unit) (t : Table) → Holds show limit count old free us t → es ≡ entriesAt t 0 → Settling limit l 0 k t
+    children : (l : ℕ) (us : List U.Unit) (t : Table) → TableHeld show limit count old free us t → es ≡ entriesAt t 0 → Settling limit l 0 k t
         → Children l us t (getD es 0 (entry 0 0)) (getD es 1 (entry 0 0))
     children l us t H e S =
         let a = getD es 0 (entry 0 0) in
@@ -268,7 +270,7 @@ module _ (g : Geometry) (image lens slots : List ℕ) (limit : ℕ) (hl : limit 
         }
 
     module _ (l : ℕ) (us : List U.Unit) (t : Table) (a b : Entry) (C : Children l us t a b) where
-      named : Named p
+      named : NumbersFit p
       named = record {
         parent = subst (λ (i : ℕ). i < 65536) (sym (P .parent)) (omega arith);
         left = subst (λ (i : ℕ). i < 65536) (sym (C .left)) (holds-small g image lens slots limit hl (C .holds) (a .value) (ap there (C .on-left)));
@@ -301,8 +303,8 @@ module _ (g : Geometry) (image lens slots : List ℕ) (limit : ℕ) (hl : limit 
             th ∙ ap (λ (vs : List U.Unit). settleUnits 0 (two [] a b []) t ++ vs) (quiet .0) ∙ append-nil (settleUnits 0 (two [] a b []) t)
             ∙ sym (pair-units 0 [] a b [] xs ys p t (P .parent) (C .left) (C .right) (C .xs-are) (C .ys-are)) ∙ sp
 
-        share-holds : (new : List ℕ) (f : Fall) → Shares p 2 xs ys count old new f → Makes limit t (thinUnits l (two [] a b []) t) (thinTable l (two [] a b []) t)
-            → count + length (thinUnits l (two [] a b []) t) ≤ 960 → Holds show limit (f .count) new free (us ++ thinUnits l (two [] a b []) t) (thinTable l (two [] a b []) t)
+        share-holds : (new : List ℕ) (f : Fall) → Shares p 2 xs ys count old new f → UnitsMake limit t (thinUnits l (two [] a b []) t) (thinTable l (two [] a b []) t)
+            → count + length (thinUnits l (two [] a b []) t) ≤ 960 → TableHeld show limit (f .count) new free (us ++ thinUnits l (two [] a b []) t) (thinTable l (two [] a b []) t)
         share-holds new f S m room =
             let four = share-length (p .parent) (leftOf p) (rightOf p) xs ys in
             let Q = S .pushed named (omega (arith, ap length share-units)) in
@@ -338,8 +340,8 @@ module _ (g : Geometry) (image lens slots : List ℕ) (limit : ℕ) (hl : limit 
             )
 
         merge-holds : (new after : List ℕ) (used : ℕ) → Merges l p xs ys count old free new after used → there (at (thinTable l (two [] a b []) t) 0) ≡ 1
-            → Makes limit t (thinUnits l (two [] a b []) t) (thinTable l (two [] a b []) t)
-            → count + length (thinUnits l (two [] a b []) t) ≤ 960 → Holds show limit used new after (us ++ thinUnits l (two [] a b []) t) (thinTable l (two [] a b []) t)
+            → UnitsMake limit t (thinUnits l (two [] a b []) t) (thinTable l (two [] a b []) t)
+            → count + length (thinUnits l (two [] a b []) t) ≤ 960 → TableHeld show limit used new after (us ++ thinUnits l (two [] a b []) t) (thinTable l (two [] a b []) t)
         merge-holds new after used M root m room =
             let H = C .holds in
             let pa = ap there (C .on-left) in
@@ -354,8 +356,8 @@ module _ (g : Geometry) (image lens slots : List ℕ) (limit : ℕ) (hl : limit 
     -- told of the neighbours that the code looks at
     united : (new after : List ℕ) (used : ℕ) → FrontKept count old used new
         → ((l : ℕ) (us : List U.Unit) (t : Table) (a b : Entry) → level ≡ suc l → Children l us t a b → there (at (thinTable l (two [] a b []) t) 0) ≡ 1
-        → Makes limit t (thinUnits l (two [] a b []) t) (thinTable l (two [] a b []) t) → count + length (thinUnits l (two [] a b []) t) ≤ 960
-        → Holds show limit used new after (us ++ thinUnits l (two [] a b []) t) (thinTable l (two [] a b []) t))
+        → UnitsMake limit t (thinUnits l (two [] a b []) t) (thinTable l (two [] a b []) t) → count + length (thinUnits l (two [] a b []) t) ≤ 960
+        → TableHeld show limit used new after (us ++ thinUnits l (two [] a b []) t) (thinTable l (two [] a b []) t))
         → MergesOrShares show limit level k es count old free new after used
     united new after used K f = record {
       keeps = K;
@@ -364,8 +366,8 @@ module _ (g : Geometry) (image lens slots : List ℕ) (limit : ℕ) (hl : limit 
           let a = getD es 0 (entry 0 0) in
           let b = getD es 1 (entry 0 0) in
           let w : neighbours k es ≡ two [] a b [] = C .near in
-          subst (λ (x : Two). Holds show limit used new after (us ++ thinUnits l x t) (thinTable l x t)) (sym w)
-          (f l us t a b z C (subst (λ (x : Two). there (at (thinTable l x t) 0) ≡ 1) w root) (subst (λ (x : Two). Makes limit t (thinUnits l x t) (thinTable l x t)) w m)
+          subst (λ (x : Two). TableHeld show limit used new after (us ++ thinUnits l x t) (thinTable l x t)) (sym w)
+          (f l us t a b z C (subst (λ (x : Two). there (at (thinTable l x t) 0) ≡ 1) w root) (subst (λ (x : Two). UnitsMake limit t (thinUnits l x t) (thinTable l x t)) w m)
           (subst (λ (x : Two). count + length (thinUnits l x t) ≤ 960) w room));
     }
 
@@ -388,7 +390,7 @@ module _ (g : Geometry) (image lens slots : List ℕ) (limit : ℕ) (hl : limit 
         let e : down ≡ l = omega arith in
         merge-holds l us t a b C few new after used (subst (λ (i : ℕ). Merges i p xs ys count old free new after used) e M) root m room)
 
-    pub top-full : count ≤ 960 → length xs + length ys ≤ 16 → (count + (length xs + length ys + 3) ≤ 960 → Named p → ⊥) → MergesOrShares show limit level k es count old free old free count
+    pub top-full : count ≤ 960 → length xs + length ys ≤ 16 → (count + (length xs + length ys + 3) ≤ 960 → NumbersFit p → ⊥) → MergesOrShares show limit level k es count old free old free count
     top-full h few f =
         united old free count (front-same count count old refl h)
         (λ l us t a b z C root m room. absurd (f (omega (arith, merge-length l us t a b C few)) (named l us t a b C)))
@@ -407,11 +409,11 @@ module _ (g : Geometry) (image lens slots : List ℕ) (limit : ℕ) (hl : limit 
           let eu : topUnits l c k d ≡ thinUnits l (neighbours k es) u = top-thin l c k d q ∙ ap (λ (y : Two). thinUnits l y u) x in
           let ed : collapsed (suc l) (leaves (mend l 0 c k d)) ≡ thinTable l (neighbours k es) u
           = ap (λ (y : Down). collapsed (suc l) (leaves y)) (q .is) ∙ ap (λ (y : Two). thinTable l y u) x in
-          let m : Makes limit u (thinUnits l (neighbours k es) u) (thinTable l (neighbours k es) u)
-          = subst (λ (y : Table). Makes limit u (thinUnits l (neighbours k es) u) y) ed
-          (subst (λ (vs : List U.Unit). Makes limit u vs (collapsed (suc l) (leaves (mend l 0 c k d)))) eu (T .makes)) in
-          subst (λ (y : Table). Holds show limit used new after (us ++ topUnits l c k d) y) (sym ed)
-          (subst (λ (vs : List U.Unit). Holds show limit used new after (us ++ vs) (thinTable l (neighbours k es) u)) (sym eu)
+          let m : UnitsMake limit u (thinUnits l (neighbours k es) u) (thinTable l (neighbours k es) u)
+          = subst (λ (y : Table). UnitsMake limit u (thinUnits l (neighbours k es) u) y) ed
+          (subst (λ (vs : List U.Unit). UnitsMake limit u vs (collapsed (suc l) (leaves (mend l 0 c k d)))) eu (T .makes)) in
+          subst (λ (y : Table). TableHeld show limit used new after (us ++ topUnits l c k d) y) (sym ed)
+          (subst (λ (vs : List U.Unit). TableHeld show limit used new after (us ++ vs) (thinTable l (neighbours k es) u)) (sym eu)
           (M .is l us u z (F .holds) e (T .settling (q .few)) (subst (λ (y : Table). there (at y 0) ≡ 1) ed (T .root)) m
           (subst (λ (vs : List U.Unit). r .count + length vs ≤ 960) eu room)));
     }
@@ -422,7 +424,7 @@ module _ (g : Geometry) (image lens slots : List ℕ) (limit : ℕ) (hl : limit 
       Case new after used =
           (l c : ℕ) (us : List U.Unit) (d : Down) → level ≡ suc l → Fell show limit 0 us d mid freed f → Collapsing limit (suc l) (leaves d)
           → f .count + length (collapseUnits (suc l) (leaves d)) ≤ 960
-          → Holds show limit used new after (us ++ collapseUnits (suc l) (leaves d)) (collapsed (suc l) (leaves d))
+          → TableHeld show limit used new after (us ++ collapseUnits (suc l) (leaves d)) (collapsed (suc l) (leaves d))
 
       mended-then : (new after : List ℕ) (used : ℕ) → FrontKept (f .count) mid used new → Case new after used → Finishes show limit level k es r old free new after used
       mended-then new after used K h = record {
@@ -434,11 +436,11 @@ module _ (g : Geometry) (image lens slots : List ℕ) (limit : ℕ) (hl : limit 
             let eu : topUnits l c k d ≡ xs ++ ys = top-kept l c k d r (F .lost) (F .len) (λ q. no (ap length e ∙ q)) in
             let all : r .count + length (xs ++ ys) ≤ 960 = subst (λ (vs : List U.Unit). r .count + length vs ≤ 960) eu room in
             let R : Fell show limit 0 (us ++ xs) v mid freed f = M .is l c us d F e (T .settling) (omega (arith, length-append xs ys)) in
-            let H : Holds show limit used new after ((us ++ xs) ++ ys) (collapsed (suc l) (leaves v))
+            let H : TableHeld show limit used new after ((us ++ xs) ++ ys) (collapsed (suc l) (leaves v))
             = h l c (us ++ xs) v z R (T .collapsing)
             (omega (arith, length-append xs ys, length-append us xs, holds-count g image lens slots limit hl (R .holds), holds-count g image lens slots limit hl (F .holds))) in
-            subst (λ (vs : List U.Unit). Holds show limit used new after (us ++ vs) (collapsed (suc l) (leaves v))) (sym eu)
-            (subst (λ (vs : List U.Unit). Holds show limit used new after vs (collapsed (suc l) (leaves v))) (append-assoc us xs ys) H);
+            subst (λ (vs : List U.Unit). TableHeld show limit used new after (us ++ vs) (collapsed (suc l) (leaves v))) (sym eu)
+            (subst (λ (vs : List U.Unit). TableHeld show limit used new after vs (collapsed (suc l) (leaves v))) (append-assoc us xs ys) H);
       }
 
       pub finishes-wide : (f .len ≡ 1 → ⊥) → Finishes show limit level k es r old free mid freed (f .count)
@@ -458,12 +460,14 @@ module _ (g : Geometry) (image lens slots : List ℕ) (limit : ℕ) (hl : limit 
 
     module _ (us : List U.Unit) (R : Ready limit count free old us (show count old)) where
       plan : Planned limit k (show count old)
-      plan = planned limit k t (R .tree) (R .words) hk (R .levels) (omega (arith, shown-length g image lens slots limit count old))
+      plan =
+          let e = shown-length g image lens slots limit count old in
+          planned limit k t (R .tree) (R .words) hk (thick-level t (R .tree) (R .thick) (omega (arith, nodes-length t, hl))) (omega arith)
 
-      start : Holds show limit count old free us (show count old)
+      start : TableHeld show limit count old free us (show count old)
       start = record { table = refl; numbers = R .numbers; units = R .units }
 
-      stepped : (new after : List ℕ) (used : ℕ) → Holds show limit used new after (us ++ deleteUnits k (show count old)) (delete k (show count old))
+      stepped : (new after : List ℕ) (used : ℕ) → TableHeld show limit used new after (us ++ deleteUnits k (show count old)) (delete k (show count old))
           → Stepped g image lens slots limit count us (deleteUnits k (show count old)) (delete k (show count old)) new after used
       stepped new after used H = record {
         table = H .table;
@@ -485,13 +489,13 @@ module _ (g : Geometry) (image lens slots : List ℕ) (limit : ℕ) (hl : limit 
           → Stepped g image lens slots limit count us (deleteUnits k (show count old)) (delete k (show count old)) new free (r .count)
       unfolding deleteUnits deleteUnitsFrom delete
       leaf-done us R q =
-          let W : Way limit 0 0 k t = subst (λ (i : ℕ). Way limit i 0 k t) z (plan us R .way) in
+          let W : DeleteWay limit 0 0 k t = subst (λ (i : ℕ). DeleteWay limit i 0 k t) z (plan us R .way) in
           let eu : deleteUnits k t ≡ deleteUnitsAt 0 0 k t = rw z refl in
           let ed : delete k t ≡ leaves (deleteAt 0 0 k t) = rw z refl in
           let G = F .is q us t (start us R) W (omega (arith, R .room, plan us R .few, ap length eu)) in
           stepped us R new free (r .count)
-          (subst (λ (w : Table). Holds show limit (r .count) new free (us ++ deleteUnits k t) w) (sym ed)
-          (subst (λ (vs : List U.Unit). Holds show limit (r .count) new free (us ++ vs) (leaves (deleteAt 0 0 k t))) (sym eu) (G .holds)))
+          (subst (λ (w : Table). TableHeld show limit (r .count) new free (us ++ deleteUnits k t) w) (sym ed)
+          (subst (λ (vs : List U.Unit). TableHeld show limit (r .count) new free (us ++ vs) (leaves (deleteAt 0 0 k t))) (sym eu) (G .holds)))
 
       pub deletes-leaf : Deletes g image lens slots limit k count old free new free (record { absent = r .absent; count = r .count })
       unfolding find
@@ -528,7 +532,7 @@ module _ (g : Geometry) (image lens slots : List ℕ) (limit : ℕ) (hl : limit 
         unfolding deleteUnits deleteUnitsFrom delete deleteAt
         delete-done us R =
             let i = child t 0 k in
-            let W : Way limit (suc m) 0 k t = subst (λ (j : ℕ). Way limit j 0 k t) z (plan us R .way) in
+            let W : DeleteWay limit (suc m) 0 k t = subst (λ (j : ℕ). DeleteWay limit j 0 k t) z (plan us R .way) in
             let xs = deleteUnitsAt m (child t 0 k) k t in
             let d = deleteAt m (child t 0 k) k t in
             let ys = topUnits m (child t 0 k) k (deleteAt m (child t 0 k) k t) in
@@ -538,7 +542,7 @@ module _ (g : Geometry) (image lens slots : List ℕ) (limit : ℕ) (hl : limit 
             let few : length (xs ++ ys) ≤ 57 = subst (λ (vs : List U.Unit). length vs ≤ 57) eu (plan us R .few) in
             let F′ : Falls show limit m (child t 0 k) k count old free mid freed r = subst (λ (j : ℕ). Falls show limit m j k count old free mid freed r) child-of F in
             let G : Fell show limit i (us ++ xs) d mid freed r = F′ .is q us t (start us R) (W .1) (omega (arith, R .room, length-append xs ys)) in
-            let H : Holds show limit used new after ((us ++ xs) ++ ys) u
+            let H : TableHeld show limit used new after ((us ++ xs) ++ ys) u
             = N .is m i (us ++ xs) d zl G (e ∙ sym (W .0 .same)) (plan us R .topping m z)
             (omega (
               arith,
@@ -549,9 +553,9 @@ module _ (g : Geometry) (image lens slots : List ℕ) (limit : ℕ) (hl : limit 
               holds-count g image lens slots limit hl (start us R),
             )) in
             stepped us R new after used
-            (subst (λ (w : Table). Holds show limit used new after (us ++ deleteUnits k t) w) (sym ed)
-            (subst (λ (vs : List U.Unit). Holds show limit used new after (us ++ vs) u) (sym eu)
-            (subst (λ (vs : List U.Unit). Holds show limit used new after vs u) (append-assoc us xs ys) H)))
+            (subst (λ (w : Table). TableHeld show limit used new after (us ++ deleteUnits k t) w) (sym ed)
+            (subst (λ (vs : List U.Unit). TableHeld show limit used new after (us ++ vs) u) (sym eu)
+            (subst (λ (vs : List U.Unit). TableHeld show limit used new after vs u) (append-assoc us xs ys) H)))
 
         pub deletes-done : Deletes g image lens slots limit k count old free new after (record { absent = false; count = used })
         deletes-done = record {

@@ -26,7 +26,7 @@ use Rattle.tree.specs.Units.{anewAt}
 use Rattle.tree.specs.InsertUnits.{halveUnits, raiseUnits, holdUnits}
 use Rattle.tree.specs.Free.{freeNumbers}
 use Rattle.tree.specs.UpdateCode.{UnitsPushed, FrontKept}
-use Rattle.tree.specs.InsertCode.{rootEntries, spare, needsOf, givesOf, Went, Stops, FitsOne, TakesLeast, Makes, Holds, Refused, Lands, PassesUp}
+use Rattle.tree.specs.InsertCode.{rootEntries, spare, needsOf, givesOf, Went, Stops, FitsOne, TakesLeast, ChangesNode, FitsOrSplits, Refused, Lands, PassesUp}
 use Rattle.tree.specs.declared.insert.Rise.{Rise}
 use Rattle.tree.proofs.Tables.{there-old}
 use Rattle.tree.proofs.Least.{least-free, least-put, least-kept, nodes-old, nodes-new, there-length, put-length}
@@ -123,44 +123,39 @@ module _ (l low high : ℕ) (es : List Entry) (count i j : ℕ) (old mid new : L
       (written-two (halveUnits l low high es) (anewAt (l + 1) 0 (rootEntries low (firstKey 0 (drop 9 es)) high)) count i j old mid new a b h)
 
 -- ---- how many numbers are needed
-module _ (need l n len : ℕ) where
-  pub needs-none : len ≤ 16 → needsOf need l n len ≡ 0
+module _ (need n len : ℕ) where
+  pub needs-none : len ≤ 16 → needsOf need n len ≡ 0
   needs-none q = rw (le-leb len 16 q)
 
-  pub needs-inner : 16 < len → (n ≡ 0 → ⊥) → needsOf need l n len ≡ need + 1
+  pub needs-inner : 16 < len → (n ≡ 0 → ⊥) → needsOf need n len ≡ need + 1
   needs-inner q d = rw (lt-leb len 16 q, ne-eqb n 0 d)
 
-  pub needs-root : 16 < len → n ≡ 0 → l < 3 → needsOf need l n len ≡ 2
-  needs-root q z h = rw (lt-leb len 16 q, eq-eqb n 0 z, lt-ltb l 3 h)
+  pub needs-root : 16 < len → n ≡ 0 → needsOf need n len ≡ 2
+  needs-root q z = rw (lt-leb len 16 q, eq-eqb n 0 z)
 
-  pub needs-high : 16 < len → n ≡ 0 → 3 ≤ l → needsOf need l n len ≡ 257
-  needs-high q z h = rw (lt-leb len 16 q, eq-eqb n 0 z, le-ltb l 3 h)
-
-  -- by the entries, the node and the level
-  pub needs-by : {C : Type 0} → (len ≤ 16 → C) → (16 < len → (n ≡ 0 → ⊥) → C) → (16 < len → n ≡ 0 → l < 3 → C) → (16 < len → n ≡ 0 → 3 ≤ l → C) → C
-  needs-by f g h i =
+  -- by the entries and the node
+  pub needs-by : {C : Type 0} → (len ≤ 16 → C) → (16 < len → (n ≡ 0 → ⊥) → C) → (16 < len → n ≡ 0 → C) → C
+  needs-by f g h =
       ⊎-elim
-      (λ (q : 16 < len). ⊎-elim (λ (z : n ≡ 0). ⊎-elim (λ (p : l < 3). h q z p) (λ (p : 3 ≤ l). i q z p) (below-or-not l 3)) (λ (d : n ≡ 0 → ⊥). g q d) (same-or-not n 0))
+      (λ (q : 16 < len). ⊎-elim (λ (z : n ≡ 0). h q z) (λ (d : n ≡ 0 → ⊥). g q d) (same-or-not n 0))
       (λ (q : len ≤ 16). f q)
       (below-or-not 16 len)
 
 -- what is passed to the next level stays small
-pub needs-low : (need l m n len : ℕ) → l ≡ suc m → l ≤ 3 → need + l ≤ 260 → needsOf need l n len + m ≤ 260
+pub needs-low : (need l m n len : ℕ) → l ≡ suc m → l ≤ 3 → need + l ≤ 4 → needsOf need n len + m ≤ 4
 needs-low need l m n len e h b =
-    needs-by need l n len
-    (λ q. omega (arith, needs-none need l n len q))
-    (λ q d. omega (arith, needs-inner need l n len q d))
-    (λ q z p. omega (arith, needs-root need l n len q z p))
-    (λ q z p. omega (arith, needs-high need l n len q z p))
+    needs-by need n len
+    (λ q. omega (arith, needs-none need n len q))
+    (λ q d. omega (arith, needs-inner need n len q d))
+    (λ q z. omega (arith, needs-root need n len q z))
 
 -- the node itself takes no more than it takes with those above it
-pub needs-less : (need l n len : ℕ) → needsOf 0 l n len ≤ needsOf need l n len
-needs-less need l n len =
-    needs-by need l n len
-    (λ q. omega (arith, needs-none 0 l n len q))
-    (λ q d. omega (arith, needs-inner 0 l n len q d, needs-inner need l n len q d))
-    (λ q z p. omega (arith, needs-root 0 l n len q z p, needs-root need l n len q z p))
-    (λ q z p. omega (arith, needs-high 0 l n len q z p, needs-high need l n len q z p))
+pub needs-less : (need n len : ℕ) → needsOf 0 n len ≤ needsOf need n len
+needs-less need n len =
+    needs-by need n len
+    (λ q. omega (arith, needs-none 0 n len q))
+    (λ q d. omega (arith, needs-inner 0 n len q d, needs-inner need n len q d))
+    (λ q z. omega (arith, needs-root 0 n len q z, needs-root need n len q z))
 
 -- ---- a number that is taken
 pub spare-most : (t : Table) → spare t ≤ length t
@@ -229,14 +224,13 @@ module _ (need l n : ℕ) (es : List Entry) (t : Table) (few : length t ≤ 256)
         left = λ g. clash g refl;
       })
 
-  pub numbers-left : needsOf need l n (length es) ≤ spare t → NumbersLeft need t (fitOrSplit l n es t)
+  pub numbers-left : needsOf need n (length es) ≤ spare t → NumbersLeft need t (fitOrSplit l n es t)
   numbers-left h =
       let len = length es in
-      needs-by need l n len
+      needs-by need n len
       (λ q. left-fit q)
-      (λ q d. left-halve (omega (arith, needs-inner need l n len q d)) q d)
-      (λ q z p. left-raise (omega (arith, needs-root need l n len q z p)) q z)
-      (λ q z p. absurd (omega (arith, needs-high need l n len q z p, spare-most t)))
+      (λ q d. left-halve (omega (arith, needs-inner need n len q d)) q d)
+      (λ q z. left-raise (omega (arith, needs-root need n len q z)) q z)
 
 -- ---- the code of one node
 -- one unit, or none
@@ -259,7 +253,7 @@ fits-made n k v count old new r h w s =
 
 -- nothing is done: no table leads here
 pub makes-none : (n need : ℕ) (us : Table → List U.Unit) (up : Table → Up) (count : ℕ) (old free : List ℕ) (r : Rise) → count ≤ 960 → Stops count r
-    → ((t : Table) → length t ≤ 256 → there (at t n) ≡ 1 → need ≤ spare t → count + length (us t) ≤ 960 → ⊥) → Makes n need us up count old free old free r
+    → ((t : Table) → length t ≤ 256 → there (at t n) ≡ 1 → need ≤ spare t → count + length (us t) ≤ 960 → ⊥) → ChangesNode n need us up count old free old free r
 makes-none n need us up count old free r h s never = record {
   keeps = front-same count (r .count) old (s .used) h;
   plain = s .refused;
@@ -268,7 +262,7 @@ makes-none n need us up count old free r h s never = record {
 
 -- the same units and the same table
 makes-same : (n need need′ : ℕ) (us us′ : Table → List U.Unit) (up up′ : Table → Up) (count : ℕ) (old free new after : List ℕ) (r : Rise) → need ≡ need′
-    → ((t : Table) → us t ≡ us′ t) → ((t : Table) → up t ≡ up′ t) → Makes n need us up count old free new after r → Makes n need′ us′ up′ count old free new after r
+    → ((t : Table) → us t ≡ us′ t) → ((t : Table) → up t ≡ up′ t) → ChangesNode n need us up count old free new after r → ChangesNode n need′ us′ up′ count old free new after r
 makes-same n need need′ us us′ up up′ count old free new after r e f g M = record {
   keeps = M .keeps;
   plain = M .plain;
@@ -280,17 +274,16 @@ makes-same n need need′ us us′ up up′ count old free new after r e f g M =
 
 module _ (l : ℕ) (es : List Entry) (count : ℕ) (old free new after : List ℕ) (r : Rise) where
   -- node 0 splits
-  module _ (low high used : ℕ) (mid : List ℕ) (l3 : l < 3) where
+  module _ (low high used : ℕ) (mid : List ℕ) where
     pub makes-raise : TakesLeast free mid low → TakesLeast mid after high → UnitsPushed (raiseUnits l low high es) count old new used → used ≤ 960
         → Stops used r
-        → Makes 0 (needsOf 0 l 0 17) (λ (t : Table). raiseUnits l (least t) (least2 t) es) (λ (t : Table). stop (raise l (least t) (least2 t) es t)) count old free new after r
+        → ChangesNode 0 2 (λ (t : Table). raiseUnits l (least t) (least2 t) es) (λ (t : Table). stop (raise l (least t) (least2 t) es t)) count old free new after r
     unfolding raise
     makes-raise p₁ p₂ w room f = record {
       keeps = subst (λ (x : ℕ). FrontKept count old x new) (sym (f .used)) (front-pushed (raiseUnits l low high es) count used old new w room);
       plain = f .refused;
       is =
           λ t q few on s _.
-          let s₂ : 2 ≤ spare t = omega (arith, needs-root 0 l 0 17 (omega arith) refl l3) in
           let t₁ = put (least t) (view l (take 9 es)) t in
           let a = p₁ .is t q few (omega arith) in
           let b = p₂ .is t₁ (a .1 l (take 9 es)) (omega (arith, least-length l (take 9 es) t (omega arith))) (omega (arith, least-spare l (take 9 es) t (omega arith))) in
@@ -314,7 +307,7 @@ module _ (l : ℕ) (es : List Entry) (count : ℕ) (old free new after : List �
   -- another node splits
   pub makes-halve : (n number used : ℕ) → TakesLeast free after number → UnitsPushed (halveUnits l n number es) count old new used → used ≤ 960
       → r .refused ≡ false → r .gains ≡ true → r .count ≡ used → r .key ≡ firstKey 0 (drop 9 es) → r .number ≡ number
-      → Makes n 1 (λ (t : Table). halveUnits l n (least t) es) (λ (t : Table). gains (firstKey 0 (drop 9 es)) (least t) (halve l n (least t) es t)) count old free new after r
+      → ChangesNode n 1 (λ (t : Table). halveUnits l n (least t) es) (λ (t : Table). gains (firstKey 0 (drop 9 es)) (least t) (halve l n (least t) es t)) count old free new after r
   unfolding halve
   makes-halve n number used p w room f g e k m = record {
     keeps = subst (λ (x : ℕ). FrontKept count old x new) (sym e) (front-pushed (halveUnits l n number es) count used old new w room);
@@ -339,11 +332,11 @@ module _ (l : ℕ) (es : List Entry) (count : ℕ) (old free new after : List �
 
 -- by its entries
 module _ (l n k v : ℕ) (es : List Entry) (count : ℕ) (old free new : List ℕ) (r : Rise) where
-  pub holds-fit : length es ≤ 16 → FitsOne n k v count old new r → Holds l n k v es count old free new free r
+  pub holds-fit : length es ≤ 16 → FitsOne n k v count old new r → FitsOrSplits l n k v es count old free new free r
   unfolding holdUnits fitOrSplit
   holds-fit q F =
-      makes-same n 0 (needsOf 0 l n (length es)) (λ (t : Table). unitFor n (Insert k v) ∷ []) (holdUnits l n k v es) (λ (t : Table). stop (put n (view l es) t)) (fitOrSplit l n es) count old free new free r
-      (sym (needs-none 0 l n (length es) q)) (λ t. rw (le-leb (length es) 16 q)) (λ t. rw (le-leb (length es) 16 q))
+      makes-same n 0 (needsOf 0 n (length es)) (λ (t : Table). unitFor n (Insert k v) ∷ []) (holdUnits l n k v es) (λ (t : Table). stop (put n (view l es) t)) (fitOrSplit l n es) count old free new free r
+      (sym (needs-none 0 n (length es) q)) (λ t. rw (le-leb (length es) 16 q)) (λ t. rw (le-leb (length es) 16 q))
       (record {
         keeps = F .keeps;
         plain = F .stops .refused;
@@ -360,53 +353,53 @@ module _ (l n k v : ℕ) (es : List Entry) (count : ℕ) (old free new : List �
 
 module _ (l n k v : ℕ) (es : List Entry) (count : ℕ) (old free new after : List ℕ) (r : Rise) where
   pub holds-raise : length es ≡ 17 → n ≡ 0
-      → Makes 0 (needsOf 0 l 0 17) (λ (t : Table). raiseUnits l (least t) (least2 t) es) (λ (t : Table). stop (raise l (least t) (least2 t) es t)) count old free new after r
-      → Holds l n k v es count old free new after r
+      → ChangesNode 0 2 (λ (t : Table). raiseUnits l (least t) (least2 t) es) (λ (t : Table). stop (raise l (least t) (least2 t) es t)) count old free new after r
+      → FitsOrSplits l n k v es count old free new after r
   unfolding holdUnits fitOrSplit
   holds-raise q z M =
-      subst (λ (i : ℕ). Holds l i k v es count old free new after r) (sym z)
-      (makes-same 0 (needsOf 0 l 0 17) (needsOf 0 l 0 (length es)) (λ (t : Table). raiseUnits l (least t) (least2 t) es) (holdUnits l 0 k v es)
+      subst (λ (i : ℕ). FitsOrSplits l i k v es count old free new after r) (sym z)
+      (makes-same 0 2 (needsOf 0 0 (length es)) (λ (t : Table). raiseUnits l (least t) (least2 t) es) (holdUnits l 0 k v es)
       (λ (t : Table). stop (raise l (least t) (least2 t) es t)) (fitOrSplit l 0 es) count old free new after r
-      (ap (needsOf 0 l 0) (sym q)) (λ t. rw q) (λ t. rw q) M)
+      (ap (needsOf 0 0) (sym q)) (λ t. rw q) (λ t. rw q) M)
 
   pub holds-halve : length es ≡ 17 → (n ≡ 0 → ⊥)
-      → Makes n 1 (λ (t : Table). halveUnits l n (least t) es) (λ (t : Table). gains (firstKey 0 (drop 9 es)) (least t) (halve l n (least t) es t)) count old free new after r
-      → Holds l n k v es count old free new after r
+      → ChangesNode n 1 (λ (t : Table). halveUnits l n (least t) es) (λ (t : Table). gains (firstKey 0 (drop 9 es)) (least t) (halve l n (least t) es t)) count old free new after r
+      → FitsOrSplits l n k v es count old free new after r
   unfolding holdUnits fitOrSplit
   holds-halve q d M =
-      makes-same n 1 (needsOf 0 l n (length es)) (λ (t : Table). halveUnits l n (least t) es) (holdUnits l n k v es)
+      makes-same n 1 (needsOf 0 n (length es)) (λ (t : Table). halveUnits l n (least t) es) (holdUnits l n k v es)
       (λ (t : Table). gains (firstKey 0 (drop 9 es)) (least t) (halve l n (least t) es t)) (fitOrSplit l n es) count old free new after r
-      (sym (needs-inner 0 l n (length es) (omega arith) d)) (λ t. rw (q, ne-eqb n 0 d)) (λ t. rw (q, ne-eqb n 0 d)) M
+      (sym (needs-inner 0 n (length es) (omega arith) d)) (λ t. rw (q, ne-eqb n 0 d)) (λ t. rw (q, ne-eqb n 0 d)) M
 
 -- ---- the entry at its leaf
-module _ (need n k v count : ℕ) (es : List Entry) (l : ℕ) (y : N.Node) (S : Shows y l (insertEntry k v es)) (told : ℕ) (e : told ≡ needsOf need 0 n (y .len))
+module _ (need n k v count : ℕ) (es : List Entry) (l : ℕ) (y : N.Node) (S : Shows y l (insertEntry k v es)) (told : ℕ) (e : told ≡ needsOf need n (y .len))
     (old free new after : List ℕ) (r : Rise) (found : ℕ) (C : Counts free found) where
-  told-is : told ≡ needsOf need 0 n (length (insertEntry k v es))
-  told-is = e ∙ ap (needsOf need 0 n) (sym (S .len))
+  told-is : told ≡ needsOf need n (length (insertEntry k v es))
+  told-is = e ∙ ap (needsOf need n) (sym (S .len))
 
   spare-is : (t : Table) → free ≡ freeNumbers t → length t ≤ 256 → found ≡ spare t
   unfolding freeNumbers
   spare-is t q few = C .is _ (omega (arith, open-length t)) q
 
-  pub lands-held : told ≤ found → Holds 0 n k v (entriesOf y) count old free new after r → Lands need n k v count es old free new after r
+  pub lands-held : told ≤ found → FitsOrSplits 0 n k v (entriesOf y) count old free new after r → Lands need n k v count es old free new after r
   lands-held h H = record {
-    refuses = λ t q few. H .plain ∙ sym (le-ltb (spare t) (needsOf need 0 n (length (insertEntry k v es))) (omega (arith, told-is, spare-is t q few)));
+    refuses = λ t q few. H .plain ∙ sym (le-ltb (spare t) (needsOf need n (length (insertEntry k v es))) (omega (arith, told-is, spare-is t q few)));
     stays = λ f. clash f (H .plain);
-    held = λ _. subst (λ (ds : List Entry). Holds 0 n k v ds count old free new after r) (S .is) H;
+    held = λ _. subst (λ (ds : List Entry). FitsOrSplits 0 n k v ds count old free new after r) (S .is) H;
   }
 
   pub lands-refused : found < told → r .refused ≡ true → Refused count old free new after r → Lands need n k v count es old free new after r
   lands-refused h f F = record {
-    refuses = λ t q few. f ∙ sym (lt-ltb (spare t) (needsOf need 0 n (length (insertEntry k v es))) (omega (arith, told-is, spare-is t q few)));
+    refuses = λ t q few. f ∙ sym (lt-ltb (spare t) (needsOf need n (length (insertEntry k v es))) (omega (arith, told-is, spare-is t q few)));
     stays = λ _. F;
     held = λ g. clash f g;
   }
 
 -- ---- what a child gave up
 pub passes-gained : (l n : ℕ) (es : List Entry) (a : Rise) (d : ℕ) (y : N.Node) (old free new after : List ℕ) (r : Rise) → a .gains ≡ true
-    → Shows y d (insertEntry (a .key) (a .number) es) → Holds l n (a .key) (a .number) (entriesOf y) (a .count) old free new after r
+    → Shows y d (insertEntry (a .key) (a .number) es) → FitsOrSplits l n (a .key) (a .number) (entriesOf y) (a .count) old free new after r
     → PassesUp l n es a old free new after r
 passes-gained l n es a d y old free new after r g S H = record {
-  gained = λ _. subst (λ (ds : List Entry). Holds l n (a .key) (a .number) ds (a .count) old free new after r) (S .is) H;
+  gained = λ _. subst (λ (ds : List Entry). FitsOrSplits l n (a .key) (a .number) ds (a .count) old free new after r) (S .is) H;
   same = λ e. clash g e;
 }

@@ -1,13 +1,12 @@
 -- An insert that is not refused, on a table of `limit` views. Assumes nothing.
 use mathlib.Core.Path.{_≡_, refl, sym, ap, _∙_, subst}
-use mathlib.Core.Bool.{Bool, true, false, cond, _&&_}
+use mathlib.Core.Bool.{Bool, true, false, cond}
 use mathlib.Core.List.{[], _∷_}
 use Prim.Native.Nat.{ℕ, zero, suc, _<_, _≤_}
 use native.Mathlib.Omega.{arith}
 use lib.Dec.{eqb, leb}
 use lib.ListN.{length, take, drop}
 use borrow.Author.Tests.{leb-true}
-use Rattle.lists.proofs.Tests.{and-left, and-right}
 use Rattle.views.specs.Nodes.{entry, view, insertEntry}
 use Rattle.tree.specs.Tree.{Table, put, entriesAt, next, rootLevel, firstKey, child, records, least, least2}
 use Rattle.tree.specs.Step6.{top, Tree}
@@ -43,14 +42,13 @@ unfolding insertAt
 insert-ext zero n k v t = gain-ext 0 n k v t t (ext-same t)
 insert-ext (suc l) n k v t = pass-ext (suc l) n t (insertAt l (child t n k) k v t) (insert-ext l (child t n k) k v t)
 
-done-cases : (limit : ℕ) (u w : Table) (b : Bool) → (leb (next u) limit && leb (rootLevel u) 3) ≡ b → cond b (done u) (refusal 5) ≡ done w → (u ≡ w) × (next u ≤ limit) × (rootLevel u ≤ 3)
-done-cases limit u w true e h =
-    (cc, leb-true (next u) limit (and-left (leb (next u) limit) (leb (rootLevel u) 3) e), leb-true (rootLevel u) 3 (and-right (leb (next u) limit) (leb (rootLevel u) 3) e))
+done-cases : (limit : ℕ) (u w : Table) (b : Bool) → leb (next u) limit ≡ b → cond b (done u) (refusal 5) ≡ done w → (u ≡ w) × (next u ≤ limit)
+done-cases limit u w true e h = (cc, leb-true (next u) limit e)
 done-cases limit u w false e h = let z : _≡_ {A = ℕ} 0 1 = cc in absurd (omega arith)
 
-pub insert-done : (limit k v : ℕ) (t w : Table) → insert limit k v t ≡ done w → (inserted k v t ≡ w) × (next (inserted k v t) ≤ limit) × (rootLevel (inserted k v t) ≤ 3)
+pub insert-done : (limit k v : ℕ) (t w : Table) → insert limit k v t ≡ done w → (inserted k v t ≡ w) × (next (inserted k v t) ≤ limit)
 unfolding insert allowed
-insert-done limit k v t w h = done-cases limit (inserted k v t) w (leb (next (inserted k v t)) limit && leb (rootLevel (inserted k v t)) 3) refl h
+insert-done limit k v t w h = done-cases limit (inserted k v t) w (leb (next (inserted k v t)) limit) refl h
 
 insert-length : (limit k v : ℕ) (t u : Table) → length t ≡ limit → insert limit k v t ≡ done u → length u ≡ limit
 unfolding inserted
@@ -65,7 +63,6 @@ pub record Inserted (limit k v : ℕ) (t u : Table) : Type 0 where
   pub records : records u ≡ insertEntry k v (records t)
   pub long : length u ≡ limit
   pub numbers : next u ≤ limit
-  pub levels : rootLevel u ≤ 3
 
 pub insert-keeps : (limit k v : ℕ) (t u : Table) → Tree t → k < top → length t ≡ limit → insert limit k v t ≡ done u → Inserted limit k v t u
 insert-keeps limit k v t u g h e q =
@@ -77,5 +74,4 @@ insert-keeps limit k v t u g h e q =
       records = ap records (sym (d .0)) ∙ K .records;
       long = insert-length limit k v t u e q;
       numbers = subst (λ (w : Table). next w ≤ limit) (d .0) (d .1);
-      levels = subst (λ (w : Table). rootLevel w ≤ 3) (d .0) (d .2);
     }

@@ -265,9 +265,9 @@ same-leb a b c d f g =
     (λ (q : a ≤ b). le-leb a b q ∙ sym (le-leb c d (f q)))
     (below-or-not b a)
 
--- 5 exactly when fewer numbers below the limit are free or unused than are needed, or node 0 of level 3 would split
+-- 5 exactly when fewer numbers below the limit are free or unused than are needed
 pub insert-exact : (limit k v : ℕ) (t : Table) → Tree t → k < top → next t ≤ limit
-    → insert limit k v t ≡ cond (leb (nodes t + needs (rootLevel t) 0 k v t) limit && leb (rootLevel t + bit (spills (rootLevel t) 0 k v t)) 3) (done (inserted k v t)) (refusal 5)
+    → insert limit k v t ≡ cond (leb (nodes t + needs (rootLevel t) 0 k v t) limit) (done (inserted k v t)) (refusal 5)
 unfolding insert allowed
 insert-exact limit k v t g h q =
     let W = inserted-takes limit k v t g h in
@@ -275,4 +275,4 @@ insert-exact limit k v t g h q =
     let need = nodes t + needs (rootLevel t) 0 k v t in
     let e : leb (next u) limit ≡ leb need limit
     = same-leb (next u) limit need limit (λ p. omega (arith, nodes-next u, W .count)) (λ p. omega (arith, W .numbers q)) in
-    rw (e, W .level)
+    rw e

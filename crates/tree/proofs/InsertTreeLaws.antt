@@ -1,14 +1,13 @@
 -- What the code of an insert answers where the arrays show a tree: the way up from the leaf, and when it is refused. Assumes nothing.
 use mathlib.Core.Path.{_≡_, refl, sym, ap, ap₂, _∙_, subst}
 use mathlib.Core.Bool.{Bool, true, false, cond, _&&_}
-use mathlib.Core.Logic.{_⊎_, inl, inr, ⊎-elim}
+use mathlib.Core.Logic.{⊎-elim}
 use mathlib.Core.List.{List, _++_, append-nil}
 use Prim.Native.Nat.{ℕ, zero, suc, _+_, _<_, _≤_}
 use native.Mathlib.Omega.{arith}
 use lib.Dec.{leb, ltb}
 use lib.ListN.{length, take, drop, length-append}
 use borrow.Author.Tests.{ltb-true, ltb-false, le-leb, lt-leb, lt-ltb, le-ltb, ne-eqb}
-use Rattle.lists.specs.Lists.{bit}
 use Rattle.lists.proofs.Tests.{cases, clash, below-or-not}
 use Rattle.chip.specs.Geometry.{Geometry}
 use Rattle.chip.specs.Chip.{pagesOf}
@@ -22,7 +21,7 @@ use Rattle.tree.specs.InsertUnits.{gainUnits, passUnits, insertUnitsAt, 
 use Rattle.tree.specs.Free.{freeNumbers}
 use Rattle.tree.specs.Shown.{tableIn}
 use Rattle.tree.specs.UpdateCode.{UnitsPushed, FrontKept, Ready, Stepped, Inserts}
-use Rattle.tree.specs.InsertCode.{spare, needsOf, needsFrom, answers, Holds, Lands, PassesUp, Way, Outcome, Rises}
+use Rattle.tree.specs.InsertCode.{spare, needsOf, needsFrom, answers, FitsOrSplits, Lands, PassesUp, InsertWay, Outcome, Rises}
 use Rattle.tree.specs.declared.insert.Rise.{Rise}
 use Rattle.tree.specs.declared.insert.Inserted.{Inserted}
 use Rattle.tree.proofs.Tables.{at-other, next-length}
@@ -36,7 +35,8 @@ use Rattle.tree.proofs.InsertDone.{insert-done}
 use Rattle.tree.proofs.InsertUnits.{insert-units, insert-valid}
 use Rattle.tree.proofs.PushLaws.{written-two, front-same, front-then}
 use Rattle.tree.proofs.ShownLaws.{shown-pushed, pushed-good}
-use Rattle.tree.proofs.InsertCodeLaws.{needs-none, needs-root, needs-high, needs-less, spare-most, numbers-left}
+use Rattle.tree.proofs.Height.{thick-level, inserted-level}
+use Rattle.tree.proofs.InsertCodeLaws.{needs-less, numbers-left}
 
 -- ---- what is not on the way stays
 gain-other : (l n k v : ℕ) (u : Table) (j : ℕ) → (n ≡ j → ⊥) → (n ≡ 0 → ⊥) → there (at u j) ≡ 1 → at (tableOf (gain l n k v u)) j ≡ at u j
@@ -79,72 +79,50 @@ module _ (k v : ℕ) (t : Table) (j : ℕ) (p : there (at t j) ≡ 1) where
 
 -- ---- how many numbers an insert needs
 -- what a node but node 0 adds to what its child needs
-inner-needs : (b : Bool) (need l n len : ℕ) → (n ≡ 0 → ⊥) → cond b (needsOf need l n len) 0 ≡ takes n (b && ltb 16 len) + cond (b && ltb 16 len) need 0
-inner-needs false need l n len d = refl
-inner-needs true need l n len d =
+inner-needs : (b : Bool) (need n len : ℕ) → (n ≡ 0 → ⊥) → cond b (needsOf need n len) 0 ≡ takes n (b && ltb 16 len) + cond (b && ltb 16 len) need 0
+inner-needs false need n len d = refl
+inner-needs true need n len d =
     ⊎-elim
     (λ (q : 16 < len). rw (lt-leb len 16 q, lt-ltb 16 len q, ne-eqb n 0 d) (omega arith))
     (λ (q : len ≤ 16). rw (le-leb len 16 q, le-ltb 16 len q))
     (below-or-not 16 len)
 
--- and node 0, where s numbers are there
-record RootNeeds (s a l len : ℕ) (b : Bool) : Type 0 where
-  over : s < a + cond b (needsOf 0 l 0 len) 0 → (s < a + takes 0 (b && ltb 16 len)) ⊎ (3 < l + bit (b && ltb 16 len))
-  within : a + cond b (needsOf 0 l 0 len) 0 ≤ s → (a + takes 0 (b && ltb 16 len) ≤ s) × (l + bit (b && ltb 16 len) ≤ 3)
-
-root-step : (s a l len : ℕ) (b : Bool) → s ≤ 256 → l ≤ 3 → RootNeeds s a l len b
-root-step s a l len false h low = record { over = λ q. inl q; within = λ q. (q, omega arith) }
-root-step s a l len true h low =
+-- and node 0
+root-step : (b : Bool) (len : ℕ) → cond b (needsOf 0 0 len) 0 ≡ takes 0 (b && ltb 16 len)
+root-step false len = refl
+root-step true len =
     ⊎-elim
-    (λ (q : 16 < len).
-    let x : takes 0 (ltb 16 len) ≡ 2 = rw (lt-ltb 16 len q) in
-    let y : bit (ltb 16 len) ≡ 1 = rw (lt-ltb 16 len q) in
-    ⊎-elim
-    (λ (p : l < 3). let e = needs-root 0 l 0 len q refl p in record { over = λ r. inl (omega arith); within = λ r. (omega arith, omega arith) })
-    (λ (p : 3 ≤ l). let e = needs-high 0 l 0 len q refl p in record { over = λ r. inr (omega arith); within = λ r. absurd (omega arith) })
-    (below-or-not l 3))
-    (λ (q : len ≤ 16).
-    let x : takes 0 (ltb 16 len) ≡ 0 = rw (le-ltb 16 len q) in
-    let y : bit (ltb 16 len) ≡ 0 = rw (le-ltb 16 len q) in
-    let e = needs-none 0 l 0 len q in
-    record { over = λ r. inl (omega arith); within = λ r. (omega arith, omega arith) })
+    (λ (q : 16 < len). rw (lt-leb len 16 q, lt-ltb 16 len q))
+    (λ (q : len ≤ 16). rw (le-leb len 16 q, le-ltb 16 len q))
     (below-or-not 16 len)
 
 module _ (k v : ℕ) (t : Table) where
   -- below node 0
   path-needs : (need l n : ℕ) → Leads l n k t → l < rootLevel t → needsFrom need l n k v t ≡ needs l n k v t + cond (spills l n k v t) need 0
-  path-needs need zero n h r = inner-needs true need 0 n (length (insertEntry k v (entriesAt t n))) (level-apart 0 n k 0 t h r)
+  path-needs need zero n h r = inner-needs true need n (length (insertEntry k v (entriesAt t n))) (level-apart 0 n k 0 t h r)
   path-needs need (suc l) n h r =
       let c = child t n k in
       let len = suc (length (entriesAt t n)) in
-      path-needs (needsOf need (suc l) n len) l c (h .1) (omega arith)
-      ∙ omega (arith, inner-needs (spills l c k v t) need (suc l) n len (level-apart (suc l) n k 0 t h r))
+      path-needs (needsOf need n len) l c (h .1) (omega arith)
+      ∙ omega (arith, inner-needs (spills l c k v t) need n len (level-apart (suc l) n k 0 t h r))
 
   -- from node 0 of level l
-  root-needs : (s l : ℕ) → Leads l 0 k t → l ≡ rootLevel t → s ≤ 256 → l ≤ 3
-      → (s < needsFrom 0 l 0 k v t → (s < needs l 0 k v t) ⊎ (3 < l + bit (spills l 0 k v t)))
-      × (needsFrom 0 l 0 k v t ≤ s → (needs l 0 k v t ≤ s) × (l + bit (spills l 0 k v t) ≤ 3))
-  root-needs s zero h r hs low =
-      let R = root-step s 0 0 (length (insertEntry k v (entriesAt t 0))) true hs low in (
-        λ q. ⊎-elim (λ x. inl (omega arith)) (λ x. inr x) (R .over (omega arith)),
-        λ q. let w = R .within (omega arith) in (omega (arith, w .0), w .1),
-      )
-  root-needs s (suc l) h r hs low =
+  root-needs : (l : ℕ) → Leads l 0 k t → l ≡ rootLevel t → needsFrom 0 l 0 k v t ≡ needs l 0 k v t
+  root-needs zero h r = root-step true (length (insertEntry k v (entriesAt t 0)))
+  root-needs (suc l) h r =
       let c = child t 0 k in
       let len = suc (length (entriesAt t 0)) in
-      let e = path-needs (needsOf 0 (suc l) 0 len) l c (h .1) (omega arith) in
-      let R = root-step s (needs l c k v t) (suc l) len (spills l c k v t) hs low in
-      (λ q. R .over (omega arith), λ q. R .within (omega arith))
+      path-needs (needsOf 0 0 len) l c (h .1) (omega arith) ∙ omega (arith, root-step (spills l c k v t) len)
 
 -- ---- one node of a table gains an entry
-gain-outcome : (need l n k v count : ℕ) (u : Table) → length u ≤ 256 → there (at u n) ≡ 1 → needsOf need l n (length (insertEntry k v (entriesAt u n))) ≤ spare u
+gain-outcome : (need l n k v count : ℕ) (u : Table) → length u ≤ 256 → there (at u n) ≡ 1 → needsOf need n (length (insertEntry k v (entriesAt u n))) ≤ spare u
     → (old free new after : List ℕ) (r : Rise) → free ≡ freeNumbers u → count + length (gainUnits l n k v u) ≤ 960
-    → Holds l n k v (insertEntry k v (entriesAt u n)) count old free new after r → Outcome need u (gainUnits l n k v u) (gain l n k v u) count old new after r
+    → FitsOrSplits l n k v (insertEntry k v (entriesAt u n)) count old free new after r → Outcome need u (gainUnits l n k v u) (gain l n k v u) count old new after r
 unfolding gain gainUnits
 gain-outcome need l n k v count u few on h old free new after r e room H =
     let es = insertEntry k v (entriesAt u n) in
     let K = numbers-left need l n es u few on h in
-    record { went = H .is u e few on (omega (arith, needs-less need l n (length es))) room; long = K .long; left = K .left }
+    record { went = H .is u e few on (omega (arith, needs-less need n (length es))) room; long = K .long; left = K .left }
 
 -- ---- the way up
 -- the child gave up nothing
@@ -173,7 +151,7 @@ then-outcome need t u xs ys up count i old mid new after r w h q O =
 
 -- the same node, told of other names
 holds-same : (l n i j p q count : ℕ) (es ds : List Entry) (old free new after : List ℕ) (r : Rise) → i ≡ j → p ≡ q → es ≡ ds
-    → Holds l n i p (insertEntry i p es) count old free new after r → Holds l n j q (insertEntry j q ds) count old free new after r
+    → FitsOrSplits l n i p (insertEntry i p es) count old free new after r → FitsOrSplits l n j q (insertEntry j q ds) count old free new after r
 holds-same l n i j p q count es ds old free new after r h₁ h₂ h₃ h = rw (← h₁, ← h₂, ← h₃) h
 
 -- ---- the arrays of a state
@@ -198,7 +176,7 @@ module _ (g : Geometry) (image lens slots : List ℕ) (limit : ℕ) (hl : limit 
     refuses = λ e. L .refuses t e few;
     is =
         λ b e W h. gain-outcome need 0 n k v count t few (ap there (leads-view 0 n k t (W .leads)))
-        (ltb-false (spare t) (needsOf need 0 n (length (insertEntry k v (entriesAt t n)))) (sym (L .refuses t e few) ∙ b)) old free new after r e h (L .held b);
+        (ltb-false (spare t) (needsOf need n (length (insertEntry k v (entriesAt t n)))) (sym (L .refuses t e few) ∙ b)) old free new after r e h (L .held b);
   }
 
   pub rises-leaf : (need n : ℕ) (new after : List ℕ) (r : Rise) (l : ℕ) (es : List Entry) → l ≡ 0 → es ≡ entriesAt t n → count ≤ 960 → Lands need n k v count es old free new after r
@@ -208,7 +186,7 @@ module _ (g : Geometry) (image lens slots : List ℕ) (limit : ℕ) (hl : limit 
       (leaf-rises need n new after r room (subst (λ (ds : List Entry). Lands need n k v count ds old free new after r) e L))
 
   -- ---- from a child to its parent
-  way-child : (m n : ℕ) → Way (suc m) n k v t → Way m (child t n k) k v t
+  way-child : (m n : ℕ) → InsertWay (suc m) n k v t → InsertWay m (child t n k) k v t
   way-child m n W = record { leads = W .leads .1; fresh = W .fresh .1; low = omega (arith, W .low) }
 
   module _ (need m n : ℕ) where
@@ -217,10 +195,10 @@ module _ (g : Geometry) (image lens slots : List ℕ) (limit : ℕ) (hl : limit 
 
     -- what the child is told
     abbrev told : ℕ
-    told = needsOf need (suc m) n (suc (length (entriesAt t n)))
+    told = needsOf need n (suc (length (entriesAt t n)))
 
     -- an insert under the child leaves the node
-    node-kept : Way (suc m) n k v t → at (tableOf (insertAt m (child t n k) k v t)) n ≡ at t n
+    node-kept : InsertWay (suc m) n k v t → at (tableOf (insertAt m (child t n k) k v t)) n ≡ at t n
     node-kept W =
         let vn = leads-view (suc m) n k t (W .leads) in
         insert-other k v t n (ap there vn) m (child t n k) (W .leads .1) (omega (arith, W .low)) (omega (arith, ap levelOf vn))
@@ -241,9 +219,9 @@ module _ (g : Geometry) (image lens slots : List ℕ) (limit : ℕ) (hl : limit 
             (A .is b e (way-child m n W) (omega (arith, length-append xs (passUnits (suc m) n up))));
       }
 
-      module _ (new after : List ℕ) (r₂ : Rise) (y : r .gains ≡ true) (H : Holds (suc m) n (r .key) (r .number) (insertEntry (r .key) (r .number) (entriesAt t n)) (r .count) mid fewer new after r₂) where
+      module _ (new after : List ℕ) (r₂ : Rise) (y : r .gains ≡ true) (H : FitsOrSplits (suc m) n (r .key) (r .number) (insertEntry (r .key) (r .number) (entriesAt t n)) (r .count) mid fewer new after r₂) where
         -- the node gains what its child gave up
-        up-outcome : Way (suc m) n k v t → (xs : List U.Unit) (up : Up) → insertAt m (child t n k) k v t ≡ up → count + length (xs ++ passUnits (suc m) n up) ≤ 960
+        up-outcome : InsertWay (suc m) n k v t → (xs : List U.Unit) (up : Up) → insertAt m (child t n k) k v t ≡ up → count + length (xs ++ passUnits (suc m) n up) ≤ 960
             → Outcome told t xs up count old mid fewer r → Outcome need t (xs ++ passUnits (suc m) n up) (pass (suc m) n up) count old new after r₂
         up-outcome W xs (stop u) e room O = clash y (O .went .gains)
         up-outcome W xs (gains k′ m′ u) e room O =
@@ -254,7 +232,7 @@ module _ (g : Geometry) (image lens slots : List ℕ) (limit : ℕ) (hl : limit 
             = sym (ap (λ (w : View). length (insertEntry k′ m′ (entriesIn w))) en ∙ W .fresh .0 k′ m′ u e) in
             then-outcome need t u xs ys (gain (suc m) n k′ m′ u) count (r .count) old mid new after r₂ (X .units) (A .keeps .room) (O .long)
             (gain-outcome need (suc m) n k′ m′ (r .count) u (omega (arith, O .long, few)) (ap there (en ∙ leads-view (suc m) n k t (W .leads)))
-            (subst (λ (a : ℕ). needsOf need (suc m) n a ≤ spare u) one (O .left refl)) mid fewer new after r₂ (X .numbers)
+            (subst (λ (a : ℕ). needsOf need n a ≤ spare u) one (O .left refl)) mid fewer new after r₂ (X .numbers)
             (omega (arith, X .units .size, length-append xs ys))
             (holds-same (suc m) n (r .key) k′ (r .number) m′ (r .count) (entriesAt t n) (entriesAt u n) mid fewer new after r₂ (X .key) (X .number) (ap entriesIn (sym en)) H))
 
@@ -281,13 +259,13 @@ module _ (g : Geometry) (image lens slots : List ℕ) (limit : ℕ) (hl : limit 
           (subst (λ (b : Rise). Rises g image lens slots limit (suc m) n need k v count old free mid fewer b) (sym (s .2)) (rises-stop y))))
 
   pub rises-pass : (need l m n c told : ℕ) (es : List Entry) (mid fewer new after : List ℕ) (r a : Rise) → l ≡ suc m → es ≡ entriesAt t n → c ≡ below k 0 es
-      → told ≡ needsOf need l n (suc (length es)) → Rises g image lens slots limit m c told k v count old free mid fewer r → PassesUp l n es r mid fewer new after a
+      → told ≡ needsOf need n (suc (length es)) → Rises g image lens slots limit m c told k v count old free mid fewer r → PassesUp l n es r mid fewer new after a
       → Rises g image lens slots limit l n need k v count old free new after a
   rises-pass need l m n c told es mid fewer new after r a z e q w A P =
-      let w′ : told ≡ needsOf need (suc m) n (suc (length (entriesAt t n))) = w ∙ ap₂ (λ (i : ℕ) (ds : List Entry). needsOf need i n (suc (length ds))) z e in
+      let w′ : told ≡ needsOf need n (suc (length (entriesAt t n))) = w ∙ ap (λ (ds : List Entry). needsOf need n (suc (length ds))) e in
       subst (λ (i : ℕ). Rises g image lens slots limit i n need k v count old free new after a) (sym z)
       (rises-up need m n mid fewer r
-      (subst (λ (i : ℕ). Rises g image lens slots limit m i (needsOf need (suc m) n (suc (length (entriesAt t n)))) k v count old free mid fewer r) (q ∙ ap (below k 0) e)
+      (subst (λ (i : ℕ). Rises g image lens slots limit m i (needsOf need n (suc (length (entriesAt t n)))) k v count old free mid fewer r) (q ∙ ap (below k 0) e)
       (subst (λ (i : ℕ). Rises g image lens slots limit m c i k v count old free mid fewer r) w′ A))
       new after a
       (subst (λ (i : ℕ). PassesUp i n (entriesAt t n) r mid fewer new after a) z (subst (λ (ds : List Entry). PassesUp l n ds r mid fewer new after a) e P)))
@@ -297,29 +275,30 @@ module _ (g : Geometry) (image lens slots : List ℕ) (limit : ℕ) (hl : limit 
     abbrev need : ℕ
     need = needsFrom 0 (rootLevel t) 0 k v t
 
-    way : Way (rootLevel t) 0 k v t
+    way : InsertWay (rootLevel t) 0 k v t
     way = record { leads = leads k t (R .tree) hk; fresh = fresh k v t (R .tree) hk; low = omega arith }
 
-    exact : insert limit k v t ≡ cond (leb (nodes t + needs (rootLevel t) 0 k v t) limit && leb (rootLevel t + bit (spills (rootLevel t) 0 k v t)) 3) (done (inserted k v t)) (refusal 5)
+    exact : insert limit k v t ≡ cond (leb (nodes t + needs (rootLevel t) 0 k v t) limit) (done (inserted k v t)) (refusal 5)
     exact = insert-exact limit k v t (R .tree) hk (omega (arith, next-length t, shown-length g image lens slots limit count old))
 
     counts : nodes t + spare t ≡ limit
     counts = open-count t ∙ shown-length g image lens slots limit count old
 
     too-few : spare t < need → insert limit k v t ≡ refusal 5
-    too-few h =
-        let N = nodes t + needs (rootLevel t) 0 k v t in
-        exact
-        ∙ ⊎-elim
-        (λ q. rw (lt-leb N limit (omega (arith, counts))))
-        (λ q. cases (leb N limit) (λ b. rw (b, lt-leb (rootLevel t + bit (spills (rootLevel t) 0 k v t)) 3 q)) (λ b. rw b))
-        (root-needs k v t (spare t) (rootLevel t) (way .leads) refl (omega (arith, spare-most t, few)) (R .levels) .0 h)
+    too-few h = exact ∙ rw (lt-leb (nodes t + needs (rootLevel t) 0 k v t) limit (omega (arith, counts, root-needs k v t (rootLevel t) (way .leads) refl)))
 
     enough : need ≤ spare t → insert limit k v t ≡ done (inserted k v t)
-    enough h =
-        let q = root-needs k v t (spare t) (rootLevel t) (way .leads) refl (omega (arith, spare-most t, few)) (R .levels) .1 h in
-        exact
-        ∙ rw (le-leb (nodes t + needs (rootLevel t) 0 k v t) limit (omega (arith, counts, q .0)), le-leb (rootLevel t + bit (spills (rootLevel t) 0 k v t)) 3 (q .1))
+    enough h = exact ∙ rw (le-leb (nodes t + needs (rootLevel t) 0 k v t) limit (omega (arith, counts, root-needs k v t (rootLevel t) (way .leads) refl)))
+
+    -- node 0 is at level 3 or below, and stays there
+    high : nodes t ≤ 256
+    high = omega (arith, counts)
+
+    low : rootLevel t ≤ 3
+    low = thick-level t (R .tree) (R .thick) high
+
+    low-after : rootLevel (inserted k v t) ≤ 3
+    low-after = inserted-level k v t (R .tree) hk (R .thick) high
 
     -- it is made
     module _ (new after : List ℕ) (a : Rise) (A : Rises g image lens slots limit (rootLevel t) 0 0 k v count old free new after a) (b : a .refused ≡ false) where
@@ -328,7 +307,7 @@ module _ (g : Geometry) (image lens slots : List ℕ) (limit : ℕ) (hl : limit 
 
       -- at most 60 units, which obey the layout
       short : length (insertUnits k v t) ≤ 60
-      short = insert-units k v t (R .tree) hk (R .levels) .few (insert-done limit k v t (inserted k v t) made .2)
+      short = insert-units k v t (R .tree) hk low .few low-after
 
       outcome : Outcome 0 t (insertUnits k v t) (insertAt (rootLevel t) 0 k v t) count old new after a
       unfolding insertUnits
@@ -339,14 +318,14 @@ module _ (g : Geometry) (image lens slots : List ℕ) (limit : ℕ) (hl : limit 
       stepped =
           let d = insert-done limit k v t (inserted k v t) made in
           let xs = insertUnits k v t in
-          let ok = insert-valid limit k v t (R .tree) (R .words) hk hv (omega arith) (R .levels) (d .2) (d .1) .units in
+          let ok = insert-valid limit k v t (R .tree) (R .words) hk hv (omega arith) low low-after (d .1) .units in
           let X = outcome .went in
           let P = X .units in
           let fits : count + length xs ≤ 960 = omega (arith, short, R .room) in
           record {
             table =
                 ap₂ (λ (i : ℕ) (y : List ℕ). tableIn g image lens slots limit i y) (P .size) (P .bytes)
-                ∙ shown-pushed g limit (pagesOf g image) lens slots count old us xs (R .units) ok fits (P .long) ∙ insert-units k v t (R .tree) hk (R .levels) .is;
+                ∙ shown-pushed g limit (pagesOf g image) lens slots count old us xs (R .units) ok fits (P .long) ∙ insert-units k v t (R .tree) hk low .is;
             numbers = X .numbers;
             units =
                 ap₂ (λ (i : ℕ) (y : List ℕ). decodes limit i y) (P .size) (P .bytes)

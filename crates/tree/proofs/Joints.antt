@@ -18,7 +18,7 @@ use Rattle.tree.specs.Step6.{top, times, Tree}
 use Rattle.tree.specs.Delete.{Down, kept, lost, leaves, alone, two, neighbours, settle, mend, deleteAt, collapsed, delete}
 use Rattle.tree.specs.Units.{afterUnits}
 use Rattle.tree.specs.DeleteUnits.{settleUnits, mendUnits, deleteUnitsAt, overUnits, topUnits, deleteUnitsFrom, deleteUnits}
-use Rattle.tree.specs.DeleteCode.{Makes, Settling, Joint, Way, TakesOver, Collapsing, Topping}
+use Rattle.tree.specs.DeleteCode.{UnitsMake, Settling, Joint, DeleteWay, TakesOver, Collapsing, Topping}
 use Rattle.tree.proofs.Entries.{Between, between-left}
 use Rattle.tree.proofs.Tables.{next-length, put-there}
 use Rattle.tree.proofs.Least.{there-length, put-length}
@@ -118,7 +118,7 @@ module _ (limit k : ℕ) (t : Table) (ht : length t ≤ limit) (hk : k < top) (t
         let zs = map (entryOf l) (before ++ (x ∷ after)) in
         let R : Repaired u (settle l n (neighbours k zs) u) (settleUnits n (neighbours k zs) u) l lo hi n before x after
         = repaired u l lo hi n k x thin before after low high (changed .sub) once-u in
-        let M : Makes limit u (settleUnits n (neighbours k zs) u) (leaves (settle l n (neighbours k zs) u)) = record {
+        let M : UnitsMake limit u (settleUnits n (neighbours k zs) u) (leaves (settle l n (neighbours k zs) u)) = record {
           after = R .units;
           valid = known-valid limit t ht (All-map (λ z p. becomes-there (deleteEntry k) t u (suc l) lo hi olds news changed h (z .node) p) (R .known)) (R .valid small-u);
         } in
@@ -126,7 +126,7 @@ module _ (limit k : ℕ) (t : Table) (ht : length t ≤ limit) (hk : k < top) (t
           node = at-kid (suc l) lo hi u news (changed .sub);
           left = λ bs a b ds z. both-at picked bs a b ds (ap (neighbours k) (sym tops-u) ∙ z) .0;
           right = λ bs a b ds z. both-at picked bs a b ds (ap (neighbours k) (sym tops-u) ∙ z) .1;
-          makes = subst (λ (es : List Entry). Makes limit u (settleUnits n (neighbours k es) u) (leaves (settle l n (neighbours k es) u))) (sym tops-u) M;
+          makes = subst (λ (es : List Entry). UnitsMake limit u (settleUnits n (neighbours k es) u) (leaves (settle l n (neighbours k es) u))) (sym tops-u) M;
         }
 
     joint : Joint limit l n (number l (kid .sub)) k t (leaves (deleteAt l (number l (kid .sub)) k t))
@@ -135,15 +135,15 @@ module _ (limit k : ℕ) (t : Table) (ht : length t ≤ limit) (hk : k < top) (t
         = rw (map-append (entryOf l) before (x ∷ after), map-append (entryOf l) before (kid ∷ after), g .becomes .same) in
         record { same = tops-u ∙ back ∙ sym (ap entriesOf (h .0 .is)); settling = settling }
 
-  way-sub : (l lo hi : ℕ) (s : Shape l) → Sub 16 t l lo hi s → ((j : ℕ) → times j (nums l s) ≤ 1) → lo ≤ k → k < hi → Way limit l (number l s) k t
+  way-sub : (l lo hi : ℕ) (s : Shape l) → Sub 16 t l lo hi s → ((j : ℕ) → times j (nums l s) ≤ 1) → lo ≤ k → k < hi → DeleteWay limit l (number l s) k t
   way-sub zero lo hi s h once low high =
       let G = deletes k t 0 lo hi s h once low high in
       (ap there (h .0 .is), record { after = G .units; valid = known-valid limit t ht (G .known) (G .valid hk ts) })
   way-sub (suc l) lo hi s h once low high = step (under t l lo hi (s .number) k (s .kids) h low high) (λ a b x. way-sub l a b x)
     where
       step : (w : Under t l lo hi (s .number) k (s .kids))
-          → ((a b : ℕ) (x : Shape l) → Sub 16 t l a b x → ((j : ℕ) → times j (nums l x) ≤ 1) → a ≤ k → k < b → Way limit l (number l x) k t)
-          → Way limit (suc l) (s .number) k t
+          → ((a b : ℕ) (x : Shape l) → Sub 16 t l a b x → ((j : ℕ) → times j (nums l x) ≤ 1) → a ≤ k → k < b → DeleteWay limit l (number l x) k t)
+          → DeleteWay limit (suc l) (s .number) k t
       step w ih =
           let sub = under-sub t l lo hi (s .number) k (s .kids) w in
           let o : (j : ℕ) → times j (nums l (w .kid .sub)) ≤ 1 = λ j. omega (arith, once j, under-count t l lo hi (s .number) k (s .kids) w j) in
@@ -165,7 +165,7 @@ mend-after limit l n c k (lost t) S =
     (λ (q : 8 ≤ length (entriesAt t c)). rw (le-ltb (length (entriesAt t c)) 8 q) (after-none t))
     (below-or-not (length (entriesAt t c)) 8)
 
-way-after : (limit l n k : ℕ) (t : Table) → Way limit l n k t → afterUnits (deleteUnitsAt l n k t) t ≡ leaves (deleteAt l n k t)
+way-after : (limit l n k : ℕ) (t : Table) → DeleteWay limit l n k t → afterUnits (deleteUnitsAt l n k t) t ≡ leaves (deleteAt l n k t)
 unfolding deleteAt deleteUnitsAt
 way-after limit zero n k t w = w .1 .after
 way-after limit (suc l) n k t w =
@@ -201,16 +201,16 @@ collapsing limit (suc l) t s g h ts ht = step (s .number) (s .kids) g (λ u x. c
 
 -- ---- a delete
 pub record Planned (limit k : ℕ) (t : Table) : Type 0 where
-  pub way : Way limit (rootLevel t) 0 k t
+  pub way : DeleteWay limit (rootLevel t) 0 k t
   pub topping : (l : ℕ) → rootLevel t ≡ suc l → Topping limit l (child t 0 k) k (deleteAt l (child t 0 k) k t)
   pub few : length (deleteUnits k t) ≤ 57
 
 module _ (limit k : ℕ) (t : Table) (g : Tree t) (ts : Smalls t) (hk : k < top) (low : rootLevel t ≤ 3) (ht : length t ≤ limit) where
-  way : Way limit (rootLevel t) 0 k t
+  way : DeleteWay limit (rootLevel t) 0 k t
   way =
       let T = shape-of t g in
       rw (level-at t T)
-      (subst (λ (n : ℕ). Way limit (T .level) n k t) (T .root)
+      (subst (λ (n : ℕ). DeleteWay limit (T .level) n k t) (T .root)
       (way-sub limit k t ht hk ts (T .level) 0 top (T .shape) (T .sub) (λ j. omega (arith, T .once j, there-le (at t j))) (omega arith) hk))
 
   collapsing-end : Collapsing limit (rootLevel t) (leaves (deleteAt (rootLevel t) 0 k t))
@@ -231,7 +231,7 @@ module _ (limit k : ℕ) (t : Table) (g : Tree t) (ts : Smalls t) (hk : k < top)
       let xs = deleteUnitsAt l (child t 0 k) k t in
       let ys = topUnits l (child t 0 k) k (deleteAt l (child t 0 k) k t) in
       let z = collapsed (suc l) (leaves (mend l 0 c k d)) in
-      let W : Way limit (suc l) 0 k t = subst (λ (i : ℕ). Way limit i 0 k t) e way in
+      let W : DeleteWay limit (suc l) 0 k t = subst (λ (i : ℕ). DeleteWay limit i 0 k t) e way in
       let ez : delete k t ≡ z = rw e refl in
       let eu : deleteUnits k t ≡ xs ++ ys = rw e refl in
       let made : afterUnits (xs ++ ys) t ≡ z = subst (λ (us : List U.Unit). afterUnits us t ≡ z) eu (delete-units k t g hk low .is ∙ ez) in

@@ -8,6 +8,7 @@ pub use Rattle.tree.proofs.LayerFacts.{partsFor, layersAbove, layers-ze
 pub use Rattle.tree.proofs.InsertLaws.{inserted-keeps, inserted-filled, inserted-thick, find-inserted, find-inserted-other}
 pub use Rattle.tree.proofs.InsertDone.{insert-done, Inserted, insert-keeps}
 pub use Rattle.tree.proofs.InsertNumbers.{insert-exact}
+pub use Rattle.tree.proofs.Height.{root-entries, thick-level, inserted-level}
 pub use Rattle.tree.proofs.DeleteLaws.{delete-keeps, delete-level, delete-thick, delete-root, delete-fewer, delete-next, find-deleted, find-deleted-other}
 pub use Rattle.tree.proofs.Validity.{Small, Smalls, Valids}
 pub use Rattle.tree.proofs.InsertUnits.{insert-units, insert-valid}
@@ -15,4 +16,3 @@ pub use Rattle.tree.proofs.DeleteUnits.{DeleteMade, delete-units, delet
 pub use Rattle.tree.proofs.ThickLaws.{first-thick}
 pub use Rattle.tree.proofs.ThinLaws.{thin-thick, thick-thin, thick-zero, first-not-thin}
 pub use Rattle.tree.proofs.RebuildLaws.{TreeAnew, rebuild-tree, rebuild-small, rebuild-next, rebuild-length, rebuild-beyond, rebuild-below}
-pub use Rattle.tree.proofs.Sound.{Sound, first-sound, insert-sound, delete-sound}

@@ -42,6 +42,7 @@ pub mod Vacated
 pub mod FewestNodes
 pub mod RebuildLaws
 pub mod RebuildExamples
+pub mod HeightExamples
 pub mod DeleteLaws
 pub mod InsertAt
 pub mod InsertRoot
@@ -50,7 +51,6 @@ pub mod InsertNumbers
 pub mod InsertUnits
 pub mod InsertDone
 pub mod Height
-pub mod Sound
 pub mod Merge
 pub mod DeleteUnits
 pub mod Joints

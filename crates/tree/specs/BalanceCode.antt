@@ -29,15 +29,15 @@ abbrev pub lastOf : List Entry → Entry
 lastOf es = firstOf (drop (length es - 1) es)
 
 -- the numbers of the three nodes fit their field
-pub record Named (p : Pair) : Type 0 where
+pub record NumbersFit (p : Pair) : Type 0 where
   pub parent : p .parent < 65536
   pub left : p .left < 65536
   pub right : p .right < 65536
 
 -- whether `more` units of them fit behind count units
 pub record HasRoom (count more : ℕ) (p : Pair) (r : Bool) : Type 0 where
-  pub fits : r ≡ true → (count + more ≤ 960) × Named p
-  pub full : r ≡ false → count + more ≤ 960 → Named p → ⊥
+  pub fits : r ≡ true → (count + more ≤ 960) × NumbersFit p
+  pub full : r ≡ false → count + more ≤ 960 → NumbersFit p → ⊥
 
 -- ---- the answer of a node that keeps its entries
 pub record Keeps (a : Bool) (n c : ℕ) (r : Fall) : Type 0 where
@@ -52,7 +52,7 @@ pub record Shares (p : Pair) (len : ℕ) (xs ys : List Entry) (count : ℕ) (old
   pub keeps : FrontKept count old (r .count) new
   pub there : r .absent ≡ false
   pub stays : (r .lost ≡ false) × (r .len ≡ len)
-  pub pushed : Named p → count + 4 ≤ 960 → UnitsPushed (shareUnits (p .parent) (leftOf p) (rightOf p) xs ys) count old new (r .count)
+  pub pushed : NumbersFit p → count + 4 ≤ 960 → UnitsPushed (shareUnits (p .parent) (leftOf p) (rightOf p) xs ys) count old new (r .count)
 
 -- the units of both: together 16 or fewer they join, otherwise an entry moves over
 abbrev pub pairUnits : Pair → List Entry → List Entry → List U.Unit
@@ -65,8 +65,8 @@ pairUnits p xs ys =
 pub record Balances (p : Pair) (len : ℕ) (xs ys : List Entry) (count : ℕ) (old free new after : List ℕ) (r : Fall) : Type 0 where
   pub keeps : FrontKept count old (r .count) new
   pub there : r .absent ≡ false
-  pub pushed : Named p → count + length (pairUnits p xs ys) ≤ 960 → UnitsPushed (pairUnits p xs ys) count old new (r .count)
-  pub joins : leb (length xs + length ys) 16 ≡ true → Named p → count + length (pairUnits p xs ys) ≤ 960 → (r .lost ≡ true) × (r .len ≡ len - 1) × Changes true (p .right) free after
+  pub pushed : NumbersFit p → count + length (pairUnits p xs ys) ≤ 960 → UnitsPushed (pairUnits p xs ys) count old new (r .count)
+  pub joins : leb (length xs + length ys) 16 ≡ true → NumbersFit p → count + length (pairUnits p xs ys) ≤ 960 → (r .lost ≡ true) × (r .len ≡ len - 1) × Changes true (p .right) free after
   pub shares : leb (length xs + length ys) 16 ≡ false → (r .lost ≡ false) × (r .len ≡ len) × (after ≡ free)
 
 -- ---- a leaf with the entries es loses that of k, if it has one; hit is what it holds for k

@@ -49,9 +49,9 @@ pub data TreeStep : Type 0 where
   refusal : ℕ → TreeStep
   done : Table → TreeStep
 
--- 5: a node number of `limit` or more, or a root above level 3
+-- 5: a node number of `limit` or more
 unfoldable pub allowed : ℕ → Table → TreeStep
-allowed limit t = cond (leb (next t) limit && leb (rootLevel t) 3) (done t) (refusal 5)
+allowed limit t = cond (leb (next t) limit) (done t) (refusal 5)
 
 unfoldable pub insert : ℕ → ℕ → ℕ → Table → TreeStep
 insert limit k v t = allowed limit (inserted k v t)

@@ -30,15 +30,14 @@ rootEntries low k high = entry 0 low ∷ entry k high ∷ []
 abbrev pub spare : Table → ℕ
 spare t = count isIn (map isOpen t)
 
--- how many numbers node n of level l and those above it take, where it is to hold len entries and those above it take `need` if it splits;
--- 257, which are more than there are, where the root would be too high
-abbrev pub needsOf : ℕ → ℕ → ℕ → ℕ → ℕ
-needsOf need l n len = cond (leb len 16) 0 (cond (eqb n 0) (cond (ltb l 3) 2 257) (need + 1))
+-- how many numbers node n and those above it take, where it is to hold len entries and those above it take `need` if it splits
+abbrev pub needsOf : ℕ → ℕ → ℕ → ℕ
+needsOf need n len = cond (leb len 16) 0 (cond (eqb n 0) 2 (need + 1))
 
 -- how many numbers the nodes from the leaf of k up to node n of level l and those above it take
 abbrev pub needsFrom : ℕ → ℕ → ℕ → ℕ → ℕ → Table → ℕ
-needsFrom need zero n k v t = needsOf need 0 n (length (insertEntry k v (entriesAt t n)))
-needsFrom need (suc l) n k v t = needsFrom (needsOf need (suc l) n (suc (length (entriesAt t n)))) l (child t n k) k v t
+needsFrom need zero n k v t = needsOf need n (length (insertEntry k v (entriesAt t n)))
+needsFrom need (suc l) n k v t = needsFrom (needsOf need n (suc (length (entriesAt t n)))) l (child t n k) k v t
 
 -- the answer to an insert at node 0
 abbrev pub answers : Rise → ℕ → Inserted
@@ -89,15 +88,15 @@ pub record TakesLeast (free after : List ℕ) (m : ℕ) : Type 0 where
 
 -- node n changes: on any arrays it refuses nothing; from the free numbers of a table with node n and `need` numbers to spare, and with room in the buffer,
 -- it pushes the units us and leaves up
-pub record Makes (n need : ℕ) (us : Table → List U.Unit) (up : Table → Up) (count : ℕ) (old free new after : List ℕ) (r : Rise) : Type 0 where
+pub record ChangesNode (n need : ℕ) (us : Table → List U.Unit) (up : Table → Up) (count : ℕ) (old free new after : List ℕ) (r : Rise) : Type 0 where
   pub keeps : FrontKept count old (r .count) new
   pub plain : r .refused ≡ false
   pub is : (t : Table) → free ≡ freeNumbers t → length t ≤ 256 → there (at t n) ≡ 1 → need ≤ spare t → count + length (us t) ≤ 960
       → Went (us t) (up t) count old new after r
 
 -- node n of level l is to hold es, with (k, v) among them
-abbrev pub Holds : ℕ → ℕ → ℕ → ℕ → List Entry → ℕ → List ℕ → List ℕ → List ℕ → List ℕ → Rise → Type 0
-Holds l n k v es count old free new after r = Makes n (needsOf 0 l n (length es)) (holdUnits l n k v es) (fitOrSplit l n es) count old free new after r
+abbrev pub FitsOrSplits : ℕ → ℕ → ℕ → ℕ → List Entry → ℕ → List ℕ → List ℕ → List ℕ → List ℕ → Rise → Type 0
+FitsOrSplits l n k v es count old free new after r = ChangesNode n (needsOf 0 n (length es)) (holdUnits l n k v es) (fitOrSplit l n es) count old free new after r
 
 -- refused: nothing is pushed, and no number is taken
 pub record Refused (count : ℕ) (old free new after : List ℕ) (r : Rise) : Type 0 where
@@ -108,13 +107,13 @@ pub record Refused (count : ℕ) (old free new after : List ℕ) (r : Rise) : Ty
 
 -- (k, v) at leaf n with the entries es, where the nodes above it take `need` numbers if it splits
 pub record Lands (need n k v count : ℕ) (es : List Entry) (old free new after : List ℕ) (r : Rise) : Type 0 where
-  pub refuses : (t : Table) → free ≡ freeNumbers t → length t ≤ 256 → r .refused ≡ ltb (spare t) (needsOf need 0 n (length (insertEntry k v es)))
+  pub refuses : (t : Table) → free ≡ freeNumbers t → length t ≤ 256 → r .refused ≡ ltb (spare t) (needsOf need n (length (insertEntry k v es)))
   pub stays : r .refused ≡ true → Refused count old free new after r
-  pub held : r .refused ≡ false → Holds 0 n k v (insertEntry k v es) count old free new after r
+  pub held : r .refused ≡ false → FitsOrSplits 0 n k v (insertEntry k v es) count old free new after r
 
 -- node n of level l with the entries es after its child's answer a: it gains what the child gave up, or the answer stays
 pub record PassesUp (l n : ℕ) (es : List Entry) (a : Rise) (old free new after : List ℕ) (r : Rise) : Type 0 where
-  pub gained : a .gains ≡ true → Holds l n (a .key) (a .number) (insertEntry (a .key) (a .number) es) (a .count) old free new after r
+  pub gained : a .gains ≡ true → FitsOrSplits l n (a .key) (a .number) (insertEntry (a .key) (a .number) es) (a .count) old free new after r
   pub same : a .gains ≡ false → (new ≡ old) × (after ≡ free) × (r ≡ a)
 
 -- ---- an insert under a node
@@ -126,7 +125,7 @@ Fresh (suc l) n k v t =
     × Fresh l (child t n k) k v t
 
 -- where node n of level l is on the way to the leaf of k
-pub record Way (l n k v : ℕ) (t : Table) : Type 0 where
+pub record InsertWay (l n k v : ℕ) (t : Table) : Type 0 where
   pub leads : Leads l n k t
   pub fresh : Fresh l n k v t
   pub low : l ≤ rootLevel t
@@ -144,7 +143,7 @@ pub record Rises (g : Geometry) (image lens slots : List ℕ) (limit l n need k 
   pub whole : r .refused ≡ true → (new ≡ old) × (after ≡ free)
   pub refuses : free ≡ freeNumbers (tableIn g image lens slots limit count old)
       → r .refused ≡ ltb (spare (tableIn g image lens slots limit count old)) (needsFrom need l n k v (tableIn g image lens slots limit count old))
-  pub is : r .refused ≡ false → free ≡ freeNumbers (tableIn g image lens slots limit count old) → Way l n k v (tableIn g image lens slots limit count old)
+  pub is : r .refused ≡ false → free ≡ freeNumbers (tableIn g image lens slots limit count old) → InsertWay l n k v (tableIn g image lens slots limit count old)
       → count + length (insertUnitsAt l n k v (tableIn g image lens slots limit count old)) ≤ 960
       → Outcome need (tableIn g image lens slots limit count old) (insertUnitsAt l n k v (tableIn g image lens slots limit count old))
       (insertAt l n k v (tableIn g image lens slots limit count old)) count old new after r

@@ -13,8 +13,9 @@ use Rattle.views.specs.Nodes.{Entry}
 use Rattle.views.specs.PassCode.{pushed}
 use Rattle.tree.specs.declared.insert.Inserted.{Inserted}
 use Rattle.tree.specs.declared.delete.Deleted.{Deleted}
-use Rattle.tree.specs.Tree.{Table, entriesAt, rootLevel, isAbsent, find}
+use Rattle.tree.specs.Tree.{Table, entriesAt, isAbsent, find}
 use Rattle.tree.specs.Step6.{top, Tree}
+use Rattle.tree.specs.Thick.{Thick}
 use Rattle.tree.specs.Insert.{inserted, refusal, done, insert}
 use Rattle.tree.specs.Delete.{delete}
 use Rattle.tree.specs.InsertUnits.{insertUnits}
@@ -37,12 +38,12 @@ pub record FrontKept (count : ℕ) (old : List ℕ) (used : ℕ) (new : List ℕ
   pub room : used ≤ 960
 
 -- ---- what an update relies on
--- a tree with its free numbers, entries of 32 bits, a root of level 3 at most, and a buffer of units with room for 60 more
+-- a tree that is not thin with its free numbers, entries of 32 bits, and a buffer of units with room for 60 more
 pub record Ready (limit count : ℕ) (free bytes : List ℕ) (us : List U.Unit) (t : Table) : Type 0 where
   pub tree : Tree t
   pub words : (n : ℕ) → All (λ (e : Entry). (e .key < top) × (e .value < top)) (entriesAt t n)
   pub numbers : free ≡ freeNumbers t
-  pub levels : rootLevel t ≤ 3
+  pub thick : Thick 0 t
   pub units : decodes limit count bytes ≡ map Good us
   pub room : count ≤ 900
 

@@ -12,7 +12,7 @@ ghost use Rattle.views.specs.Nodes.{deleteEntry};
 ghost use Rattle.numbers.specs.NumberSet.{Changes};
 ghost use Rattle.tree.specs.Tree as T;
 ghost use Rattle.tree.specs.Tree.{firstKey};
-ghost use Rattle.tree.specs.BalanceCode.{leftOf, rightOf, lastOf, Named, HasRoom, Keeps, Shares, Balances, Loses, IsLeft, takeOverUnits, Merges};
+ghost use Rattle.tree.specs.BalanceCode.{leftOf, rightOf, lastOf, NumbersFit, HasRoom, Keeps, Shares, Balances, Loses, IsLeft, takeOverUnits, Merges};
 ghost use Rattle.tree.specs.DeleteUnits.{firstOf, joinUnits, toLeft, toRight};
 ghost use Rattle.tree.specs.UpdateCode.{UnitsPushed};
 use crate::find::Hit;
@@ -128,7 +128,7 @@ fn push_four(buffer: &mut [u8; 11520], count: usize, a: Unit, b: Unit, c: Unit, 
 
 // The right one's entries `y` into the left one; the right one is freed, and the parent loses its entry. Returns the count after that.
 fn join(buffer: &mut [u8; 11520], count: usize, free: &mut [u64; 4], pair: Pair, y: Node) -> usize
-    requires { ⌜ (y .len ≤ 16) × (count + y .len + 2 ≤ 960) × Named pair ⌝ }
+    requires { ⌜ (y .len ≤ 16) × (count + y .len + 2 ≤ 960) × NumbersFit pair ⌝ }
     ensures { λ r. ⌜ UnitsPushed (joinUnits (pair .parent) (leftOf pair) (rightOf pair) (entriesOf y)) count (now (buffer .entry)) (now (buffer .exit)) r
         × Changes true (pair .right) (now (free .entry)) (now (free .exit)) ⌝ }
 {
@@ -157,7 +157,7 @@ fn join(buffer: &mut [u8; 11520], count: usize, free: &mut [u64; 4], pair: Pair,
 
 // The first entry of the right one moves to the left one. Returns the count after that.
 fn to_left(buffer: &mut [u8; 11520], count: usize, pair: Pair, y: Node) -> usize
-    requires { ⌜ (2 ≤ y .len) × (y .len ≤ 16) × (count + 4 ≤ 960) × Named pair ⌝ }
+    requires { ⌜ (2 ≤ y .len) × (y .len ≤ 16) × (count + 4 ≤ 960) × NumbersFit pair ⌝ }
     ensures { λ r. ⌜ UnitsPushed (toLeft (pair .parent) (leftOf pair) (rightOf pair) (firstOf (entriesOf y)) (firstKey 0 (drop 1 (entriesOf y))))
         count (now (buffer .entry)) (now (buffer .exit)) r ⌝ }
 {
@@ -188,7 +188,7 @@ fn to_left(buffer: &mut [u8; 11520], count: usize, pair: Pair, y: Node) -> usize
 
 // The last entry of the left one moves to the right one. Returns the count after that.
 fn to_right(buffer: &mut [u8; 11520], count: usize, pair: Pair, x: Node) -> usize
-    requires { ⌜ (1 ≤ x .len) × (x .len ≤ 16) × (count + 4 ≤ 960) × Named pair ⌝ }
+    requires { ⌜ (1 ≤ x .len) × (x .len ≤ 16) × (count + 4 ≤ 960) × NumbersFit pair ⌝ }
     ensures { λ r. ⌜ UnitsPushed (toRight (pair .parent) (leftOf pair) (rightOf pair) (lastOf (entriesOf x)) (lastOf (entriesOf x) .key))
         count (now (buffer .entry)) (now (buffer .exit)) r ⌝ }
 {
@@ -320,7 +320,7 @@ pub fn merge(
     x: Node,
     y: Node,
 ) -> usize
-    requires { ⌜ (x .len ≤ 16) × (y .len ≤ 16) × (count + x .len + y .len + 3 ≤ 960) × Named pair ⌝ }
+    requires { ⌜ (x .len ≤ 16) × (y .len ≤ 16) × (count + x .len + y .len + 3 ≤ 960) × NumbersFit pair ⌝ }
     ensures { λ r. ⌜ Merges level pair (entriesOf x) (entriesOf y) count (now (buffer .entry)) (now (free .entry)) (now (buffer .exit)) (now (free .exit)) r ⌝ }
 {
     let mut first = x;

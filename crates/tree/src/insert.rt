@@ -11,7 +11,7 @@ ghost use Rattle.tree.specs.Shown.{tableIn};
 ghost use Rattle.tree.specs.UpdateCode.{UnitsPushed, Inserts};
 ghost use Rattle.tree.specs.FindCode as F;
 ghost use Rattle.tree.specs.Insert.{stop, gains, halve, raise};
-ghost use Rattle.tree.specs.InsertCode.{rootEntries, needsOf, answers, Stops, FitsOne, TakesLeast, Makes, Holds, Lands, PassesUp, Rises};
+ghost use Rattle.tree.specs.InsertCode.{rootEntries, needsOf, answers, Stops, FitsOne, TakesLeast, ChangesNode, FitsOrSplits, Lands, PassesUp, Rises};
 use crate::find::child;
 use crate::find::node_at;
 use numbers::set;
@@ -130,7 +130,7 @@ fn halve(buffer: &mut [u8; 11520], count: usize, n: Node, level: u32, low: u32, 
 
 // Both halves written to `low` and `high`, and node 0 one level higher. Returns the count after them.
 fn raise(buffer: &mut [u8; 11520], count: usize, n: Node, level: u32, low: u32, high: u32) -> usize
-    requires { ⌜ (n .len ≡ 17) × (low < 65536) × (high < 65536) × (level < 3) × (count ≤ 938) ⌝ }
+    requires { ⌜ (n .len ≡ 17) × (low < 65536) × (high < 65536) × (level ≤ 3) × (count ≤ 938) ⌝ }
     ensures { λ r. ⌜ UnitsPushed (raiseUnits level low high (entriesOf n)) count (now (buffer .entry)) (now (buffer .exit)) r × (r ≡ count + 22) ⌝ }
 {
     let used = halve(buffer, count, n, level, low, high);
@@ -196,7 +196,7 @@ fn take(free: &mut [u64; 4]) -> u32
     number
 }
 
-// Node 0 with 17 entries: both halves to the two least numbers, and node 0 one level higher. Without a level or room nothing is done, which no tree leads to.
+// Node 0 with 17 entries: both halves to the two least numbers, and node 0 one level higher. Without room nothing is done, which no tree leads to.
 fn split_root(
     buffer: &mut [u8; 11520],
     count: usize,
@@ -204,13 +204,10 @@ fn split_root(
     level: u32,
     n: Node,
 ) -> Rise
-    requires { ⌜ (count ≤ 960) × (n .len ≡ 17) ⌝ }
-    ensures { λ r. ⌜ Makes 0 (needsOf 0 level 0 17) (λ (t : Table). raiseUnits level (least t) (least2 t) (entriesOf n)) (λ (t : Table). stop (raise level (least t) (least2 t) (entriesOf n) t))
+    requires { ⌜ (count ≤ 960) × (n .len ≡ 17) × (level ≤ 3) ⌝ }
+    ensures { λ r. ⌜ ChangesNode 0 2 (λ (t : Table). raiseUnits level (least t) (least2 t) (entriesOf n)) (λ (t : Table). stop (raise level (least t) (least2 t) (entriesOf n) t))
         count (now (buffer .entry)) (now (free .entry)) (now (buffer .exit)) (now (free .exit)) r ⌝ }
 {
-    if level >= 3 {
-        return stop(count);
-    }
     if count > 938 {
         return stop(count);
     }
@@ -230,7 +227,7 @@ fn split(
     n: Node,
 ) -> Rise
     requires { ⌜ (count ≤ 960) × (n .len ≡ 17) ⌝ }
-    ensures { λ r. ⌜ Makes node 1 (λ (t : Table). halveUnits level node (least t) (entriesOf n)) (λ (t : Table). gains (firstKey 0 (drop 9 (entriesOf n))) (least t) (halve level node (least t) (entriesOf n) t))
+    ensures { λ r. ⌜ ChangesNode node 1 (λ (t : Table). halveUnits level node (least t) (entriesOf n)) (λ (t : Table). gains (firstKey 0 (drop 9 (entriesOf n))) (least t) (halve level node (least t) (entriesOf n) t))
         count (now (buffer .entry)) (now (free .entry)) (now (buffer .exit)) (now (free .exit)) r ⌝ }
 {
     if node >= 65536 {
@@ -262,8 +259,8 @@ fn fit_or_split(
     key: u32,
     value: u32,
 ) -> Rise
-    requires { ⌜ (count ≤ 960) × (n .len ≤ 17) × (length (entriesOf n) ≡ n .len) ⌝ }
-    ensures { λ r. ⌜ Holds level node key value (entriesOf n) count (now (buffer .entry)) (now (free .entry)) (now (buffer .exit)) (now (free .exit)) r ⌝ }
+    requires { ⌜ (count ≤ 960) × (n .len ≤ 17) × (length (entriesOf n) ≡ n .len) × (level ≤ 3) ⌝ }
+    ensures { λ r. ⌜ FitsOrSplits level node key value (entriesOf n) count (now (buffer .entry)) (now (free .entry)) (now (buffer .exit)) (now (free .exit)) r ⌝ }
 {
     let len = n.len;
     if len <= 16 {
@@ -276,28 +273,24 @@ fn fit_or_split(
     }
 }
 
-// How many numbers a node of `level` and those above it take, where it is to hold `len` entries and those above it take `need` if it splits.
-// 257, which are more than there are, where the root would be too high.
-fn needs(need: u32, level: u32, node: u32, len: usize) -> u32
-    requires { ⌜ need ≤ 1000 ⌝ }
-    ensures { λ r. ⌜ r ≡ needsOf need level node len ⌝ }
+// How many numbers a node and those above it take, where it is to hold `len` entries and those above it take `need` if it splits.
+fn needs(need: u32, node: u32, len: usize) -> u32
+    requires { ⌜ need ≤ 4 ⌝ }
+    ensures { λ r. ⌜ r ≡ needsOf need node len ⌝ }
 {
     if len <= 16 {
         return 0;
     }
-    if node != 0 {
-        return need + 1;
-    }
-    if level < 3 { 2 } else { 257 }
+    if node == 0 { 2 } else { need + 1 }
 }
 
 // How many numbers a node and those above it take, where it gains an entry.
-fn needs_above(need: u32, level: u32, node: u32, n: Node) -> u32
-    requires { ⌜ (need ≤ 1000) × (n .len ≤ 16) ⌝ }
-    ensures { λ r. ⌜ r ≡ needsOf need level node (suc (length (entriesOf n))) ⌝ }
+fn needs_above(need: u32, node: u32, n: Node) -> u32
+    requires { ⌜ (need ≤ 4) × (n .len ≤ 16) ⌝ }
+    ensures { λ r. ⌜ r ≡ needsOf need node (suc (length (entriesOf n))) ⌝ }
 {
     let len = n.len;
-    needs(need, level, node, len + 1)
+    needs(need, node, len + 1)
 }
 
 // The entry at its leaf. Refused before anything is pushed, where the leaf and the nodes above it would take too many numbers.
@@ -311,12 +304,12 @@ fn gain_leaf(
     key: u32,
     value: u32,
 ) -> Rise
-    requires { ⌜ (count ≤ 960) × (n .len ≤ 16) × (need ≤ 1000) ⌝ }
+    requires { ⌜ (count ≤ 960) × (n .len ≤ 16) × (need ≤ 4) ⌝ }
     ensures { λ r. ⌜ Lands need node key value count (entriesOf n) (now (buffer .entry)) (now (free .entry)) (now (buffer .exit)) (now (free .exit)) r ⌝ }
 {
     let new = node::insert(n, key, value);
     let len = new.len;
-    let more = needs(need, 0, node, len);
+    let more = needs(need, node, len);
     if set::count(free) < more {
         return refuse(count);
     }
@@ -332,7 +325,7 @@ fn pass_up(
     n: Node,
     r: Rise,
 ) -> Rise
-    requires { ⌜ (n .len ≤ 16) × (r .count ≤ 960) ⌝ }
+    requires { ⌜ (n .len ≤ 16) × (r .count ≤ 960) × (level ≤ 3) ⌝ }
     ensures { λ a. ⌜ PassesUp level node (entriesOf n) r (now (buffer .entry)) (now (free .entry)) (now (buffer .exit)) (now (free .exit)) a ⌝ }
 {
     if r.gains {
@@ -359,7 +352,7 @@ fn insert_at(
     key: u32,
     value: u32,
 ) -> Rise
-    requires { ⌜ (length (now image) % pageSize (scope .geometry) ≡ 0) × (scope .limit ≤ 256) × (scope .count ≤ 960) × (spot .level ≤ 3) × (spot .need + spot .level ≤ 260)
+    requires { ⌜ (length (now image) % pageSize (scope .geometry) ≡ 0) × (scope .limit ≤ 256) × (scope .count ≤ 960) × (spot .level ≤ 3) × (spot .need + spot .level ≤ 4)
         × F.ShowsView (at (tableIn (scope .geometry) (now image) (now lens) (now slots) (scope .limit) (scope .count) (now buffer)) (spot .node)) n × Fits (scope .geometry) ⌝ }
     ensures { λ r. ⌜ Rises (scope .geometry) (now (image .entry)) (now (lens .entry)) (now (slots .entry)) (scope .limit) (spot .level) (spot .node) (spot .need) key value
         (scope .count) (now (buffer .entry)) (now (free .entry)) (now (buffer .exit)) (now (free .exit)) r ⌝ }
@@ -372,7 +365,7 @@ fn insert_at(
     }
     let below = child(n, key);
     let m = node_at(image, lens, slots, buffer, scope, below);
-    let more = needs_above(need, level, node, n);
+    let more = needs_above(need, node, n);
     let down = level - 1;
     let low = Spot {
         level: down,

@@ -14,6 +14,8 @@ use crate::model::geometry::Geometry;
 use crate::model::tree::Tree;
 use crate::random::Random;
 use draft::Draft;
+pub use grow::thick as thick_tree;
+pub use steep::tree as steep_tree;
 pub use stock::{stock, Free, Stock};
 pub use thin::tree as thin_tree;
 

@@ -10,7 +10,7 @@ pub const OFF: u32 = 2;
 pub const PENDING: u32 = 3;
 /// Refusal of an absent key, block or page.
 pub const ABSENT: u32 = 4;
-/// Refusal of a tree step without room, and of a rebuild without free blocks.
+/// Refusal of an insert without node numbers left for it, and of a rebuild without free blocks.
 pub const NO_ROOM: u32 = 5;
 /// Refusal of a commit or rebuild above the greatest commit number.
 pub const LAST_NUMBER: u32 = 6;
@@ -137,7 +137,7 @@ impl Plain {
         self.present.find(key).is_none().then_some(ABSENT)
     }
 
-    /// Refusal 5: the tree step does not fit.
+    /// Refusal 5: the tree step needs more node numbers than are left.
     fn no_room(&self, key: u32, value: u32) -> Option<u32> {
         (!self.present.insert_fits(key, value)).then_some(NO_ROOM)
     }

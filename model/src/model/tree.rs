@@ -2,8 +2,6 @@
 mod join;
 pub mod thin;
 
-use super::unit::TOP;
-
 /// Entries that a node has room for.
 pub const FULL: usize = 16;
 /// Entries that stay when a node of 17 splits.
@@ -96,7 +94,7 @@ impl Tree {
         self.node(self.leaf_of(key)).value(key)
     }
 
-    /// Inserts (key, value). False, and no change, when that needs more numbers than are left or a root above level 3.
+    /// Inserts (key, value). False, and no change, when that needs more numbers than are left.
     pub fn insert(&mut self, key: u32, value: u32) -> bool {
         let leaf = self.leaf_of(key);
         let node = self.node_mut(leaf);
@@ -112,7 +110,7 @@ impl Tree {
         fits
     }
 
-    /// Whether an insert fits: it needs no more numbers than are left and no root above level 3.
+    /// Whether an insert fits: it needs no more numbers than are left.
     pub fn insert_fits(&self, key: u32, value: u32) -> bool {
         let node = self.node(self.leaf_of(key));
         node.entries.len() < FULL || node.value(key).is_some() || self.clone().insert(key, value)
@@ -155,9 +153,6 @@ impl Tree {
     /// Splits node 0: the 9 go to the least number, the 8 to the one after it, node 0 becomes one level higher with both.
     fn split_root(&mut self) -> bool {
         let mut first = self.node(0).clone();
-        if first.level == TOP {
-            return false;
-        }
         let level = first.level;
         let second = Node { level, entries: first.entries.split_off(STAY) };
         let smallest = second.entries[0].0;

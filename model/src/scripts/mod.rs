@@ -6,6 +6,7 @@ pub mod changed;
 pub mod edges;
 pub mod erases;
 pub mod forecast;
+pub mod heights;
 pub mod images;
 pub mod joins;
 pub mod lines;
@@ -29,7 +30,7 @@ pub struct Kind {
 }
 
 /// All kinds of scripts for the probe.
-pub const KINDS: [Kind; 17] = [
+pub const KINDS: [Kind; 18] = [
     Kind { name: "calls", make: calls::make },
     Kind { name: "valid", make: images::valid },
     Kind { name: "steep", make: images::steep },
@@ -47,6 +48,7 @@ pub const KINDS: [Kind; 17] = [
     Kind { name: "parts", make: parts::make },
     Kind { name: "joins", make: joins::make },
     Kind { name: "rebuilds", make: rebuilds::make },
+    Kind { name: "heights", make: heights::make },
 ];
 
 impl Kind {

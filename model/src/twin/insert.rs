@@ -1,17 +1,15 @@
 //! Insert: the entry goes to its leaf, and a node with 17 entries splits. New nodes take the least numbers that are not in use.
 
 use super::state::{State, BUFFER};
-use super::unit::{Update, TOP};
+use super::unit::Update;
 use super::update::Spot;
 use super::view::{entry, key_of, View};
 
-/// How many numbers a node of `level` and those above it take, where it is to hold `len` entries and those above it take `need` if it
-/// splits; 257 where the root would be too high.
-fn needs(need: u32, level: usize, number: u32, len: usize) -> u32 {
+/// How many numbers a node and those above it take, where it is to hold `len` entries and those above it take `need` if it splits.
+fn needs(need: u32, number: u32, len: usize) -> u32 {
     match (len, number) {
         (0..=16, _) => 0,
-        (_, 0) if level < TOP as usize => 2,
-        (_, 0) => 257,
+        (_, 0) => 2,
         _ => need + 1,
     }
 }
@@ -19,7 +17,7 @@ fn needs(need: u32, level: usize, number: u32, len: usize) -> u32 {
 /// How many numbers the nodes of the way take, whose leaf holds the entry already.
 fn all_needs(way: &[Spot]) -> u32 {
     let height = way.len() - 1;
-    way.iter().enumerate().fold(0, |need, (i, (number, view))| needs(need, height - i, *number, view.len + usize::from(i < height)))
+    way.iter().enumerate().fold(0, |need, (i, (number, view))| needs(need, *number, view.len + usize::from(i < height)))
 }
 
 impl State {
@@ -70,7 +68,7 @@ impl State {
 
     /// Node 0 splits: the 9 go to the least number, the 8 to the next least, and node 0 becomes one level higher.
     fn raise(&mut self, level: u32, view: &View) {
-        if level >= TOP || self.count > BUFFER - 22 {
+        if self.count > BUFFER - 22 {
             return;
         }
         let (low, high) = (self.free.take_least(), self.free.take_least());

@@ -13,7 +13,7 @@ pub const HEADER: usize = 8;
 pub const FREED: u32 = 255;
 
 /// The greatest level of a node.
-pub const TOP: u32 = 3;
+const TOP: u32 = 3;
 
 /// What a unit does to its node.
 #[derive(Clone, Copy, PartialEq, Eq, Debug)]

@@ -59,31 +59,6 @@ fn records() {
     assert!(records.iter().all(|record| tree.find(record.0) == Some(record.1)));
 }
 
-/// An insert that would need a root above level 3 does not fit, though there are numbers.
-#[test]
-fn no_root_above_level_3() {
-    let mut tree = tree(&[16, 1, 1]);
-    let (low, end) = (0, 1 << 28);
-    for level in [2, 1, 0] {
-        let number = tree.path(0)[3 - level as usize] as usize;
-        let mut entries = tree.nodes[number].clone().unwrap().entries;
-        for at in 1..16 {
-            let key = low + at * ((end / 16) >> (4 * (2 - level)));
-            entries.push((key, if level == 0 { 1 } else { tree.nodes.len() as u32 }));
-            let mut below = level;
-            while below > 0 {
-                below -= 1;
-                let child = (key, if below == 0 { 1 } else { tree.nodes.len() as u32 + 1 });
-                tree.nodes.push(Some(Node { level: below, entries: vec![child] }));
-            }
-        }
-        tree.nodes[number] = Some(Node { level, entries });
-    }
-    tree.nodes.resize(256, None);
-    assert!(tree.path(1).iter().all(|number| tree.node(*number).entries.len() == 16));
-    assert!(!tree.insert_fits(1, 1) && tree.insert_fits(u32::MAX, 1));
-}
-
 /// Mount turns a thin tree away before any operation, whatever the allowance; the store is off.
 #[test]
 fn mount_gives_12() {

@@ -121,10 +121,10 @@ pub fn insert_at(table: &mut Table, level: u32, number: u32, entry: Entry) -> Op
     gain(table, level, number, gains)
 }
 
-/// An insert; none where a number of `limit` or more is needed, or a root above level 3.
+/// An insert; none where a number of `limit` or more is needed.
 pub fn insert(table: &Table, limit: u32, entry: Entry) -> Option<Table> {
     let mut after = table.clone();
     insert_at(&mut after, root_level(table), 0, entry);
-    let fits = after.keys().all(|&number| number < limit) && root_level(&after) <= 3;
+    let fits = after.keys().all(|&number| number < limit);
     fits.then_some(after)
 }

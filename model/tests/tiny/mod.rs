@@ -1,6 +1,7 @@
 //! A tiny store behind the probe's protocol, for tests of the judge: a commit writes all nodes into one erased block.
 mod erases;
 mod forecast;
+mod height;
 mod joins;
 mod parts;
 mod rebuild;
@@ -163,6 +164,8 @@ pub enum Bug {
     OldTree,
     OldNumber,
     RebuildKeepsErases,
+    FiveAtLevel2,
+    StaysAtLevel2,
 }
 
 impl Bug {
@@ -309,6 +312,11 @@ impl Bug {
         Bug::OldNumber,
         Bug::RebuildKeepsErases,
     ];
+}
+
+impl Bug {
+    /// The faults of a store where node 0 splits at level 2.
+    pub const HEIGHT: [Bug; 2] = [Bug::FiveAtLevel2, Bug::StaysAtLevel2];
 }
 
 impl Bug {
@@ -468,7 +476,7 @@ impl Tiny {
             return format!("{refusal:02X}");
         }
         let (early, five, loses) = (self.is(Bug::EarlyThree), self.is(Bug::EarlyFive), self.is(Bug::LosesUpdate));
-        let given = self.given();
+        let (given, bug) = (self.given(), self.bug);
         let state = self.state.as_mut().unwrap();
         if state.pending == 16 - early as u32 {
             return "03".to_string();
@@ -476,10 +484,11 @@ impl Tiny {
         let held = state.tree.clone();
         let inserted = joins::insert(&mut state.tree, key, value, &given);
         state.taken.extend((0..held.nodes.len()).filter(|number| held.nodes[*number].is_none() && state.tree.nodes[*number].is_some()));
-        if !inserted || (five && state.tree.nodes.iter().flatten().count() > 20) {
+        if !inserted || (five && state.tree.nodes.iter().flatten().count() > 20) || height::refuses(bug, &held, &state.tree) {
             state.tree = held;
             return "05".to_string();
         }
+        height::stay(bug, &held, &mut state.tree);
         if loses && key % 16 == 3 {
             state.tree = held;
         }

@@ -181,7 +181,7 @@ insert-at-pass-up-requires : (t : ℕ) → insert-at-lts.Need-pass-up-requires (
 insert-at-pass-up-requires t c κs =
     let i = c .before .before in
     let s = i .before .before .before .before .before .before .before .before .before in
-    (s .pre .1 .5 .room, i .insert-at .ensures .keeps .room)
+    (s .pre .1 .5 .room, i .insert-at .ensures .keeps .room, s .pre .1 .3)
 
 insert-at-returns-2 : (t : ℕ) → insert-at-lts.Need-returns-2 (
   gain-leaf-reads.Asked,

@@ -34,7 +34,7 @@ fit-or-split-requires : tie.Need-fit-or-split-requires
 fit-or-split-requires c κs =
     let i = c .before .before .before .before .before .before in
     let s = i .before in
-    (s .pre .0, i .insert .ensures .room, ap length (i .insert .ensures .is) ∙ i .insert .ensures .len)
+    (s .pre .0, i .insert .ensures .room, ap length (i .insert .ensures .is) ∙ i .insert .ensures .len, omega arith)
 
 returns-2 : tie.Need-returns-2
 returns-2 c =

@@ -1,4 +1,4 @@
-use borrow.Author.Tests.{le-leb, lt-leb, lt-ltb, le-ltb, eq-eqb, ne-eqb}
+use borrow.Author.Tests.{le-leb, lt-leb, eq-eqb, ne-eqb}
 use borrow.Author.Needs.{needs}
 use Rattle.tree.proofs.insert.needs.Statement.{statement}
 use Rattle.tree.proofs.insert.needs.Tie as tie
@@ -12,17 +12,12 @@ add-result c = search needs
 returns-2 : tie.Need-returns-2
 returns-2 c =
     let a = c .before .before .args in
-    rw (lt-leb (a .len) 16 (c .before .if1 .left), ne-eqb (a .node) 0 (c .if2 .taken))
+    rw (lt-leb (a .len) 16 (c .before .if1 .left), eq-eqb (a .node) 0 (c .if2 .taken))
 
 returns-3 : tie.Need-returns-3
 returns-3 c =
-    let a = c .before .before .before .args in
-    rw (lt-leb (a .len) 16 (c .before .before .if1 .left), eq-eqb (a .node) 0 (c .before .if2 .left), lt-ltb (a .level) 3 (c .if3 .taken))
-
-returns-4 : tie.Need-returns-4
-returns-4 c =
-    let a = c .before .before .before .args in
-    rw (lt-leb (a .len) 16 (c .before .before .if1 .left), eq-eqb (a .node) 0 (c .before .if2 .left), le-ltb (a .level) 3 (c .if3 .left))
+    let a = c .before .before .args in
+    rw (lt-leb (a .len) 16 (c .before .if1 .left), ne-eqb (a .node) 0 (c .if2 .left))
 
 pub needs-spec : {M : Type 1} → statement M
-needs-spec = tie.close (tie.spec returns add-result returns-2 returns-3 returns-4)
+needs-spec = tie.close (tie.spec returns add-result returns-2 returns-3)

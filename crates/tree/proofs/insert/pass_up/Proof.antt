@@ -14,7 +14,7 @@ fit-or-split-requires : tie.Need-fit-or-split-requires
 fit-or-split-requires c κs =
     let i = c .before .before in
     let s = i .before .before in
-    (s .pre .1, i .insert .ensures .room, ap length (i .insert .ensures .is) ∙ i .insert .ensures .len)
+    (s .pre .1, i .insert .ensures .room, ap length (i .insert .ensures .is) ∙ i .insert .ensures .len, s .pre .2)
 
 returns : tie.Need-returns
 returns c =
