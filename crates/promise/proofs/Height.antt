@@ -1,13 +1,12 @@
 -- At any place of a list no insert meets the height: K and P are thick trees of the chip. Assumes nothing.
 use mathlib.Core.Path.{_≡_}
 use Prim.Native.Nat.{ℕ, suc, _*_}
-use native.Mathlib.Omega.{arith}
 use lib.ListN.{length}
 use Rattle.chip.specs.Geometry.{Nand, geometryOf, blocksOf}
 use Rattle.tree.specs.Tree.{Table}
 use Rattle.tree.specs.Step6.{Tree}
 use Rattle.tree.specs.Rebuild.{rebuild}
-use Rattle.tree.proofs.Laws.{next-length, thin-thick}
+use Rattle.tree.proofs.Laws.{thin-thick}
 use Rattle.promise.specs.Plain.{Plain, leaf}
 use Rattle.promise.specs.Calls.{Store}
 use Rattle.promise.specs.Steps.{lastImage, Mounted, Mode, promised, unpromised, starts, lastPlain}
@@ -31,7 +30,7 @@ module _ (S : Store) where
   mounted-tree : (nand : Nand) (K : Table) (G : ℕ) (s : S .State) (i : S .Image) → Mounted S nand K G s i → Tree K
       → length K ≡ 8 * blocksOf (geometryOf nand) (S .size i) → TreeOf 0 (blocksOf (geometryOf nand) (S .size i)) K
   mounted-tree nand K G s i m t l =
-      record { tree = t; size = l; numbers = omega (arith, next-length K); blocks = blocks-most nand (S .size i); thick = thin-thick K (m .thick) }
+      record { tree = t; size = l; blocks = blocks-most nand (S .size i); thick = thin-thick K (m .thick) }
 
   -- ---- the statements
   pub stays-low : StaysLow S

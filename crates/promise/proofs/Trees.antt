@@ -17,15 +17,11 @@ use Rattle.tree.specs.Delete.{delete}
 use Rattle.tree.specs.Step6.{top, Tree}
 use Rattle.tree.specs.Thick.{Thick}
 use Rattle.tree.specs.Rebuild.{rebuild}
-use Rattle.tree.proofs.Laws.{find-is, first-tree, first-thick, thick-zero, nodes-length, thick-level, root-entries, inserted-level, inserted-thick, insert-done, insert-keeps, insert-exact, find-inserted, find-inserted-other, delete-keeps, delete-next, delete-thick, delete-units, find-deleted, find-deleted-other, rebuild-tree}
+use Rattle.tree.proofs.Laws.{find-is, first-tree, first-thick, thick-zero, nodes-length, next-length, thick-level, root-entries, inserted-level, inserted-thick, insert-done, insert-keeps, insert-exact, find-inserted, find-inserted-other, delete-keeps, delete-thick, delete-units, find-deleted, find-deleted-other, rebuild-tree}
 use Rattle.promise.specs.Plain.{when, isRefused, tableAfter, saidIf, holds, gone, insertion, deletion, leaf}
 use Rattle.promise.specs.History.{TreeOf, KeepsThick, afterSaid, Lawful}
 use Rattle.promise.specs.Promise.{RebuildKeeps}
 use Rattle.promise.specs.Height.{Low}
-
-none-next : (m : ℕ) → next (replicate m untouched) ≡ 0
-none-next zero = refl
-none-next (suc m) = rw (none-next m)
 
 -- a chip has 32 blocks at most
 pub blocks-most : (nand : Nand) (size : ℕ) → blocksOf (geometryOf nand) size ≤ 32
@@ -39,7 +35,6 @@ leaf-tree c B h most =
     record {
       tree = first-tree (8 * B - 1);
       size = ap suc (length-replicate (8 * B - 1) untouched) ∙ omega arith;
-      numbers = rw (none-next (8 * B - 1)) (omega arith);
       blocks = most;
       thick = first-thick c (8 * B - 1);
     }
@@ -59,7 +54,7 @@ module _ (c B : ℕ) (t : Table) (T : TreeOf c B t) where
         level = tree-level;
         entries = λ e. omega (arith, root-entries t (T .tree) (thick-zero c t (T .thick)) few-nodes e);
         inserts = λ k v h. inserted-level k v t (T .tree) h (thick-zero c t (T .thick)) few-nodes;
-        five = λ k v h. insert-exact (8 * B) k v t (T .tree) h (T .numbers);
+        five = λ k v h. insert-exact (8 * B) k v t (T .tree) h (omega (arith, next-length t, T .size));
       }
 
 -- ---- inserts and deletes keep such trees
@@ -70,7 +65,6 @@ insert-by c B k v t (done u) e l h T =
     record {
       tree = I .tree;
       size = I .long;
-      numbers = I .numbers;
       blocks = T .blocks;
       thick = subst (λ (w : Table). Thick c w) (sym (I .is)) (inserted-thick c k v t (T .tree) h l (T .thick));
     }
@@ -86,7 +80,6 @@ delete-keeps-thick c k l h B t T r =
     record {
       tree = delete-keeps k t (T .tree) h .tree;
       size = E .long ∙ T .size;
-      numbers = omega (arith, delete-next k t (T .tree) h, T .numbers);
       blocks = T .blocks;
       thick = delete-thick c k t (T .tree) h l (T .thick .nodes);
     }
@@ -123,9 +116,9 @@ delete-lawful k h = record { tree = delete-keeps-thick 0 k (omega arith) h; valu
 pub rebuild-thick : (nand : Nand) (size : ℕ) (K : Table) → Tree K → length K ≡ 8 * blocksOf (geometryOf nand) size → TreeOf 8 (blocksOf (geometryOf nand) size) (rebuild K)
 rebuild-thick nand size K T l =
     let R = rebuild-tree (blocksOf (geometryOf nand) size) K (blocks-most nand size) T l in
-    record { tree = R .tree; size = R .size; numbers = R .numbers; blocks = blocks-most nand size; thick = R .eights }
+    record { tree = R .tree; size = R .size; blocks = blocks-most nand size; thick = R .eights }
 
 pub rebuild-keeps : RebuildKeeps
 rebuild-keeps nand size K T l =
     let R = rebuild-tree (blocksOf (geometryOf nand) size) K (blocks-most nand size) T l in
-    (record { tree = R .tree; size = R .size; numbers = R .numbers; blocks = blocks-most nand size; thick = thick-zero 8 (rebuild K) (R .eights) }, λ k h. find-is k (rebuild K) (R .tree) h ∙ ap (lookup k) (R .records) ∙ sym (find-is k K T h))
+    (record { tree = R .tree; size = R .size; blocks = blocks-most nand size; thick = thick-zero 8 (rebuild K) (R .eights) }, λ k h. find-is k (rebuild K) (R .tree) h ∙ ap (lookup k) (R .records) ∙ sym (find-is k K T h))

@@ -6,19 +6,16 @@ use Prim.Native.Nat.{ℕ, _*_, _<_, _≤_}
 use lib.ListN.{length}
 use Rattle.chip.specs.Geometry.{geometryOf, blocksOf}
 use Rattle.tree.specs.Tree.{Table, Found, absent, found, find}
-use Rattle.tree.specs.Tree as T
 use Rattle.tree.specs.Step6.{top, Tree}
 use Rattle.tree.specs.Thick.{Thick}
 use Rattle.promise.specs.Plain.{Plain, UpdateCall, Said, nothing, holds, gone, Call, reads, updates, forecasts, formats, commits, mounts, Verdict, denied, cut, passed, verdict, leaf}
 use Rattle.promise.specs.Calls.{Store}
 use Rattle.promise.specs.Steps.{Act, read, update, forecast, format, commit, mount, Step, fed, isTen, counts, next}
 
--- a tree of a chip with B blocks, 32 at most, in which every node but the root has 8 entries or more, a leaf c or more; the root above level 0 has 2 or more;
--- `next` is the greatest number of a node, plus 1
+-- a tree of a chip with B blocks, 32 at most, in which every node but the root has 8 entries or more, a leaf c or more; the root above level 0 has 2 or more
 pub record TreeOf (c B : ℕ) (t : Table) : Type 0 where
   pub tree : Tree t
   pub size : length t ≡ 8 * B
-  pub numbers : T.next t ≤ 8 * B
   pub blocks : B ≤ 32
   pub thick : Thick c t
 

@@ -34,7 +34,7 @@ good-blocks g s i ok = chip-size g (length i) (s .blocks) (ok .blocks) (λ z. om
 
 pub good-tree : (g : Geometry) (s : State) (i : List ℕ) → Good g s i → TreeOf 0 (s .blocks) (presentOf g s i)
 good-tree g s i ok =
-    record { tree = ok .tree; size = present-size g s i; numbers = present-next g s i; blocks = good-blocks g s i ok; thick = thin-thick (presentOf g s i) (ok .thick) }
+    record { tree = ok .tree; size = present-size g s i; blocks = good-blocks g s i ok; thick = thin-thick (presentOf g s i) (ok .thick) }
 
 -- P has a root of level 3 at most, and keeps it, whatever is inserted
 pub good-low : (g : Geometry) (s : State) (i : List ℕ) → Good g s i → Low (s .blocks) (presentOf g s i)

@@ -5,7 +5,7 @@ use Prim.Native.Nat.{ℕ, _<_, _≤_}
 use native.Mathlib.Omega.{arith}
 use lib.ListN.{length}
 use Rattle.views.specs.Nodes.{Entry, deleteEntry}
-use Rattle.tree.specs.Tree.{entriesOf, there, Table, at, entriesAt, next, rootLevel, absent, lookup, find, records}
+use Rattle.tree.specs.Tree.{entriesOf, there, Table, at, entriesAt, rootLevel, absent, lookup, find, records}
 use Rattle.tree.specs.Step6.{top, Tree}
 use Rattle.tree.specs.Delete.{leaves, deleteAt, delete}
 use Rattle.tree.specs.Thick.{Filled, Thick}
@@ -17,7 +17,6 @@ use Rattle.tree.proofs.Step6.{tree-of, shape-of}
 use Rattle.tree.proofs.Records.{records-of, Kept, find-is, records-between}
 use Rattle.tree.proofs.ThickLaws.{at-wide, filled-full, full-thick}
 use Rattle.tree.proofs.DeleteAt.{becomes-there, Thinned, deletes}
-use Rattle.tree.proofs.Least.{next-fewer}
 use Rattle.tree.proofs.TakeOver.{Ends, collapses}
 
 -- ---- the delete
@@ -47,9 +46,6 @@ module _ (k : ℕ) (t : Table) (T : Shaped t) (hk : k < top) where
     records = records-of (delete k t) (ends .tree) ∙ ends .is ∙ thinned .becomes .records ∙ ap (deleteEntry k) (sym (records-of t T));
   }
 
-  pub delete-low : rootLevel (delete k t) ≤ rootLevel t
-  delete-low = omega (arith, ends .low, level-at t T, level-at (delete k t) (ends .tree))
-
   pub delete-fills : (c : ℕ) → c ≤ 8 → Filled c t → Thick c (delete k t)
   delete-fills c c8 h = full-thick c (delete k t) (ends .tree) (ends .wide) (ends .full c (thinned .nearly c c8 (filled-full c t T h)))
 
@@ -65,10 +61,6 @@ module _ (k : ℕ) (t : Table) (T : Shaped t) (hk : k < top) where
 pub delete-keeps : (k : ℕ) (t : Table) → Tree t → k < top → Kept (deleteEntry k) t (delete k t)
 delete-keeps k t g h = delete-tree k t (shape-of t g) h
 
--- the root is not higher than before
-pub delete-level : (k : ℕ) (t : Table) → Tree t → k < top → rootLevel (delete k t) ≤ rootLevel t
-delete-level k t g h = delete-low k t (shape-of t g) h
-
 -- no node but the root gets thin: leaves and interior nodes (c = 8), or interior nodes alone (c = 0); node 0 is then a leaf or has two entries or more
 pub delete-thick : (c k : ℕ) (t : Table) → Tree t → k < top → c ≤ 8 → Filled c t → Thick c (delete k t)
 delete-thick c k t g h c8 f = delete-fills k t (shape-of t g) h c c8 f
@@ -80,10 +72,6 @@ delete-root k t g h p = delete-roots k t (shape-of t g) h p
 -- no number is new
 pub delete-fewer : (k : ℕ) (t : Table) → Tree t → k < top → (j : ℕ) → there (at (delete k t) j) ≡ 1 → there (at t j) ≡ 1
 delete-fewer k t g h = delete-there k t (shape-of t g) h
-
--- and the greatest is not greater
-pub delete-next : (k : ℕ) (t : Table) → Tree t → k < top → next (delete k t) ≤ next t
-delete-next k t g h = next-fewer t (delete k t) (delete-fewer k t g h)
 
 module _ (k : ℕ) (t : Table) (g : Tree t) (h : k < top) where
   pub find-deleted : find k (delete k t) ≡ absent

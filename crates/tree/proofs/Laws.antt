@@ -9,7 +9,7 @@ pub use Rattle.tree.proofs.InsertLaws.{inserted-keeps, inserted-filled,
 pub use Rattle.tree.proofs.InsertDone.{insert-done, Inserted, insert-keeps}
 pub use Rattle.tree.proofs.InsertNumbers.{insert-exact}
 pub use Rattle.tree.proofs.Height.{root-entries, thick-level, inserted-level}
-pub use Rattle.tree.proofs.DeleteLaws.{delete-keeps, delete-level, delete-thick, delete-root, delete-fewer, delete-next, find-deleted, find-deleted-other}
+pub use Rattle.tree.proofs.DeleteLaws.{delete-keeps, delete-thick, delete-root, delete-fewer, find-deleted, find-deleted-other}
 pub use Rattle.tree.proofs.Validity.{Small, Smalls, Valids}
 pub use Rattle.tree.proofs.InsertUnits.{insert-units, insert-valid}
 pub use Rattle.tree.proofs.DeleteUnits.{DeleteMade, delete-units, delete-valid}

@@ -75,7 +75,6 @@ Deep (suc l) s = length (s .kids) ≡ 1 → All (λ (x : Kid (Shape l)). Heirs l
 pub record Ends (t u : Table) (us : List U.Unit) (l : ℕ) (s : Shape l) : Type 0 where
   pub tree : Shaped u
   pub is : recs (tree .level) (tree .shape) ≡ recs l s
-  pub low : tree .level ≤ l
   pub wide : Wide (tree .level) (tree .shape)
   pub full : (c : ℕ) → Nearly c l s → Full c (tree .level) (tree .shape)
   pub fewer : (j : ℕ) → there (at u j) ≡ 1 → there (at t j) ≡ 1
@@ -228,7 +227,6 @@ stays : (t : Table) (l : ℕ) (s : Shape l) → Rooting t l s → Wide l s → E
 stays t l s g h = record {
   tree = record { level = l; shape = s; root = g .root; sub = g .sub; once = g .once };
   is = refl;
-  low = omega arith;
   wide = h;
   full = λ c f. nearly-wide c l s f h;
   fewer = λ j p. p;
@@ -260,7 +258,6 @@ collapses t (suc l) s g = step (s .number) (s .kids) g (λ u x. collapses u l x)
         (record {
           tree = i .tree;
           is = i .is ∙ renumber-recs l 0 (x .sub) ∙ sym (append-nil (recs l (x .sub)));
-          low = omega (arith, i .low);
           wide = i .wide;
           full = λ c f. i .full c (full-nearly c l (renumber l 0 (x .sub)) (renumber-full c l 0 (x .sub) (nearly-only c l m x f)));
           fewer = λ j p. over-fewer t l m x g j (i .fewer j p);
