@@ -1,4 +1,6 @@
 // The cases of the first demand and of the large part, each as a call: a line for each with the refusal in two digits, and behind it what the call tells.
+#![tactic(auto)]
+
 use chip::geometry::Nand;
 use chip::progress::Counts;
 use store::answer::{Look, Report};

@@ -100,7 +100,7 @@ pub fn free_set(geometry: Geometry, block: &[u8]) -> u64
 }
 
 // How many pages of a block are free, and the first free one; the number of its pages if none is.
-#[derive(Drop)]
+#[derive(Clone, Copy)]
 pub struct Free {
     pub count: u32,
     pub first: u32,

@@ -3,7 +3,7 @@ ghost use Rattle.std.specs.Prelude.{◌≡◌};
 ghost use Rattle.chip.specs.Geometry.{Fits, blocks_of, geometry_of};
 
 // Bytes of a page's data area and of its spare area, pages of a block, units that a page holds at most.
-#[derive(Drop)]
+#[derive(Clone, Copy)]
 pub struct Geometry {
     pub area: usize,
     pub spare: usize,
@@ -12,7 +12,7 @@ pub struct Geometry {
 }
 
 // The NAND of a chip: the small part or the large part.
-#[derive(Drop)]
+#[derive(Clone, Copy)]
 pub enum Nand {
     Small,
     Large,

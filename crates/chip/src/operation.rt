@@ -6,7 +6,7 @@ use crate::power;
 use crate::power::{Outcome, Power};
 
 // The kinds of operations: a data program, a mark set, an erase.
-#[derive(Drop)]
+#[derive(Clone, Copy)]
 pub enum Kind {
     Program,
     Mark,
@@ -14,7 +14,7 @@ pub enum Kind {
 }
 
 // An operation as it was: its kind, what became of it, and the power that it left.
-#[derive(Drop)]
+#[derive(Clone, Copy)]
 pub struct Operation {
     pub kind: Kind,
     pub outcome: Outcome,

@@ -12,7 +12,7 @@ use crate::power::{Outcome, Power};
 use crate::{operation, power};
 
 // The three marks in a page's spare area.
-#[derive(Drop)]
+#[derive(Clone, Copy)]
 pub enum Mark {
     Used,
     Valid,
@@ -72,12 +72,12 @@ pub fn program(
     let told = operation::tell(Kind::Program, power);
     match power::next(power) {
         Outcome::Whole => {
-            bytes::copy(bytes, page);
+            page[0..bytes.len()].copy_from_slice(bytes);
             told
         }
         Outcome::Torn => {
             let area = geometry.area;
-            bytes::copy(&torn[0..area], page);
+            page[0..area].copy_from_slice(&torn[0..area]);
             told
         }
         Outcome::Nothing => told,

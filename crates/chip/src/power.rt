@@ -3,14 +3,14 @@ ghost use Rattle.std.specs.Prelude.{◌≡◌};
 ghost use Rattle.chip.specs.Power.{spend, outcome, is_gone};
 
 // `Left(n)`: n operations are done whole and the next is torn. `Gone`: nothing is done any more.
-#[derive(Drop)]
+#[derive(Clone, Copy)]
 pub enum Power {
     Left(u32),
     Gone,
 }
 
 // What becomes of the next operation.
-#[derive(Drop)]
+#[derive(Clone, Copy)]
 pub enum Outcome {
     Whole,
     Torn,

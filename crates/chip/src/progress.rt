@@ -8,7 +8,7 @@ use crate::power::{Outcome, Power};
 use std::num;
 
 // Data programs, marks set, erases.
-#[derive(Drop)]
+#[derive(Clone, Copy)]
 pub struct Counts {
     pub programs: u32,
     pub marks: u32,
@@ -16,7 +16,7 @@ pub struct Counts {
 }
 
 // The power that is left, and the operations done whole.
-#[derive(Drop)]
+#[derive(Clone, Copy)]
 pub struct Progress {
     pub left: Power,
     pub done: Counts,

@@ -10,7 +10,7 @@ use plan::make;
 use plan::make::Basis;
 
 // Whether the commit was stuck, for want of room or of a page to write, and how far it came.
-#[derive(Drop)]
+#[derive(Clone, Copy)]
 pub struct Ended {
     pub stuck: bool,
     pub reached: Progress,

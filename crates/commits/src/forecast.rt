@@ -10,7 +10,7 @@ use plan::make;
 use plan::make::Basis;
 
 // Whether the commit would be stuck, and the operations that it would do by kind.
-#[derive(Drop)]
+#[derive(Clone, Copy)]
 pub struct Cost {
     pub stuck: bool,
     pub ops: Counts,

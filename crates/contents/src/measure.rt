@@ -13,7 +13,7 @@ use views::view;
 use views::view::Scope;
 
 // What the nodes are read with, and the oldest block; any number that is no block where there is none.
-#[derive(Drop)]
+#[derive(Clone, Copy)]
 pub struct Source {
     pub scope: Scope,
     pub oldest: usize,

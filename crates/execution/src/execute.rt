@@ -11,7 +11,7 @@ use chip::progress::Progress;
 use plan::make::Plan;
 
 // The geometry and the blocks of the chip, and the number of the last commit.
-#[derive(Drop)]
+#[derive(Clone, Copy)]
 pub struct Commit {
     pub geometry: Geometry,
     pub blocks: usize,

@@ -13,7 +13,7 @@ use pages::{unit, write};
 use views::table;
 
 // The pages of commit `commit`: of what geometry, how many, and of how many nodes.
-#[derive(Drop)]
+#[derive(Clone, Copy)]
 pub struct Pages {
     pub geometry: Geometry,
     pub limit: u32,
@@ -22,7 +22,7 @@ pub struct Pages {
 }
 
 // One of them.
-#[derive(Drop)]
+#[derive(Clone, Copy)]
 struct Part {
     pages: Pages,
     index: usize,

@@ -16,7 +16,7 @@ struct Told {
 }
 
 // What a block report tells: its refusal, 0 for none, and three numbers, 0 where there are none.
-#[derive(Drop)]
+#[derive(Clone, Copy)]
 struct Reported {
     refusal: u32,
     free: u64,

@@ -8,7 +8,7 @@ use chip::geometry::Nand;
 use store::step::Call;
 
 // Whether a line is a frame, and its call.
-#[derive(Drop)]
+#[derive(Clone, Copy)]
 pub struct Frame {
     pub good: bool,
     pub call: Call,

@@ -3,7 +3,7 @@ ghost use Rattle.std.specs.Prelude.{[]};
 ghost use Rattle.frames.specs.LineCode.{LineHolds, Longer, Empties};
 
 // The number of bytes, 19 where a line is longer than any frame, and the first 18 bytes.
-#[derive(Drop)]
+#[derive(Clone, Copy)]
 pub struct Line {
     pub len: usize,
     pub bytes: [u8; 18],

@@ -6,7 +6,7 @@ ghost use Rattle.frames.specs.LineCode.{TextSays};
 use store::answer::Answer;
 
 // A line with its line feed: its length and its bytes.
-#[derive(Drop)]
+#[derive(Clone, Copy)]
 pub struct Text {
     pub len: usize,
     pub bytes: [u8; 11],

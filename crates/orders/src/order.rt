@@ -8,7 +8,7 @@ use frames::frame;
 use frames::line::Line;
 
 // A call with its numbers: an allowance; a key and a value; a key; a block; a page; none.
-#[derive(Drop)]
+#[derive(Clone, Copy)]
 pub enum Call {
     Format(u32),
     Insert(u32, u32),
@@ -24,7 +24,7 @@ pub enum Call {
 
 // What is done to the bytes that the calls are lent: so many blocks lent, so many bytes, a byte of the image or a torn byte set at an
 // offset, so many torn bytes lent, the sum of the image told, noise from a seed; and the part that format, mount, rebuild and show name.
-#[derive(Drop)]
+#[derive(Clone, Copy)]
 pub enum Setting {
     Lend(u32),
     Cut(u32),
@@ -37,7 +37,7 @@ pub enum Setting {
 }
 
 // What a line orders: a call, or a setting of the bytes lent; nothing, for a line that is no frame.
-#[derive(Drop)]
+#[derive(Clone, Copy)]
 pub enum Order {
     NoFrame,
     Calls(Call),

@@ -8,7 +8,7 @@ use chip::geometry::Geometry;
 use chip::page;
 
 // Commit number, page index, page count of that commit, unit count.
-#[derive(Drop)]
+#[derive(Clone, Copy)]
 pub struct Head {
     pub commit: u32,
     pub index: u32,
@@ -17,7 +17,7 @@ pub struct Head {
 }
 
 // A page's data obeys the page's own rules of step 2, with this header, or breaks one.
-#[derive(Drop)]
+#[derive(Clone, Copy)]
 pub enum Header {
     Obeys(Head),
     Breaks,

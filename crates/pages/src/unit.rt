@@ -4,7 +4,7 @@ ghost use Rattle.lists.specs.Lists.{patch};
 ghost use Rattle.pages.specs.Units.{half, word, is_reset_value, decode_kind, decode, bytes_of, encode};
 
 // What a unit does to its node.
-#[derive(Drop)]
+#[derive(Clone, Copy)]
 pub enum Update {
     Insert(u32, u32),
     Delete(u32),
@@ -12,14 +12,14 @@ pub enum Update {
 }
 
 // An update with the node that it is for.
-#[derive(Drop)]
+#[derive(Clone, Copy)]
 pub struct Unit {
     pub node: u32,
     pub update: Update,
 }
 
 // What 12 bytes are: a unit, or none.
-#[derive(Drop)]
+#[derive(Clone, Copy)]
 pub enum Decoded {
     Good(Unit),
     Bad,

@@ -12,7 +12,7 @@ use contents::{measure, tally, written};
 use packing::{delta, pack};
 
 // The head block, and how many unused blocks a delta and a snapshot may take besides.
-#[derive(Drop)]
+#[derive(Clone, Copy)]
 pub struct Room {
     pub head: usize,
     pub others: usize,

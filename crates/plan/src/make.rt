@@ -14,7 +14,7 @@ use contents::measure::Source;
 use views::view::Scope;
 
 // What a commit starts from: the geometry, the units in the buffer, the blocks of the chip, and the number of the last commit.
-#[derive(Drop)]
+#[derive(Clone, Copy)]
 pub struct Basis {
     pub geometry: Geometry,
     pub count: usize,

@@ -14,7 +14,7 @@ use pages::unit;
 use views::view;
 
 // The head block, how many blocks are unused, and the oldest block.
-#[derive(Drop)]
+#[derive(Clone, Copy)]
 pub struct Surveyed {
     pub head: usize,
     pub unused: usize,
@@ -25,7 +25,7 @@ pub struct Surveyed {
 const NO_BLOCK: usize = 4294967295;
 
 // The last page in order of those seen so far: is there one, its commit number, index and place.
-#[derive(Drop)]
+#[derive(Clone, Copy)]
 struct Newest {
     found: bool,
     commit: u32,

@@ -9,7 +9,7 @@ use orders::order::Setting;
 use orders::{noise, reply, sum};
 
 // The part that format, mount, rebuild and show name; how many bytes are lent of the image buffer, and of the torn bytes.
-#[derive(Drop)]
+#[derive(Clone, Copy)]
 pub struct Bed {
     pub nand: Nand,
     pub image: usize,
@@ -17,7 +17,7 @@ pub struct Bed {
 }
 
 // The bed after a setting, and the bytes of output gathered.
-#[derive(Drop)]
+#[derive(Clone, Copy)]
 pub struct Made {
     pub bed: Bed,
     pub at: usize,

@@ -1,5 +1,7 @@
 // The probe program, for tests: a store that starts off, on a chip of 3 blocks of the small part, each byte 255, with torn bytes of 90. It reads
 // frames of hexadecimal from standard input, one a line, and answers each by a line.
+#![tactic(auto)]
+
 ghost use Rattle.std.specs.Prelude.{◌≡◌, length};
 ghost use Rattle.probe.specs.Makes.{rig, CarriesOut, CarriesLine, CarriesIn, CarriesSome};
 

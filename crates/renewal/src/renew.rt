@@ -14,7 +14,7 @@ use execution::execute::Commit;
 use log;
 
 // What a rebuild starts from: the geometry and the blocks of the chip, the greatest standing commit number, and the commit number of the void pages, 0 where there are none.
-#[derive(Drop)]
+#[derive(Clone, Copy)]
 pub struct Ground {
     pub geometry: Geometry,
     pub blocks: usize,

@@ -17,7 +17,7 @@ const PENDING: u32 = 16;
 const LAST: u32 = 4294967295;
 
 // Whether a call that can give 2 goes on, and if not which of 2 and 1 it gives.
-#[derive(Drop)]
+#[derive(Clone, Copy)]
 pub enum Admission {
     Passes,
     Off,
@@ -25,7 +25,7 @@ pub enum Admission {
 }
 
 // How a commit or a forecast begins: it ends with this answer, or goes on to its plan.
-#[derive(Drop)]
+#[derive(Clone, Copy)]
 pub enum Beginning {
     Ends(Answer),
     Plans,

@@ -5,7 +5,7 @@ ghost use Rattle.store.specs.Answers.{refusal_number};
 use chip::progress::Counts;
 
 // Accepted, or the value that a look up found, or why a call is refused, by the number of the refusal from 1 to 10, or 12.
-#[derive(Drop)]
+#[derive(Clone, Copy)]
 pub enum Answer {
     Accepted,
     Found(u32),
@@ -23,7 +23,7 @@ pub enum Answer {
 }
 
 // What a look up answers: the value found and the pages read, the pages read where the key is absent, or the refusals 2 and 1.
-#[derive(Drop)]
+#[derive(Clone, Copy)]
 pub enum Look {
     Found(u32, u32),
     Absent(u32),
@@ -33,7 +33,7 @@ pub enum Look {
 
 // What a block report answers: how many pages of the block are free, the first free one and the erases of the block, or the refusals 2, 1
 // and 4.
-#[derive(Drop)]
+#[derive(Clone, Copy)]
 pub enum Report {
     Free(u32, u32, u64),
     Off,
@@ -42,7 +42,7 @@ pub enum Report {
 }
 
 // What a forecast answers: what a commit made now, with power enough, would, and the operations that it would tell by kind.
-#[derive(Drop)]
+#[derive(Clone, Copy)]
 pub struct Forecast {
     pub answer: Answer,
     pub ops: Counts,

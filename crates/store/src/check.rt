@@ -17,7 +17,7 @@ use views::read;
 const LAST: usize = CHIP_PAGES - 1;
 
 // What steps 4 to 6 say of the standing pages: refusal 8, refusal 9, or that the nodes are a tree, and whether it is thin.
-#[derive(Drop)]
+#[derive(Clone, Copy)]
 enum Judged {
     Layout,
     Shape,
@@ -26,7 +26,7 @@ enum Judged {
 
 // The refusals 7, 8 and 9; or the greatest standing commit number, and the commit number of the void pages, 0 where there are none, and
 // whether the tree is thin.
-#[derive(Drop)]
+#[derive(Clone, Copy)]
 pub enum Checked {
     Blank,
     Layout,

@@ -1,4 +1,6 @@
 // The flash index: its state, and the calls on a lent image.
+#![tactic(auto)]
+
 mod admit;
 pub mod answer;
 mod check;

@@ -13,7 +13,7 @@ use renewal::blocks;
 const LAST: u32 = 4294967295;
 
 // The refusals 7, 8, 9, 6 and 5; or the greatest standing commit number, and the commit number of the void pages, 0 where there are none.
-#[derive(Drop)]
+#[derive(Clone, Copy)]
 pub enum Prepared {
     Blank,
     Layout,

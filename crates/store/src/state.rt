@@ -29,7 +29,7 @@ pub struct State {
 }
 
 // A state but for its large arrays, for a caller that lends those.
-#[derive(Drop)]
+#[derive(Clone, Copy)]
 pub struct Numbers {
     pub on: bool,
     pub nand: Nand,
@@ -56,14 +56,14 @@ pub struct Updated {
 }
 
 // What insert and delete on lent arrays give back: the answer and the numbers.
-#[derive(Drop)]
+#[derive(Clone, Copy)]
 pub struct UpdatedParts {
     pub answer: Answer,
     pub numbers: Numbers,
 }
 
 // What format, mount and commit on lent arrays give back: the answer, the operations done by kind, the numbers.
-#[derive(Drop)]
+#[derive(Clone, Copy)]
 pub struct WroteParts {
     pub answer: Answer,
     pub ops: Counts,

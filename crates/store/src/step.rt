@@ -10,7 +10,7 @@ use chip::progress;
 use chip::progress::Counts;
 
 // A call with its numbers: an allowance; a key and a value; a key. A format and a mount name the part.
-#[derive(Drop)]
+#[derive(Clone, Copy)]
 pub enum Call {
     Format(Nand, u32),
     Insert(u32, u32),

@@ -22,7 +22,7 @@ use views::{buffer, node};
 const FREED: u32 = 255;
 
 // What a delete under a node leaves: whether the key is absent, whether the node lost an entry, how many it has then, and how many units there are.
-#[derive(Drop)]
+#[derive(Clone, Copy)]
 pub struct Fall {
     pub absent: bool,
     pub lost: bool,
@@ -31,7 +31,7 @@ pub struct Fall {
 }
 
 // Two neighbours under node `parent`, and the key of the right one there.
-#[derive(Drop)]
+#[derive(Clone, Copy)]
 pub struct Pair {
     pub parent: u32,
     pub left: u32,

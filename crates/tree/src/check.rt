@@ -20,7 +20,7 @@ use views::view::list_view;
 const TOP: u64 = 4294967296;
 
 // What step 6 finds: no tree, a thin one, or one that is not thin.
-#[derive(Drop)]
+#[derive(Clone, Copy)]
 pub enum Growth {
     NoTree,
     Thin,
@@ -28,7 +28,7 @@ pub enum Growth {
 }
 
 // Whether each node is counted once, and whether some node is thin.
-#[derive(Drop)]
+#[derive(Clone, Copy)]
 pub struct Counted {
     pub once: bool,
     pub thin: bool,

@@ -16,7 +16,7 @@ use views::node::Node;
 use views::view::Scope;
 
 // The answer of a delete: whether the key is absent, and how many units there are then.
-#[derive(Drop)]
+#[derive(Clone, Copy)]
 pub struct Deleted {
     pub absent: bool,
     pub count: usize,

@@ -15,14 +15,14 @@ use views::node::Node;
 use views::view::{Scope, node_view, read_node};
 
 // What a leaf holds for a key: its value, or nothing.
-#[derive(Drop)]
+#[derive(Clone, Copy)]
 pub enum Hit {
     At(u32),
     Nothing,
 }
 
 // What a key has, and how many pages were read on the way to it.
-#[derive(Drop)]
+#[derive(Clone, Copy)]
 pub struct Looked {
     pub hit: Hit,
     pub pages: u32,
@@ -94,7 +94,7 @@ pub fn node_at(
 }
 
 // A node, and its length on flash.
-#[derive(Drop)]
+#[derive(Clone, Copy)]
 pub struct NodeRead {
     node: Node,
     pages: u32,

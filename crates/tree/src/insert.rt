@@ -18,7 +18,7 @@ use views::view::Scope;
 use views::{buffer, node};
 
 // What an insert under a node leaves: whether it is refused, the entry that the parent gains, if any, and how many units there are then.
-#[derive(Drop)]
+#[derive(Clone, Copy)]
 pub struct Rise {
     pub refused: bool,
     pub gains: bool,
@@ -28,7 +28,7 @@ pub struct Rise {
 }
 
 // Where an insert is on its way down: node `node` of `level`. The nodes above it take `need` numbers if it splits.
-#[derive(Drop)]
+#[derive(Clone, Copy)]
 struct Spot {
     level: u32,
     node: u32,
@@ -36,7 +36,7 @@ struct Spot {
 }
 
 // The answer of an insert: whether it is refused, and how many units there are then.
-#[derive(Drop)]
+#[derive(Clone, Copy)]
 pub struct Inserted {
     pub refused: bool,
     pub count: usize,

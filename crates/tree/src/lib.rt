@@ -1,4 +1,6 @@
 // The tree: find, insert and delete as recursion on the level, step 6, and the records in key order.
+#![tactic(auto)]
+
 pub mod balance;
 pub mod check;
 pub mod delete;

@@ -12,7 +12,7 @@ use crate::node::Node;
 use pages::unit::{Decoded, Unit, Update, decode_unit, is_reset_value, read_half, read_word};
 
 // No unit yet; freed by its last reset; units without a reset or after one that frees, or above 16 entries since the last one; a level and entries.
-#[derive(Drop)]
+#[derive(Clone, Copy)]
 pub enum Stage {
     Untouched,
     Freed,
@@ -21,14 +21,14 @@ pub enum Stage {
 }
 
 // A node's view so far: its stage, and where that is full the node.
-#[derive(Drop)]
+#[derive(Clone, Copy)]
 pub struct Folded {
     pub stage: Stage,
     pub node: Node,
 }
 
 // A node's view so far, but for its entries: its stage, and where that is full its level and how many entries it has.
-#[derive(Drop)]
+#[derive(Clone, Copy)]
 pub struct Shape {
     pub stage: Stage,
     pub level: u32,

@@ -4,7 +4,7 @@ ghost use Rattle.views.specs.Nodes.{insert_entry, delete_entry};
 ghost use Rattle.views.specs.NodeCode.{entries_in, entries_of, rank, Pushed, Pulled, HoldsEntries, Shows};
 
 // The entries are the first `len` keys, each with the value at its index.
-#[derive(Drop)]
+#[derive(Clone, Copy)]
 pub struct Node {
     pub level: u32,
     pub len: usize,

@@ -13,7 +13,7 @@ use chip::geometry::Geometry;
 use pages::unit;
 
 // What a node is read with: the geometry of the chip, how many units the buffer has, and how many nodes there are.
-#[derive(Drop)]
+#[derive(Clone, Copy)]
 pub struct Scope {
     pub geometry: Geometry,
     pub count: usize,

@@ -4,7 +4,7 @@ use mathlib.Core.Bool.{Bool, true, false}
 use mathlib.Core.List.{List, [], ◌∷◌, ◌++◌, map}
 use Prim.Native.Nat.{ℕ, zero, suc}
 use lib.ListN.{length, take, drop, replicate}
-use Rattle.lists.specs.Lists.{filter, all, any, All, none, more, modify, mapFrom}
+use Rattle.lists.specs.Lists.{filter, all, any, All, none, more, modify, map_from}
 use Rattle.lists.proofs.Tests.{cases, clash, and_left, and_right}
 
 module _ {A : Type 0} {P : A → Type 0} where
@@ -57,14 +57,14 @@ module _ {A : Type 0} {P : A → Type 0} where
   All-modify zero f k (x ∷ xs) h = more (k x (All-head h)) (All-tail h)
   All-modify (suc n) f k (x ∷ xs) h = more (All-head h) (All-modify n f k xs (All-tail h))
 
-  pub All-mapFrom : (i : ℕ) (f : ℕ → A → A) → ((n : ℕ) (x : A) → P x → P (f n x)) → (xs : List A) → All P xs → All P (mapFrom i f xs)
+  pub All-mapFrom : (i : ℕ) (f : ℕ → A → A) → ((n : ℕ) (x : A) → P x → P (f n x)) → (xs : List A) → All P xs → All P (map_from i f xs)
   All-mapFrom i f k [] h = none
   All-mapFrom i f k (x ∷ xs) h = more (k i x (All-head h)) (All-mapFrom (suc i) f k xs (All-tail h))
 
 module _ {A : Type 0} where
-  pub all-All : (p : A → Bool) (xs : List A) → all p xs ≡ true → All (λ (x : A). p x ≡ true) xs
-  all-All p [] e = none
-  all-All p (x ∷ xs) e = more (and_left (p x) (all p xs) e) (all-All p xs (and_right (p x) (all p xs) e))
+  pub all_All : (p : A → Bool) (xs : List A) → all p xs ≡ true → All (λ (x : A). p x ≡ true) xs
+  all_All p [] e = none
+  all_All p (x ∷ xs) e = more (and_left (p x) (all p xs) e) (all_All p xs (and_right (p x) (all p xs) e))
 
   pub All-all : (p : A → Bool) {xs : List A} → All (λ (x : A). p x ≡ true) xs → all p xs ≡ true
   All-all p none = refl
@@ -74,9 +74,9 @@ module _ {A : Type 0} where
   any_false p [] e = none
   any_false p (x ∷ xs) e = cases (p x) (λ t. let z : true ≡ false = (rw t at e) in clash refl z) (λ t. more t (any_false p xs (rw t at e)))
 
-  pub false-any : (p : A → Bool) {xs : List A} → All (λ x. p x ≡ false) xs → any p xs ≡ false
-  false-any p none = refl
-  false-any p (more h hs) = rw h (false-any p hs)
+  pub false_any : (p : A → Bool) {xs : List A} → All (λ x. p x ≡ false) xs → any p xs ≡ false
+  false_any p none = refl
+  false_any p (more h hs) = rw h (false_any p hs)
 
 -- bytes that all equal a are a, repeated
 pub all_replicate : (a : ℕ) (p : ℕ → Bool) → ((x : ℕ) → p x ≡ true → x ≡ a) → (xs : List ℕ) → all p xs ≡ true → xs ≡ replicate (length xs) a

@@ -18,6 +18,6 @@ module _ {A : Type 0} where
   end_of [] = nil
   end_of (x ∷ xs) = end_more x (end_of xs)
 
-  pub snoc-some : (xs : List A) (x : A) → xs ++ (x ∷ []) ≡ [] → ⊥
-  snoc-some [] x e = let u : ◌≡◌ {A = ℕ} 0 1 = cc in omega arith
-  snoc-some (y ∷ xs) x e = let u : ◌≡◌ {A = ℕ} 0 1 = cc in omega arith
+  pub snoc_some : (xs : List A) (x : A) → xs ++ (x ∷ []) ≡ [] → ⊥
+  snoc_some [] x e = let u : ◌≡◌ {A = ℕ} 0 1 = cc in omega arith
+  snoc_some (y ∷ xs) x e = let u : ◌≡◌ {A = ℕ} 0 1 = cc in omega arith

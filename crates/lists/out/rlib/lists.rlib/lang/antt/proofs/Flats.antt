@@ -11,36 +11,36 @@ use Rattle.lists.proofs.Alls.{All-append}
 
 -- ---- f k, f (k + 1), ..
 module _ {A : Type 0} where
-  pub tab-same : (f h : ℕ → A) (k m : ℕ) → ((n : ℕ) → n < k + m → f n ≡ h n) → tab k m f ≡ tab k m h
-  tab-same f h k zero e = refl
-  tab-same f h k (suc m) e = rw (e k (omega arith), tab-same f h (suc k) m (λ n l. e n (omega arith)))
+  pub tab_same : (f h : ℕ → A) (k m : ℕ) → ((n : ℕ) → n < k + m → f n ≡ h n) → tab k m f ≡ tab k m h
+  tab_same f h k zero e = refl
+  tab_same f h k (suc m) e = rw (e k (omega arith), tab_same f h (suc k) m (λ n l. e n (omega arith)))
 
-  pub length-tab : (f : ℕ → A) (k m : ℕ) → length (tab k m f) ≡ m
-  length-tab f k zero = refl
-  length-tab f k (suc m) = ap suc (length-tab f (suc k) m)
+  pub length_tab : (f : ℕ → A) (k m : ℕ) → length (tab k m f) ≡ m
+  length_tab f k zero = refl
+  length_tab f k (suc m) = ap suc (length_tab f (suc k) m)
 
-  pub getD-tab : (f : ℕ → A) (k m n : ℕ) (d : A) → n < m → get_or (tab k m f) n d ≡ f (k + n)
-  getD-tab f k zero n d h = absurd (omega arith)
-  getD-tab f k (suc m) zero d h = ap f (let e : k ≡ k + 0 = omega arith in e)
-  getD-tab f k (suc m) (suc n) d h = getD-tab f (suc k) m n d (omega arith) ∙ ap f (let e : suc k + n ≡ k + suc n = omega arith in e)
+  pub get_d_tab : (f : ℕ → A) (k m n : ℕ) (d : A) → n < m → get_or (tab k m f) n d ≡ f (k + n)
+  get_d_tab f k zero n d h = absurd (omega arith)
+  get_d_tab f k (suc m) zero d h = ap f (let e : k ≡ k + 0 = omega arith in e)
+  get_d_tab f k (suc m) (suc n) d h = get_d_tab f (suc k) m n d (omega arith) ∙ ap f (let e : suc k + n ≡ k + suc n = omega arith in e)
 
   -- all of them pass if each does, and each if all do
   -- one more at the end
-  pub tab-last : (f : ℕ → A) (k m : ℕ) → tab k (suc m) f ≡ tab k m f ++ (f (k + m) ∷ [])
-  tab-last f k zero = let e : k + 0 ≡ k = omega arith in rw e
-  tab-last f k (suc m) = let e : suc k + m ≡ k + suc m = omega arith in ap (λ (l : List A). f k ∷ l) (tab-last f (suc k) m ∙ rw e)
+  pub tab_last : (f : ℕ → A) (k m : ℕ) → tab k (suc m) f ≡ tab k m f ++ (f (k + m) ∷ [])
+  tab_last f k zero = let e : k + 0 ≡ k = omega arith in rw e
+  tab_last f k (suc m) = let e : suc k + m ≡ k + suc m = omega arith in ap (λ (l : List A). f k ∷ l) (tab_last f (suc k) m ∙ rw e)
 
-  pub all-tab : (p : A → Bool) (f : ℕ → A) (k m : ℕ) → ((n : ℕ) → n < k + m → p (f n) ≡ true) → all p (tab k m f) ≡ true
-  all-tab p f k zero h = refl
-  all-tab p f k (suc m) h = rw (h k (omega arith), all-tab p f (suc k) m (λ n l. h n (omega arith)))
+  pub all_tab : (p : A → Bool) (f : ℕ → A) (k m : ℕ) → ((n : ℕ) → n < k + m → p (f n) ≡ true) → all p (tab k m f) ≡ true
+  all_tab p f k zero h = refl
+  all_tab p f k (suc m) h = rw (h k (omega arith), all_tab p f (suc k) m (λ n l. h n (omega arith)))
 
-  pub tab-all : (p : A → Bool) (f : ℕ → A) (k m n : ℕ) → all p (tab k m f) ≡ true → n < m → p (f (k + n)) ≡ true
-  tab-all p f k zero n e h = absurd (omega arith)
-  tab-all p f k (suc m) zero e h =
+  pub tab_all : (p : A → Bool) (f : ℕ → A) (k m n : ℕ) → all p (tab k m f) ≡ true → n < m → p (f (k + n)) ≡ true
+  tab_all p f k zero n e h = absurd (omega arith)
+  tab_all p f k (suc m) zero e h =
       ap (λ (i : ℕ). p (f i)) (let z : k + 0 ≡ k = omega arith in z) ∙ and_left (p (f k)) (all p (tab (suc k) m f)) e
-  tab-all p f k (suc m) (suc n) e h =
+  tab_all p f k (suc m) (suc n) e h =
       ap (λ (i : ℕ). p (f i)) (let z : k + suc n ≡ suc k + n = omega arith in z)
-      ∙ tab-all p f (suc k) m n (and_right (p (f k)) (all p (tab (suc k) m f)) e) (omega arith)
+      ∙ tab_all p f (suc k) m n (and_right (p (f k)) (all p (tab (suc k) m f)) e) (omega arith)
 
 -- ---- f of each element, joined
 module _ {A B : Type 0} where
@@ -63,18 +63,18 @@ module _ {A : Type 0} where
   all_append p [] ys = refl
   all_append p (x ∷ xs) ys = cases (p x) (λ e. rw (e, all_append p xs ys)) (λ e. rw e)
 
-  pub all-joined : (p : A → Bool) (xss : List (List A)) → all p (flat (λ (xs : List A). xs) xss) ≡ all (all p) xss
-  all-joined p [] = refl
-  all-joined p (xs ∷ xss) = all_append p xs (flat (λ (ys : List A). ys) xss) ∙ ap (λ (t : Bool). all p xs && t) (all-joined p xss)
+  pub all_joined : (p : A → Bool) (xss : List (List A)) → all p (flat (λ (xs : List A). xs) xss) ≡ all (all p) xss
+  all_joined p [] = refl
+  all_joined p (xs ∷ xss) = all_append p xs (flat (λ (ys : List A). ys) xss) ∙ ap (λ (t : Bool). all p xs && t) (all_joined p xss)
 
 -- ---- map of a part
 module _ {A B : Type 0} where
-  pub map-take : (f : A → B) (n : ℕ) (a : List A) → map f (take n a) ≡ take n (map f a)
-  map-take f zero a = refl
-  map-take f (suc n) [] = refl
-  map-take f (suc n) (x ∷ a) = rw (map-take f n a)
+  pub map_take : (f : A → B) (n : ℕ) (a : List A) → map f (take n a) ≡ take n (map f a)
+  map_take f zero a = refl
+  map_take f (suc n) [] = refl
+  map_take f (suc n) (x ∷ a) = rw (map_take f n a)
 
-  pub map-drop : (f : A → B) (n : ℕ) (a : List A) → map f (drop n a) ≡ drop n (map f a)
-  map-drop f zero a = refl
-  map-drop f (suc n) [] = refl
-  map-drop f (suc n) (x ∷ a) = map-drop f n a
+  pub map_drop : (f : A → B) (n : ℕ) (a : List A) → map f (drop n a) ≡ drop n (map f a)
+  map_drop f zero a = refl
+  map_drop f (suc n) [] = refl
+  map_drop f (suc n) (x ∷ a) = map_drop f n a

@@ -54,9 +54,9 @@ modify zero f (x ∷ xs) = f x ∷ xs
 modify (suc n) f (x ∷ xs) = x ∷ modify n f xs
 
 -- each element altered by its index, the first at index i
-abbrev pub mapFrom : {A : Type 0} → ℕ → (ℕ → A → A) → List A → List A
-mapFrom i f [] = []
-mapFrom i f (x ∷ xs) = f i x ∷ mapFrom (suc i) f xs
+abbrev pub map_from : {A : Type 0} → ℕ → (ℕ → A → A) → List A → List A
+map_from i f [] = []
+map_from i f (x ∷ xs) = f i x ∷ map_from (suc i) f xs
 
 -- x behind all that stand before it by the test b
 abbrev pub insert : {A : Type 0} → (A → A → Bool) → A → List A → List A

@@ -1,0 +1,306 @@
+#!/usr/bin/env python3
+"""Turns each Proof.antt of a crate that walks the code into Invariants.antt and Answers.antt.
+
+usage: tools/answers_of_proofs.py CRATE NAMES [FUNCTION..]
+
+NAMES is the file names.json that `rt check --generated FOLDER --old-names` writes in the crate: for each function the old and the new name of each
+goal and step. Answers that only search are left out, since the check searches by itself. What has no new name is printed.
+"""
+
+import json
+import os
+import re
+import sys
+
+ROOT = os.path.dirname(os.path.dirname(os.path.abspath(__file__)))
+HEAD = re.compile(r"^(?:abbrev |unfoldable |pub )*([^\s:(){}]+) : ?(.*)$")
+PATH = re.compile(r"(?<![\w.'-])([A-Za-z_][\w'₀-₉-]*)((?:\.(?:«[^»]*»|[\w'₀-₉-]+))+)")
+WORD = re.compile(r"(?<![\w.'₀-₉-])([A-Za-zμ_][\w'₀-₉-]*)(?![\w'₀-₉-])")
+OWN = re.compile(r"^use (Rattle\.\w+\.proofs\.[^\s{]*\.(Statement|Tie|Reads|Lts|Kinds|Lts-\w+|\+[\w+]+)\b|borrow\.)")
+
+
+def norm(name):
+    return name.replace("_", "-")
+
+
+def blocks_of(text):
+    """The imports, and each definition as (comment, name, type, unfolding, body)."""
+    imports, blocks, comment, now = [], [], [], None
+    for line in text.split("\n"):
+        if line.startswith("use "):
+            imports.append(line)
+            continue
+        if line.startswith("--"):
+            if not re.match(r"-- src/", line):
+                comment.append(line)
+            now = None
+            continue
+        head = HEAD.match(line)
+        if head and not line.startswith(" "):
+            now = {"comment": comment, "name": head.group(1), "type": [head.group(2)], "open": [], "body": [], "part": "type"}
+            comment = []
+            blocks.append(now)
+            continue
+        if now is None:
+            continue
+        if line.startswith("unfolding"):
+            now["open"].append(line)
+        elif now["part"] == "type" and re.match(rf"^{re.escape(now['name'])}(?= |$)", line):
+            now["part"] = "body"
+            now["body"].append(line)
+        else:
+            now[now["part"]].append(line)
+    return imports, blocks
+
+
+class Names:
+    """The old and the new names of one function."""
+
+    def __init__(self, told, source):
+        self.needs = {}
+        for old, new in told["needs"]:
+            self.needs.setdefault(norm(old), new)
+        self.steps, self.callee = {}, {}
+        for _, _, (old, new), callee, extra in told["places"]:
+            if old and norm(old) not in self.steps:
+                self.steps[norm(old)] = new
+                self.callee[norm(old)] = callee
+        self.long = {}
+        for _, _, (old, new), callee, extra in told["places"]:
+            for a, b in extra:
+                self.long.setdefault((norm(old), norm(a)), b)
+        self.arms = {}
+        for arm in told["arms"]:
+            if not arm:
+                continue
+            step, _, fields = arm
+            for field, old, path in fields:
+                self.arms.setdefault((norm(old), tuple(path)), (step, field))
+        self.typed = {}
+        for place in told["typed"]:
+            for var, old in place:
+                self.typed.setdefault(norm(old), var)
+        self.loops = told["loops"]
+        self.changed = told["changed"]
+        self.params = told["params"]
+        self.source = source
+        self.lost = []
+
+    def path(self, steps):
+        """The new path below c of an old one below it."""
+        steps = [s for s in steps if s != "before"]
+        if not steps:
+            return "c"
+        head, rest = norm(steps[0]), steps[1:]
+        if steps[0] in ("args", "requires", "ranges"):
+            return ".".join(["c", *steps])
+        for n in range(len(rest), -1, -1):
+            if (head, tuple(rest[:n])) in self.arms:
+                step, field = self.arms[(head, tuple(rest[:n]))]
+                return ".".join(["c", step, field, *rest[n:]])
+        if head in self.typed and rest[:1] == ["given"]:
+            return ".".join(["c", "type_inv", self.typed[head], *rest[1:]])
+        if head not in self.steps:
+            self.lost.append(".".join(steps))
+            return ".".join(["c", *steps])
+        new, callee = self.steps[head], self.callee[head]
+        if rest and (head, norm(rest[0])) in self.long:
+            rest = [self.long[(head, norm(rest[0]))], *rest[1:]]
+        if callee and rest[:1] == ["new"]:
+            n = 1
+            while n < len(rest) and rest[n] == "1":
+                n += 1
+            if n < len(rest) and rest[n] == "0" and callee in self.params and n - 1 < len(self.params[callee]):
+                rest = ["new", self.params[callee][n - 1], *rest[n + 1 :]]
+        if callee and rest[:1] == ["kept"]:
+            lent = self.source.lent(callee)
+            at = int(rest[1]) if len(rest) > 1 and rest[1].isdigit() else 0
+            if at < len(lent):
+                rest = ["auto", lent[at], *rest[2:]]
+        return ".".join(["c", new, *rest])
+
+
+class Source:
+    """The functions of all crates: which of their parameters are lent slices."""
+
+    def __init__(self):
+        self.heads = {}
+        for crate in sorted(os.listdir(os.path.join(ROOT, "crates"))):
+            folder = os.path.join(ROOT, "crates", crate, "src")
+            for name in sorted(os.listdir(folder)) if os.path.isdir(folder) else []:
+                with open(os.path.join(folder, name), encoding="utf-8") as f:
+                    text = f.read()
+                for m in re.finditer(r"^(?:pub )?fn (\w+)(?:<[^>]*>)?\(([^)]*)\)", text, re.M):
+                    self.heads[(crate, m.group(1))] = [x.strip() for x in m.group(2).split(",") if x.strip()]
+
+    def lent(self, callee):
+        parts = callee.split("::")
+        head = self.heads.get((parts[0], parts[-1]), [])
+        return [x.split(":")[0].strip() for x in head if re.search(r": &(?:'\w+ )?mut \[[^;\]]*\]$", x)]
+
+
+def resolved(names, text, roots, helpers):
+    """The text with each path below one of roots turned; lets that bind a step or c itself go."""
+    alias = {r: [] for r in roots}
+
+    def full(m):
+        head, tail = m.group(1), [t for t in m.group(2).split(".") if t]
+        if head in alias:
+            return alias[head] + tail
+        return None
+
+    lines = text
+    out = ""
+    i = 0
+    let = re.compile(r"let ([A-Za-z_][\w'₀-₉-]*) = ([A-Za-z_][\w'₀-₉-]*)((?:\.(?:«[^»]*»|[\w'₀-₉-]+))*) in(?: |(\n\s*)|$)")
+    while i < len(lines):
+        m = let.match(lines, i)
+        if m and m.group(2) in alias and (i == 0 or not re.match(r"[\w'-]", lines[i - 1])):
+            alias[m.group(1)] = alias[m.group(2)] + [t for t in m.group(3).split(".") if t]
+            i = m.end()
+            continue
+        m = PATH.match(lines, i)
+        if m and (i == 0 or not re.match(r"[\w.'₀-₉-]", lines[i - 1])):
+            p = full(m)
+            out += names.path(p) if p is not None else m.group(0)
+            i = m.end()
+            continue
+        m = WORD.match(lines, i)
+        if m and (i == 0 or not re.match(r"[\w.'₀-₉-]", lines[i - 1])):
+            w = m.group(1)
+            out += names.path(alias[w]) if w in alias and w != "c" else w
+            i = m.end()
+            continue
+        out += lines[i]
+        i += 1
+    return out
+
+
+def renamed(text, by):
+    return WORD.sub(lambda m: by.get(m.group(1), m.group(1)), PATH.sub(lambda m: by[m.group(1)] + m.group(2) if m.group(1) in by else m.group(0), text))
+
+
+def of_loop(names, block, index, word):
+    """An invariant or a measure, with its parameters turned into fields of l."""
+    body = "\n".join(block["body"])
+    head = re.match(rf"{re.escape(block['name'])}((?: [^\s=]+)*) =\s?", body)
+    params = head.group(1).split()
+    (old, new), variables = names.loops[index]
+    changed = names.changed
+    by = {}
+    ch = changed if changed and not isinstance(changed[0], list) else changed[index]
+    moved = [v for v, c in zip(variables, ch) if c]
+    for j, p in enumerate(params):
+        if j < len(variables):
+            by[p] = ("l.initial." if ch[j] else "l.") + variables[j]
+        elif j - len(variables) < len(moved):
+            by[p] = "l." + moved[j - len(variables)]
+    return f"abbrev pub {word}-{new} : goal.{word}-{new}\n" + "\n".join(block["open"] + [""] if block["open"] else []) + f"{word}-{new} l = " + renamed(body[head.end() :], by).strip("\n")
+
+
+def is_plain(body):
+    return re.sub(r"^\S+( \S+)* =\s*", "", body.strip()).strip() in ("search rules", "")
+
+
+def turn(crate, folder, told, source, prefix=""):
+    path = os.path.join(folder, "Proof.antt")
+    with open(path, encoding="utf-8") as f:
+        imports, blocks = blocks_of(f.read())
+    names = Names(told, source)
+    place = os.path.relpath(folder, os.path.join(ROOT, "crates", crate, "proofs")).replace("/", ".")
+    kept = [l for l in imports if not OWN.match(l) or re.match(r"use borrow\.(Author|Fn\.Tests)", l) and "Rules.{rules}" not in l]
+    helpers, answers, invariants = {}, [], []
+    loops = {"invariant": 0, "decreases": 0}
+    for b in blocks:
+        kind = b["type"][0]
+        body = "\n".join(b["body"]).rstrip("\n")
+        word = "invariant" if re.search(r"\.invariant-", kind) and "Need" not in kind else "decreases" if re.search(r"\.decreases-", kind) and "Need" not in kind else ""
+        if word and re.match(r"^[\w-]+\.(invariant|decreases)-", kind.strip()):
+            invariants.append(of_loop(names, b, loops[word], word))
+            loops[word] += 1
+        elif "Need-" in kind:
+            name = norm(b["name"])
+            if prefix and name.startswith(norm(prefix) + "-"):
+                name = name[len(prefix) + 1 :]
+            name = re.sub(r"^(loop\d*(?:-\d+)?)-holds", r"\1-init", name)
+            name = re.sub(r"^(loop\d*)-again", r"\1-preserved", name)
+            name = re.sub(r"^(loop\d*)-less", r"\1-smaller", name)
+            if is_plain(body):
+                continue
+            m = re.match(rf"{re.escape(b['name'])}((?: [^\s=]+)*) =\s?", body)
+            params = m.group(1).split()
+            root = params[0]
+            rest = body[m.end() :]
+            new = names.needs.get(name)
+            if new is None:
+                print(f"{crate} {place}: no goal for {name}")
+                new = name
+            used = []
+            # helpers that the answer cites, and those that they cite, come first as typed lets
+            def cite(text):
+                for h in helpers:
+                    if re.search(rf"(?<![\w.'-]){re.escape(h)}(?![\w'-])", text) and h not in used:
+                        cite(helpers[h]["text"])
+                        if h not in used:
+                            used.append(h)
+            cite(rest)
+            text = resolved(names, rest, {root} if root != "_" else set(), helpers)
+            lets = ""
+            for h in used:
+                text = re.sub(rf"\(?(?<![\w.'-]){re.escape(h)} c\)?(?![\w'-])", lambda m: h if m.group(0).startswith("(") == m.group(0).endswith(")") else m.group(0).replace(f"{h} c", h), text)
+                lets += f"    let {h} : {helpers[h]['type']} = {helpers[h]['body']} in\n"
+            if lets and not text.startswith("\n"):
+                text = "\n    " + text.lstrip()
+            if lets:
+                text = "\n" + lets.rstrip("\n") + text
+            sep = " " if not text.startswith("\n") else ""
+            extra = " ".join(["c"] + params[1:]) if len(params) > 1 else "c"
+            answers.append("\n".join(b["comment"] + [f"pub {new} : goal.{new}"] + b["open"] + [f"{new} {extra} ={sep}{text}"]))
+        elif "statement" in kind:
+            continue
+        elif re.search(r"\(\w+ : (tie|lts|[\w-]+-lts)\.", kind):
+            m = re.match(r"^\((\w+) : [^)]*\)\s*→?\s*(.*)$", "\n".join(b["type"]), re.S)
+            mb = re.match(rf"{re.escape(b['name'])}((?: [^\s=]+)*) =\s?", body)
+            root_t, root_b = m.group(1), mb.group(1).split()[0]
+            more = mb.group(1).split()[1:]
+            t = resolved(names, m.group(2).strip(), {root_t}, helpers)
+            x = resolved(names, body[mb.end() :].strip(), {root_b}, helpers)
+            for h in helpers:
+                t = re.sub(rf"\(?(?<![\w.'-]){re.escape(h)} c\)?(?![\w'-])", h, t)
+                x = re.sub(rf"\(?(?<![\w.'-]){re.escape(h)} c\)?(?![\w'-])", h, x)
+            if more:
+                x = f"(λ {' '.join(more)}. {x})"
+            helpers[b["name"]] = {"type": " ".join(t.split()), "body": " ".join(x.split()), "text": x + " " + t}
+        else:
+            answers.append("\n".join(b["comment"] + [f"{b['name']} : " + "\n".join(b["type"]).rstrip()] + b["open"] + [body]))
+    for lost in sorted(set(names.lost)):
+        print(f"{crate} {place}: no step for {lost}")
+    os.remove(path)
+    for file, module, parts in (("Invariants", "Given", invariants), ("Answers", "Goals", answers)):
+        if parts:
+            with open(os.path.join(folder, file + ".antt"), "w", encoding="utf-8") as f:
+                f.write("\n".join(kept + [f"use Rattle.{crate}.proofs.{place}.{module} as goal"]) + "\n\n" + "\n\n".join(parts) + "\n")
+
+
+def main(argv):
+    crate, names, only = argv[0], argv[1], argv[2:]
+    with open(names, encoding="utf-8") as f:
+        told = json.load(f)
+    source = Source()
+    for key in sorted(told):
+        m = re.match(rf"Rattle-{crate}-proofs\.(.*)\.Lts(?:-(\w+))?$", key)
+        if not m:
+            continue
+        folder = os.path.join(ROOT, "crates", crate, "proofs", *m.group(1).split("."))
+        name = m.group(1).split(".")[-1]
+        if only and name not in only or not os.path.exists(os.path.join(folder, "Proof.antt")):
+            continue
+        try:
+            turn(crate, folder, told[key], source, norm(m.group(2)) if m.group(2) else "")
+        except Exception as e:
+            print(f"{crate} {m.group(1)}: {type(e).__name__} {e}")
+    return 0
+
+
+if __name__ == "__main__":
+    raise SystemExit(main(sys.argv[1:]))
