@@ -16,7 +16,7 @@ ROOT = os.path.dirname(os.path.dirname(os.path.abspath(__file__)))
 HEAD = re.compile(r"^(?:abbrev |unfoldable |pub )*([^\s:(){}]+) : ?(.*)$")
 PATH = re.compile(r"(?<![\w.'-])([A-Za-z_][\w'₀-₉-]*)((?:\.(?:«[^»]*»|[\w'₀-₉-]+))+)")
 WORD = re.compile(r"(?<![\w.'₀-₉-])([A-Za-zμ_][\w'₀-₉-]*)(?![\w'₀-₉-])")
-OWN = re.compile(r"^use (Rattle\.\w+\.proofs\.[^\s{]*\.(Statement|Tie|Reads|Lts|Kinds|Lts-\w+|\+[\w+]+)\b|borrow\.)")
+OWN = re.compile(r"^use (Rattle\.\w+\.proofs\.[^\s{]*\.(Statement|Tie|Reads|Lts|Kinds|Lts-\w+|\+[\w+]+)\b|borrow\.Fn\.)")
 
 
 def norm(name):
@@ -100,28 +100,29 @@ class Names:
                 return ".".join(["c", step, field, *rest[n:]])
         if head in self.typed and rest[:1] == ["given"]:
             return ".".join(["c", "type_inv", self.typed[head], *rest[1:]])
+        if head not in self.steps and head.endswith("-lem"):
+            head = head[: -len("-lem")]
         if head not in self.steps:
             self.lost.append(".".join(steps))
             return ".".join(["c", *steps])
         new, callee = self.steps[head], self.callee[head]
         if rest and (head, norm(rest[0])) in self.long:
             rest = [self.long[(head, norm(rest[0]))], *rest[1:]]
-        if callee and rest[:1] == ["new"]:
+        if callee and rest and rest[0] in ("new", "auto", "kept"):
             n = 1
             while n < len(rest) and rest[n] == "1":
                 n += 1
-            if n < len(rest) and rest[n] == "0" and callee in self.params and n - 1 < len(self.params[callee]):
-                rest = ["new", self.params[callee][n - 1], *rest[n + 1 :]]
-        if callee and rest[:1] == ["kept"]:
-            lent = self.source.lent(callee)
-            at = int(rest[1]) if len(rest) > 1 and rest[1].isdigit() else 0
-            if at < len(lent):
-                rest = ["auto", lent[at], *rest[2:]]
+            if n < len(rest) and rest[n] == "0" and n - 1 < len(self.params.get(callee, [])):
+                rest = ["new" if rest[0] == "new" else "auto", self.params[callee][n - 1], *rest[n + 1 :]]
+        if callee and rest[:1] == ["ensures"] and len(rest) > 1 and rest[1].isdigit():
+            labels = self.source.labels(callee)
+            if int(rest[1]) < len(labels):
+                rest = ["ensures", labels[int(rest[1])], *rest[2:]]
         return ".".join(["c", new, *rest])
 
 
 class Source:
-    """The functions of all crates: which of their parameters are lent slices."""
+    """The functions of all crates: the names of their clauses."""
 
     def __init__(self):
         self.heads = {}
@@ -130,13 +131,12 @@ class Source:
             for name in sorted(os.listdir(folder)) if os.path.isdir(folder) else []:
                 with open(os.path.join(folder, name), encoding="utf-8") as f:
                     text = f.read()
-                for m in re.finditer(r"^(?:pub )?fn (\w+)(?:<[^>]*>)?\(([^)]*)\)", text, re.M):
-                    self.heads[(crate, m.group(1))] = [x.strip() for x in m.group(2).split(",") if x.strip()]
+                for m in re.finditer(r"^(?:pub )?fn (\w+)(.*?)^\}", text, re.M | re.S):
+                    self.heads[(crate, m.group(1))] = re.findall(r"^ +ensures (\w+) \{", m.group(2), re.M)
 
-    def lent(self, callee):
+    def labels(self, callee):
         parts = callee.split("::")
-        head = self.heads.get((parts[0], parts[-1]), [])
-        return [x.split(":")[0].strip() for x in head if re.search(r": &(?:'\w+ )?mut \[[^;\]]*\]$", x)]
+        return self.heads.get((parts[0], parts[-1]), [])
 
 
 def resolved(names, text, roots, helpers):
@@ -208,7 +208,7 @@ def turn(crate, folder, told, source, prefix=""):
         imports, blocks = blocks_of(f.read())
     names = Names(told, source)
     place = os.path.relpath(folder, os.path.join(ROOT, "crates", crate, "proofs")).replace("/", ".")
-    kept = [l for l in imports if not OWN.match(l) or re.match(r"use borrow\.(Author|Fn\.Tests)", l) and "Rules.{rules}" not in l]
+    kept = [l for l in imports if not OWN.match(l)]
     helpers, answers, invariants = {}, [], []
     loops = {"invariant": 0, "decreases": 0}
     for b in blocks:
@@ -229,7 +229,8 @@ def turn(crate, folder, told, source, prefix=""):
                 continue
             m = re.match(rf"{re.escape(b['name'])}((?: [^\s=]+)*) =\s?", body)
             params = m.group(1).split()
-            root = params[0]
+            turn_of = params[:-1] if "κs" not in params else params[:-2]
+            root = params[len(turn_of)]
             rest = body[m.end() :]
             new = names.needs.get(name)
             if new is None:
@@ -254,7 +255,7 @@ def turn(crate, folder, told, source, prefix=""):
             if lets:
                 text = "\n" + lets.rstrip("\n") + text
             sep = " " if not text.startswith("\n") else ""
-            extra = " ".join(["c"] + params[1:]) if len(params) > 1 else "c"
+            extra = " ".join(["c"] + [x for x in params[1:] if x != "κs"])
             answers.append("\n".join(b["comment"] + [f"pub {new} : goal.{new}"] + b["open"] + [f"{new} {extra} ={sep}{text}"]))
         elif "statement" in kind:
             continue

@@ -16,7 +16,7 @@ fn copy_units(units: &[u8], from: usize, size: usize, out: &mut [u8], k: usize)
     let to = from + 12 * size;
     let a = 12 * k;
     let e = a + 12 * size;
-    bytes::copy(&units[from..to], &mut out[a..e]);
+    out[a..e].copy_from_slice(&units[from..to]);
 }
 
 // The units of node `n` behind the `k` units of `out`, if it has this page and a page of `room` units has room. Returns the count after it.

@@ -3,7 +3,7 @@ use mathlib.Core.Path.{◌≡◌, refl, sym, ap, ap₂, ◌∙◌, subst}
 use mathlib.Core.Bool.{Bool, true, false, ◌&&◌}
 use mathlib.Core.List.{List, ◌++◌, map}
 use Prim.Native.Nat.{ℕ, ◌+◌, ◌-◌, ◌*◌, ◌^◌, ◌<◌, ◌≤◌}
-use native.Mathlib.Nat.{sub-zero}
+use native.Mathlib.Nat.{sub-zero, add-sub_cancel_left}
 use native.Mathlib.Omega.{arith}
 use lib.Dec.{eqb}
 use lib.ListN.{length, take, drop, replicate, length-append, length-drop, length-replicate}
@@ -12,7 +12,6 @@ use borrow.Author.Tests.{lt-ltb, le-leb, ltb-true, leb-true}
 use Rattle.lists.specs.Lists.{all, All, flat, part, patch}
 use Rattle.lists.proofs.Tests.{cases, and_left, and_right}
 use Rattle.lists.proofs.Alls.{All-replicate, All-all}
-use Rattle.lists.proofs.Parts.{copied_part}
 use Rattle.chip.specs.Geometry.{Geometry}
 use Rattle.chip.specs.Page.{is_free}
 use Rattle.pages.specs.declared.unit.Unit.{Unit}
@@ -102,24 +101,20 @@ header_part g x r e = e ∙ ap (λ (n : ℕ). header_of g (take n x)) (sub-zero 
 
 -- ---- the steps of lay_out: the bytes behind the units made 255, the units copied, the header copied
 module _ (g : Geometry) (c i n k : ℕ) (units page : List ℕ) (l : length page ≡ g.area) (fits : 8 + 12 * k ≤ g.area) (lu : length units ≡ 12 * k) where
-  -- the last of these is the page laid out
-  pub laid_done : (head blank mid done : List ℕ) → head ≡ head_bytes c i n k
+  -- the head and the units over a blank page are the page laid out
+  pub laid_done : (head blank : List ℕ) → head ≡ head_bytes c i n k
       → blank ≡ take (8 + 12 * k) page ++ replicate (length page - (8 + 12 * k)) 255
-      → mid ≡ take (length units) units ++ drop (length units) (part 8 (8 + 12 * k - 8) blank)
-      → done ≡ take (length head) head ++ drop (length head) (patch blank 8 (8 + 12 * k - 8) mid)
-      → done ≡ laid g c i n k units
+      → head ++ drop 8 (patch blank 8 (8 + 12 * k - 8) units) ≡ laid g c i n k units
   unfolding laid
-  laid_done head blank mid done eh eb em ed =
+  laid_done head blank eh eb =
       let front : length (take (8 + 12 * k) page) ≡ 8 + 12 * k = length-take-le (8 + 12 * k) page (omega arith) in
       let size : length blank ≡ g.area = ap length eb ∙ length-append (take (8 + 12 * k) page) (replicate (length page - (8 + 12 * k)) 255)
       ∙ ap₂ ◌+◌ front (length-replicate (length page - (8 + 12 * k)) 255) ∙ omega arith in
       let tail : drop (12 * k) (drop 8 blank) ≡ replicate (g.area - (8 + 12 * k)) 255 = drop-drop (12 * k) 8 blank ∙ ap (drop (8 + 12 * k)) eb
       ∙ drop_at (take (8 + 12 * k) page) (replicate (length page - (8 + 12 * k)) 255) (8 + 12 * k) front
       ∙ ap (λ (m : ℕ). replicate (m - (8 + 12 * k)) 255) l in
-      let eight : length head ≡ 8 = ap length eh in
-      ed
-      ∙ ap₂ ◌++◌ (take-length head ∙ eh)
-      (ap₂ drop eight (copied_part blank 8 (12 * k) units mid (omega arith) lu em)
+      ap₂ ◌++◌ eh
+      (ap (λ (m : ℕ). drop 8 (patch blank 8 m units)) (add-sub_cancel_left 8 (12 * k))
       ∙ drop_at (take 8 blank) (units ++ drop (12 * k) (drop 8 blank)) 8 (length-take-le 8 blank (omega arith))
       ∙ ap (λ (r : List ℕ). units ++ r) tail)
 

@@ -26,7 +26,7 @@ last_snoc x (y ∷ ys) z = last_snoc y ys z
 
 pub split_snoc : (s : List Live) (z : Live) → split_last (s ++ (z ∷ [])) ≡ split z (s ++ (z ∷ []))
 split_snoc [] z = refl
-split_snoc (x ∷ s) z = rw (last_snoc x s z)
+split_snoc (x ∷ s) z = ap (λ (y : Live). split y (x ∷ (s ++ (z ∷ [])))) (last_snoc x s z)
 
 pub settle_snoc : (g : Geometry) (s : List Live) (z : Live)
     → settle_ordered_lem g (s ++ (z ∷ [])) ≡ cond (all (own g) (s ++ (z ∷ [])) && chain (s ++ (z ∷ []))) (split z (s ++ (z ∷ []))) (refused 8)

@@ -97,6 +97,6 @@ pub fn lay_out(
 {
     let head = head_bytes(commit, index, count, k);
     page::blank_from(page, 8 + 12 * k);
-    bytes::copy(units, &mut page[8..8 + 12 * k]);
-    bytes::copy(&head, page);
+    page[8..8 + 12 * k].copy_from_slice(units);
+    page[0..8].copy_from_slice(&head);
 }

@@ -155,5 +155,5 @@ pub fn put_unit(out: &mut [u8], at: usize, unit: Unit)
     ensures { out.new ≡ patch out.old at 12 (encode unit) }
 {
     let bytes = encode_unit(unit);
-    bytes::copy(&bytes, &mut out[at..at + 12]);
+    out[at..at + 12].copy_from_slice(&bytes);
 }
