@@ -80,6 +80,11 @@ class Names:
         for place in told["typed"]:
             for var, old in place:
                 self.typed.setdefault(norm(old), var)
+        self.args = {}
+        for old, new in told.get("args", []):
+            a, b = old.split(" ."), new.split(" .")
+            if len(a) == 2 and len(b) == 2:
+                self.args[(a[0].strip("."), a[1])] = b[1]
         self.loops = told["loops"]
         self.changed = told["changed"]
         self.params = told["params"]
@@ -93,6 +98,8 @@ class Names:
             return "c"
         head, rest = norm(steps[0]), steps[1:]
         if steps[0] in ("args", "requires", "ranges"):
+            if len(steps) > 1 and (steps[0], steps[1]) in self.args:
+                steps = [steps[0], self.args[(steps[0], steps[1])], *steps[2:]]
             return ".".join(["c", *steps])
         for n in range(len(rest), -1, -1):
             if (head, tuple(rest[:n])) in self.arms:

@@ -1,0 +1,16 @@
+use mathlib.Core.Path.{◌≡◌, refl}
+use mathlib.Core.Bool.{Bool, true, false, not}
+use Prim.Native.Nat.{ℕ, ◌*◌, ◌-◌, ◌<◌, ◌≤◌}
+use native.Mathlib.Omega.{arith}
+use lib.ListN.{drop, length, take}
+use Rattle.lists.proofs.Tests.{clash}
+use Rattle.views.specs.FoldCode.{IsPassed}
+use Rattle.views.proofs.FoldLaws.{skips_next}
+use borrow.Author.Rules.{rules}
+use Rattle.views.proofs.fold.skip.Given as goal
+
+abbrev pub invariant-loop-i : goal.invariant-loop-i
+invariant-loop-i l = (l.from ≤ l.i) × (l.i ≤ l.count) × ((k : ℕ) → l.from ≤ k → k < l.i → IsPassed l.limit l.node (take (length l.units - 12 * k) (drop (12 * k) l.units)))
+
+abbrev pub decreases-loop-i : goal.decreases-loop-i
+decreases-loop-i l = l.count - l.i

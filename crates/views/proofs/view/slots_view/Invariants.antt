@@ -1,0 +1,18 @@
+use mathlib.Core.Path.{◌≡◌, refl}
+use Prim.Native.Nat.{◌-◌, ◌≤◌}
+use native.Mathlib.Omega.{arith}
+use lib.ListN.{length, drop}
+use Rattle.chip.specs.Chip.{pages_of}
+use Rattle.views.specs.FoldCode.{view_in}
+use Rattle.views.specs.Stored.{stored_list, list_view}
+use Rattle.views.proofs.ViewSteps.{after_pages, list_length, slot_next, slots_done}
+use borrow.Author.Rules.{rules}
+use Rattle.views.proofs.view.slots_view.Given as goal
+
+abbrev pub invariant-loop-i : goal.invariant-loop-i
+invariant-loop-i l = (l.i ≤ l.used) × (length l.keys ≡ 17) × (length l.values ≡ 17) × (l.s.len ≤ 16)
+    × (after_pages l.geometry l.limit (pages_of l.geometry l.image) l.node (view_in l.s l.keys l.values) (drop l.i (stored_list l.lens l.slots l.node))
+    ≡ list_view l.geometry l.limit (pages_of l.geometry l.image) l.node (stored_list l.lens l.slots l.node))
+
+abbrev pub decreases-loop-i : goal.decreases-loop-i
+decreases-loop-i l = l.used - l.i

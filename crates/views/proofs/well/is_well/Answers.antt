@@ -1,0 +1,12 @@
+use borrow.Author.Tests.{le-leb, lt-leb}
+use Rattle.views.specs.WellCode.{well_stored}
+use borrow.Author.Rules.{rules}
+use Rattle.views.proofs.well.is_well.Goals as goal
+
+pub returns-then-lens-node-gt4 : goal.returns-then-lens-node-gt4
+unfolding well_stored
+returns-then-lens-node-gt4 c = rw (lt-leb _ _ c.if-lens-node-gt4.true)
+
+pub returns : goal.returns
+unfolding well_stored
+returns c = rw (le-leb _ _ c.if-lens-node-gt4.false, ← c.list_view-f.ensures.is) c.is_whole.ensures
