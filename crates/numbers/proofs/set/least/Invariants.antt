@@ -1,0 +1,14 @@
+use mathlib.Core.Path.{◌≡◌}
+use Prim.Native.Nat.{◌*◌, ◌-◌, ◌≤◌}
+use native.Mathlib.Omega.{arith}
+use lib.Count.{trailing_le}
+use lib.ListN.{get_or}
+use Rattle.numbers.proofs.Words.{Passed, passed_start, passed_more, passed_found, passed_all}
+use borrow.Author.Rules.{rules}
+use Rattle.numbers.proofs.set.least.Given as goal
+
+abbrev pub invariant-loop-w : goal.invariant-loop-w
+invariant-loop-w l = (l.w ≤ 4) × (l.base ≡ 64 * l.w) × Passed l.set l.w
+
+abbrev pub decreases-loop-w : goal.decreases-loop-w
+decreases-loop-w l = 4 - l.w
