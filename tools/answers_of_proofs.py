@@ -93,7 +93,7 @@ class Names:
 
     def path(self, steps):
         """The new path below c of an old one below it."""
-        steps = [s for s in steps if s != "before"]
+        steps = [s.strip("«»") for s in steps if s != "before"]
         if not steps:
             return "c"
         head, rest = norm(steps[0]), steps[1:]

@@ -328,3 +328,5 @@ pub plan_by_same : (g : Geometry) (limit B : ℕ) (ps : List Page) (tb : List No
 plan_by_same g limit B ps tb G N M nothing nothing e both_nothing = refl
 plan_by_same g limit B ps tb G N M (follow A) (follow C) e (both_follow d) =
     ap (plan_on g ps (head_block g ps) (unused_blocks g B ps tb G)) (packs_same limit N M A C e d)
+plan_by_same g limit B ps tb G N M nothing (follow C) e x = elim x [ ]
+plan_by_same g limit B ps tb G N M (follow A) nothing e x = elim x [ ]

@@ -123,7 +123,7 @@ pub cleared_keeps : (g : Geometry) (es : List ℕ) (p : ℕ) (ps : List Page) �
 cleared_keeps g [] p ps h = h
 cleared_keeps g (e ∷ es) p ps h = cleared_keeps g es p (whole g (erase e) ps) (erase_keeps g e 0 p ps h)
 
-pub cleared_makes : (g : Geometry) {es : List ℕ} (b p : ℕ) (ps : List Page) → Mem b es → in_block g b p ≡ true → p < length ps → At p (blank g) (cleared g es ps)
+pub cleared_makes : (g : Geometry) (b : ℕ) {es : List ℕ} (p : ℕ) (ps : List Page) → Mem b es → in_block g b p ≡ true → p < length ps → At p (blank g) (cleared g es ps)
 cleared_makes g b p ps (here {xs = es}) h l = cleared_keeps g es p (whole g (erase b) ps) (erase_makes g b 0 p p ps (omega arith) h l)
 cleared_makes g b p ps (there {y = c} m) h l = cleared_makes g b p (whole g (erase c) ps) m h (omega (arith, length_map_from 0 (filled g c (blank g)) ps))
 
