@@ -1,0 +1,22 @@
+use mathlib.Core.Path.{◌≡◌, sym, ◌∙◌}
+use mathlib.Core.List.{foldl}
+use Prim.Native.Nat.{ℕ, ◌-◌, ◌≤◌}
+use native.Mathlib.Omega.{arith}
+use lib.Dec.{eqb}
+use lib.ListN.{get_or, take}
+use Rattle.journal.specs.Plan.{count_from}
+use Rattle.journal.specs.Packing.{widen_node}
+use Rattle.journal.specs.PlanCode.{packing_of, sizes_in}
+use Rattle.packing.specs.PackingCode.{widen_if, KeepsForms, Ready}
+use Rattle.packing.proofs.PackingArrays.{fold_start, fold_next, fold_done, fold_filter}
+use Rattle.packing.proofs.FillArrays.{keeps_same, keeps_both, keeps_short}
+use borrow.Author.Rules.{rules}
+use Rattle.packing.proofs.widen.widen_all.Given as goal
+
+abbrev pub invariant-loop-n : goal.invariant-loop-n
+invariant-loop-n l = (l.n ≤ l.limit) × Ready l.count l.rooms l.targets l.forms × KeepsForms l.initial.forms l.forms
+    × ((units : ℕ) → foldl (widen_if units l.lens l.d l.wholes l.parts) (packing_of (take l.count l.rooms) l.targets l.forms) (count_from l.n (l.limit - l.n))
+    ≡ foldl (widen_if units l.lens l.d l.wholes l.parts) (packing_of (take l.count l.initial.rooms) l.targets l.initial.forms) (count_from 0 l.limit))
+
+abbrev pub decreases-loop-n : goal.decreases-loop-n
+decreases-loop-n l = l.limit - l.n
