@@ -175,7 +175,8 @@ def resolved(names, text, roots, helpers):
         m = WORD.match(lines, i)
         if m and (i == 0 or not re.match(r"[\w.'₀-₉-]", lines[i - 1])):
             w = m.group(1)
-            out += names.path(alias[w]) if w in alias and w != "c" else w
+            is_field = re.match(r" = ", lines[m.end() : m.end() + 3]) and re.search(r"[{;]\s*$", out)
+            out += names.path(alias[w]) if w in alias and w != "c" and not is_field else w
             i = m.end()
             continue
         out += lines[i]

@@ -1,0 +1,19 @@
+use mathlib.Core.Path.{◌≡◌, refl}
+use mathlib.Core.List.{◌++◌}
+use Prim.Native.Nat.{◌-◌, ◌≤◌}
+use native.Mathlib.Omega.{arith}
+use lib.ListN.{length, take, drop}
+use lib.Seq.{length-take-le}
+use Rattle.chip.specs.Chip.{pages_of}
+use Rattle.plan.proofs.PlaceLaws.{take_at_all, erase_next, erase_done}
+use Rattle.chip.proofs.Sizes.{block_on_chip}
+use borrow.Author.Rules.{rules}
+use Rattle.plan.specs.PlacesCode.{erases_from}
+use Rattle.plan.proofs.places.put_erased.Given as goal
+
+abbrev pub invariant-loop-j : goal.invariant-loop-j
+invariant-loop-j l = (l.j ≤ l.width) × (l.n ≤ l.j) × (length l.erased ≡ length l.initial.erased)
+    × (take l.n l.erased ++ erases_from l.geometry (pages_of l.geometry l.image) l.left (drop l.j (take l.width l.ring)) ≡ erases_from l.geometry (pages_of l.geometry l.image) l.reach (take l.width l.ring))
+
+abbrev pub decreases-loop-j : goal.decreases-loop-j
+decreases-loop-j l = l.width - l.j

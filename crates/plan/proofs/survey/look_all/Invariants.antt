@@ -1,0 +1,21 @@
+use mathlib.Core.Path.{◌≡◌, refl, sym, ap, ◌∙◌}
+use mathlib.Core.List.{List}
+use Prim.Native.Nat.{ℕ, suc, ◌+◌, ◌-◌, ◌*◌, ◌/◌, ◌<◌, ◌≤◌}
+use native.Mathlib.Omega.{arith}
+use lib.ListN.{length}
+use Rattle.chip.specs.Geometry.{page_size}
+use Rattle.chip.specs.Chip.{pages_of}
+use Rattle.chip.proofs.ImageLaws.{length_pages}
+use Rattle.chip.proofs.Sizes.{page_end}
+use Rattle.pages.specs.Steps.{Live, ordered}
+use Rattle.plan.specs.SurveyCode.{last_in, mark_held}
+use Rattle.plan.proofs.LastLaws.{live_at, look_start, turn_newest, turn_marks}
+use borrow.Author.Rules.{rules}
+use Rattle.plan.proofs.survey.look_all.Given as goal
+
+abbrev pub invariant-loop-at : goal.invariant-loop-at
+invariant-loop-at l = (l.at ≤ length l.image / page_size l.geometry) × (length l.marks ≡ length l.initial.marks) × (l.z ≡ last_in (ordered (live_at l.geometry (pages_of l.geometry l.image) l.at)))
+    × (l.marks ≡ mark_held l.geometry l.commit (live_at l.geometry (pages_of l.geometry l.image) l.at) l.initial.marks)
+
+abbrev pub decreases-loop-at : goal.decreases-loop-at
+decreases-loop-at l = l.at

@@ -1,0 +1,6 @@
+use mathlib.Core.Path.{◌∙◌}
+use borrow.Author.Rules.{rules}
+use Rattle.plan.proofs.survey.mark_if.Goals as goal
+
+pub returns-then-here : goal.returns-then-here
+returns-then-here c = c.mark_page.ensures ∙ rw c.if-here.true

@@ -1,0 +1,17 @@
+use mathlib.Core.Path.{◌≡◌, refl, sym, ap, ◌∙◌}
+use mathlib.Core.List.{List, foldl}
+use Prim.Native.Nat.{ℕ, ◌+◌, ◌-◌, ◌*◌, ◌≤◌}
+use native.Mathlib.Omega.{arith}
+use lib.ListN.{length, drop, length-set}
+use Rattle.views.specs.Stored.{stored_list}
+use Rattle.plan.specs.SurveyCode.{mark}
+use Rattle.plan.proofs.MarkLaws.{slot_next, slots_done}
+use borrow.Author.Rules.{rules}
+use Rattle.plan.proofs.survey.mark_list.Given as goal
+
+abbrev pub invariant-loop-i : goal.invariant-loop-i
+invariant-loop-i l = (l.i ≤ l.used) × (length l.marks ≡ length l.initial.marks)
+    × (foldl (mark l.geometry) l.marks (drop l.i (stored_list l.lens l.slots l.node)) ≡ foldl (mark l.geometry) l.initial.marks (stored_list l.lens l.slots l.node))
+
+abbrev pub decreases-loop-i : goal.decreases-loop-i
+decreases-loop-i l = l.used - l.i
