@@ -6,7 +6,6 @@ use lib.Seq.{drop-length}
 use Rattle.lists.specs.Lists.{patch, repeat}
 use Rattle.lists.proofs.Parts.{repeat_none, repeat_next}
 use Rattle.chip.specs.Geometry.{Geometry, page_size, block_size}
-use Rattle.chip.specs.Page.{blank}
 use Rattle.chip.specs.Chip.{whole_block}
 use Rattle.chip.proofs.PageLaws.{blank_bytes}
 

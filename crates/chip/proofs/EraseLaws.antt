@@ -1,7 +1,7 @@
 -- The figures of the blocks after operations, one by one and as a list. Assumes nothing.
 use Rattle.std.proofs.Common.{◌≡◌, ℕ, suc, ◌+◌, ◌%◌, ◌^◌, ◌<◌, ◌≤◌, eqb, ltb, List, [], ◌∷◌, ◌++◌, length, get_or, set, refl, ap, ◌∙◌, arith, ltb-false, ltb-true, eq-eqb, ne_eqb}
 use lib.ListN.{get_or-eq_default}
-use Rattle.lists.specs.Lists.{bit, count, map_from}
+use Rattle.lists.specs.Lists.{bit, map_from}
 use Rattle.lists.proofs.Tests.{cases}
 use Rattle.lists.proofs.Filters.{count_append}
 use Rattle.lists.proofs.Places.{get_d_map_from, length_map_from, map_from_same, map_from_set}

@@ -1,5 +1,5 @@
 -- What marking, programming and erasing do to a page's marks, to its data area and to whether it is live. Assumes nothing.
-use Rattle.std.proofs.Common.{◌≡◌, ℕ, zero, suc, ◌+◌, ◌<◌, ◌≤◌, Bool, true, false, not, ◌&&◌, eqb, leb, List, [], ◌++◌, map, length, get_or, take, drop, replicate, sym, refl, ap, ◌∙◌, arith, length-append, drop_of_length-le, length-take, length-take-le, get_or-drop, get_or-set_other, get_or-set_same, take_at, get_or-append-add, ne_eqb, leb-false, leb-true}
+use Rattle.std.proofs.Common.{◌≡◌, ℕ, zero, suc, ◌+◌, ◌<◌, ◌≤◌, Bool, true, false, not, ◌&&◌, eqb, leb, List, [], ◌++◌, map, length, get_or, take, drop, sym, refl, ap, ◌∙◌, arith, length-append, drop_of_length-le, length-take, length-take-le, get_or-drop, get_or-set_other, get_or-set_same, take_at, get_or-append-add, ne_eqb, leb-false, leb-true}
 use lib.ListN.{replicate-append-replicate, get_or-map, get_or-eq_default}
 use lib.Seq.{take-set-le}
 use Rattle.lists.specs.Lists.{At, map_from}

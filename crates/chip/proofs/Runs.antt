@@ -4,7 +4,7 @@ use mathlib.Core.List.{foldl, foldl-append}
 use lib.Dec.{leb-suc-suc}
 use lib.ListN.{length-map}
 use borrow.Author.Tests.{eqb-false}
-use Rattle.lists.specs.Lists.{All, none, more, At, modify, map_from}
+use Rattle.lists.specs.Lists.{All, none, more, At, map_from}
 use Rattle.lists.proofs.Tests.{cases}
 use Rattle.lists.proofs.Alls.{All-head, All-tail, All-modify, All-mapFrom}
 use Rattle.lists.proofs.Flats.{map-append}
@@ -15,7 +15,7 @@ use Rattle.chip.specs.declared.operation.Kind.{Kind}
 use Rattle.chip.specs.declared.progress.Counts.{Counts}
 use Rattle.chip.specs.declared.progress.Progress.{Progress}
 use Rattle.chip.specs.Geometry.{Geometry, page_size}
-use Rattle.chip.specs.Power.{outcome, effect, is_gone}
+use Rattle.chip.specs.Power.{outcome, is_gone}
 use Rattle.chip.specs.Counts.{counts_of, total}
 use Rattle.chip.specs.Page.{Page, blank, torn_page, marked, programmed}
 use Rattle.chip.specs.Chip.{Op, program, mark, erase, kind_of, kinds_of, whole, tear, filled, in_block, touches, Machine, step, run}

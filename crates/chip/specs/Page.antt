@@ -1,5 +1,5 @@
 -- A page: data area, then spare area with three marks; free, live; what an operation makes of a page.
-use Rattle.std.specs.Prelude.{ℕ, zero, suc, ◌+◌, Bool, not, ◌&&◌, List, ◌++◌, map, take, drop, set, replicate, ◌==◌, nat_eq, slice_index_or, slice_set}
+use Rattle.std.specs.Prelude.{ℕ, zero, suc, ◌+◌, Bool, not, ◌&&◌, List, ◌++◌, map, take, drop, replicate, ◌==◌, nat_eq, slice_index_or, slice_set}
 use Rattle.lists.specs.Lists.{all}
 use Rattle.chip.specs.declared.page.Mark.{Mark}
 use Rattle.chip.specs.declared.page.Mark.TheVariants.{Used, Valid, Obsolete}

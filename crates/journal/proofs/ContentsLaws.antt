@@ -26,7 +26,7 @@ use Rattle.views.specs.Groups.{is_reset, present}
 use Rattle.journal.specs.Plan.{count_from, head_block, keep, places, plan_on, rewrite}
 use Rattle.journal.specs.Admissible.{Assignment, Contents, Target, all_packs, contents_of, goes_to, in_page, page_packs, unused_blocks, unwritten, written_of}
 use Rattle.journal.specs.Packing.{Packing, Sizes, assign, delta_packing, fill_node, filled, fit, is_unwritten, pack_node, packed, size_of, snapshot_packing, unpacked, widen_in, widen_node, widened}
-use Rattle.journal.specs.Policy.{Decision, assignment_of, decide, decide_on, delta_assignment, follow, has_places, in_first, is_forced, nothing, plan_by, sizes_of, snapshot_assignment}
+use Rattle.journal.specs.Policy.{Decision, assignment_of, decide_on, delta_assignment, follow, has_places, in_first, is_forced, nothing, plan_by, sizes_of, snapshot_assignment}
 
 -- ---- two packings with the same pages, and the same for each node of Q
 pub record SamePacking (Q : ℕ → Type 0) (S R : Packing) : Type 0 where

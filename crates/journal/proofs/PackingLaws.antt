@@ -7,7 +7,7 @@ use native.Mathlib.Omega.{arith}
 use lib.Dec.{eqb, leb, ltb}
 use lib.ListN.{get_or, length}
 use borrow.Author.Tests.{eq-eqb, eqb-false, eqb-true, le-leb, leb-true, ltb-false, ltb-true, ne_eqb}
-use Rattle.lists.specs.Lists.{any, first, modify, more}
+use Rattle.lists.specs.Lists.{any, first, modify}
 use Rattle.lists.proofs.Places.{At-getD, At-is, At-same, get_d_default, length_modify}
 use Rattle.lists.proofs.Tests.{and_left, and_right, cases, clash}
 use Rattle.journal.specs.Admissible.{Target, unwritten, in_page, goes_to}

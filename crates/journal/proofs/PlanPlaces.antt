@@ -8,7 +8,7 @@ use native.Mathlib.Omega.{arith}
 use lib.Dec.{leb, ltb}
 use lib.ListN.{length, length-append, take}
 use borrow.Author.Tests.{le-leb, leb-true, lt-ltb, ltb-false, ltb-true}
-use Rattle.lists.specs.Lists.{All, At, all, any, filter, flat, map_from, none, Diff}
+use Rattle.lists.specs.Lists.{All, At, any, filter, flat, map_from, none, Diff}
 use Rattle.lists.proofs.Alls.{All-append, All-filter, All-head, All-map, All-tail, All-take, All-zip, all_All}
 use Rattle.lists.proofs.Filters.{filter_is}
 use Rattle.lists.proofs.Flats.{length_tab}

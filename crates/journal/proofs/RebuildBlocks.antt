@@ -5,11 +5,11 @@ use mathlib.Core.List.{List, [], ◌∷◌, ◌++◌}
 use Prim.Native.Nat.{ℕ, zero, suc, ◌+◌, ◌*◌, ◌≤◌, ◌<◌}
 use native.Mathlib.Nat.{mul-le-mul_left}
 use native.Mathlib.Omega.{arith}
-use lib.Dec.{eqb, leb}
+use lib.Dec.{eqb}
 use lib.ListN.{get_or, length, take}
 use lib.Seq.{length-take-le}
 use borrow.Author.Tests.{eqb-true, leb-true}
-use Rattle.lists.specs.Lists.{All, Diff, all, any, filter, flat}
+use Rattle.lists.specs.Lists.{All, Diff, all, any, flat}
 use Rattle.lists.proofs.Alls.{All-filter, All-map, All-take, All-zip, all_All}
 use Rattle.lists.proofs.Filters.{filter_all, filter_is, filter_none}
 use Rattle.lists.proofs.Places.{At-is}

@@ -2,12 +2,12 @@
 use mathlib.Core.Path.{◌≡◌, refl, sym, ap, ◌∙◌, subst}
 use mathlib.Core.Bool.{Bool, true, false}
 use mathlib.Core.List.{List, [], ◌∷◌, ◌++◌, append-nil, map}
-use Prim.Native.Nat.{ℕ, zero, suc, ◌+◌, ◌-◌, ◌≤◌, ◌<◌}
+use Prim.Native.Nat.{ℕ, zero, suc, ◌-◌, ◌≤◌, ◌<◌}
 use native.Mathlib.Omega.{arith}
 use lib.Dec.{eqb, leb}
-use lib.ListN.{get_or, length, take}
+use lib.ListN.{length, take}
 use borrow.Author.Tests.{eqb-false, eqb-true}
-use Rattle.lists.specs.Lists.{All, all, filter, flat, modify, more, none}
+use Rattle.lists.specs.Lists.{All, all, flat, modify, more, none}
 use Rattle.lists.proofs.Alls.{All-head, All-map, All-right, All-tail}
 use Rattle.lists.proofs.Places.{At-is, At-same}
 use Rattle.lists.proofs.Sets.{filter_same}

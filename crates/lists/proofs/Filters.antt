@@ -5,7 +5,7 @@ use mathlib.Core.List.{List, [], ◌∷◌, ◌++◌}
 use Prim.Native.Nat.{ℕ, zero, suc, ◌+◌, ◌<◌, ◌≤◌}
 use native.Mathlib.Omega.{arith}
 use lib.ListN.{length, get_or}
-use Rattle.lists.specs.Lists.{filter, all, All, none, more, bit, count}
+use Rattle.lists.specs.Lists.{filter, All, none, more, bit, count}
 use Rattle.lists.proofs.Tests.{cases, clash}
 
 module _ {A : Type 0} where

@@ -7,7 +7,7 @@ use native.Mathlib.Nat.{zero-add}
 use native.Mathlib.Numerals.{add-one}
 use native.Mathlib.Omega.{arith}
 use lib.Dec.{eqb}
-use lib.ListN.{length, take, drop, get_or, set, length-drop, length-append}
+use lib.ListN.{length, take, drop, get_or, length-drop, length-append}
 use lib.Seq.{take-nil, drop-nil, take-append-le, drop-append-le, set_at}
 use borrow.Author.Tests.{eq-eqb, ne_eqb}
 use Rattle.lists.specs.Lists.{bit, part, tab}

@@ -4,7 +4,7 @@ use mathlib.Core.Bool.{Bool, true, false, cond}
 use mathlib.Core.List.{List, [], ◌∷◌}
 use Prim.Native.Nat.{ℕ, suc, ◌+◌, ◌-◌, ◌≤◌, ◌<◌}
 use native.Mathlib.Omega.{arith}
-use lib.Dec.{eqb, leb, ltb}
+use lib.Dec.{eqb, leb}
 use lib.ListN.{get_or, length, length-set, set, take}
 use lib.Seq.{get_or-set_other, get_or-set_same, get_or-take, length-take-le}
 use borrow.Author.Tests.{eqb-false, eqb-true, eq-eqb, ne_eqb, le-leb, lt-leb, lt-ltb}

@@ -5,7 +5,7 @@ use mathlib.Core.List.{List, [], ◌∷◌, ◌++◌, append-nil, foldl}
 use Prim.Native.Nat.{ℕ, zero, suc, ◌+◌, ◌-◌, ◌*◌, ◌≤◌, ◌<◌}
 use native.Mathlib.Numerals.{add-one}
 use native.Mathlib.Omega.{arith}
-use lib.Dec.{eqb, leb, ltb}
+use lib.Dec.{eqb, leb}
 use lib.ListN.{drop, drop_of_length-le, get_or, length, length-replicate, replicate, set, take}
 use lib.Seq.{drop-cons, get_or-set_other, get_or-set_same, get_or-take, length-take-le, take-set-lt, take-suc-set}
 use borrow.Author.Tests.{eqb-false, eqb-true, ne_eqb, le-leb, lt-leb, lt-ltb}

@@ -7,9 +7,9 @@ use native.Mathlib.Nat.{sub-zero, add-sub_cancel_left}
 use native.Mathlib.Omega.{arith}
 use lib.Dec.{eqb}
 use lib.ListN.{length, take, drop, replicate, length-append, length-drop, length-replicate}
-use lib.Seq.{drop_at, drop-drop, take_all, take-length, length-take-le}
+use lib.Seq.{drop_at, drop-drop, take_all, length-take-le}
 use borrow.Author.Tests.{lt-ltb, le-leb, ltb-true, leb-true}
-use Rattle.lists.specs.Lists.{all, All, flat, part, patch}
+use Rattle.lists.specs.Lists.{all, All, flat, patch}
 use Rattle.lists.proofs.Tests.{cases, and_left, and_right}
 use Rattle.lists.proofs.Alls.{All-replicate, All-all}
 use Rattle.chip.specs.Geometry.{Geometry}

@@ -4,7 +4,6 @@ use mathlib.Core.Bool.{true, false}
 use mathlib.Core.List.{List, []}
 use Prim.Native.Nat.{ℕ, ◌+◌, ◌*◌, ◌/◌, ◌≤◌, ◌<◌}
 use native.Mathlib.Omega.{arith}
-use lib.Dec.{ltb, eqb}
 use lib.ListN.{length, take}
 use borrow.Author.Tests.{eq-eqb, ne_eqb, lt-ltb, le-ltb}
 use Rattle.lists.specs.Lists.{part}
@@ -13,7 +12,7 @@ use Rattle.chip.specs.Page.{Page, is_live}
 use Rattle.chip.proofs.ImageLaws.{page_at_lem}
 use Rattle.pages.specs.declared.header.Head.{Head}
 use Rattle.pages.specs.declared.header.Header.TheVariants.{Obeys, Breaks}
-use Rattle.pages.specs.Data.{head_of, obeys, header_of}
+use Rattle.pages.specs.Data.{head_of, header_of}
 use Rattle.pages.specs.Show.{shown_units, show_refusal, show_units, show_start, show_length}
 use Rattle.pages.proofs.HeaderLaws.{obeys_is, header_obeys, header_breaks}
 

@@ -6,7 +6,7 @@ use native.Mathlib.Numerals.{add-one}
 use native.Mathlib.Omega.{arith}
 use lib.ListN.{length, take, drop, get_or, length-append, length-drop, take-append-drop, drop_of_length-le, get_or-append}
 use lib.Seq.{take_at, drop_at, drop-cons, drop-drop, drop-append-le, get_or-take, length-take-le}
-use Rattle.lists.specs.Lists.{All, none, more, flat, patch}
+use Rattle.lists.specs.Lists.{All, flat, patch}
 use Rattle.lists.proofs.Flats.{map-append}
 use Rattle.lists.proofs.Parts.{length_patch}
 use Rattle.pages.specs.declared.unit.Unit as U

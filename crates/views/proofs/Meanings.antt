@@ -4,7 +4,6 @@ use mathlib.Core.Bool.{Bool, true, false, cond, ◌&&◌, not}
 use mathlib.Core.List.{List, [], ◌∷◌, ◌++◌}
 use Prim.Native.Nat.{ℕ, ◌+◌, ◌<◌}
 use native.Mathlib.Omega.{arith}
-use lib.Dec.{eqb}
 use lib.ListN.{length, get_or}
 use borrow.Author.Tests.{eq-eqb}
 use Rattle.lists.specs.Lists.{filter, all, All, map_from, tab}
@@ -15,8 +14,8 @@ use Rattle.lists.proofs.Flats.{tab_same, length_tab, get_d_tab, tab_all}
 use Rattle.lists.proofs.Ends.{End, nil, snoc, end_of, snoc_some}
 use Rattle.chip.specs.Geometry.{Geometry}
 use Rattle.chip.specs.Page.{Page, is_live}
-use Rattle.chip.specs.Chip.{in_block, filled, whole}
-use Rattle.pages.specs.Steps.{Live, live_from, commit, ordered, last_from, full, of_commit, refused, stand, without, split, steps, settle}
+use Rattle.chip.specs.Chip.{in_block, filled}
+use Rattle.pages.specs.Steps.{Live, live_from, commit, ordered, last_from, full, of_commit, refused, stand, without, split, steps}
 use Rattle.pages.proofs.Order.{chain}
 use Rattle.pages.proofs.Pairs.{own, settle_ordered_lem, steps_ordered}
 use Rattle.pages.proofs.Settle.{last_snoc, settle_snoc, Whole, stands, removed}

@@ -4,7 +4,7 @@ use mathlib.Core.Bool.{Bool, true, false, ◌&&◌, and-false}
 use mathlib.Core.List.{List, [], ◌∷◌, map, reverse}
 use Prim.Native.Nat.{ℕ, ◌+◌, ◌/◌, ◌%◌, ◌≤◌, ◌<◌}
 use native.Mathlib.Omega.{arith}
-use lib.Dec.{ltb, leb}
+use lib.Dec.{leb}
 use lib.ListN.{length, take, get_or}
 use borrow.Author.Tests.{lt-ltb, le-leb, lt-leb, leb-true, leb-false}
 use Rattle.lists.specs.Lists.{all, all_below, All, none, more, tab}
@@ -21,7 +21,7 @@ use Rattle.pages.specs.Steps.{Live, stand, steps}
 use Rattle.pages.specs.KeyCode.{key_of}
 use Rattle.pages.proofs.HeaderLaws.{obeys_is}
 use Rattle.pages.proofs.LivePages.{places_below}
-use Rattle.views.specs.Table.{events, is_sound, is_well, is_whole, Node, fresh, node_of, table}
+use Rattle.views.specs.Table.{events, is_sound, is_well, is_whole, Node, fresh, node_of}
 use Rattle.views.specs.Stored.{stored_list, Stores, list_view}
 use Rattle.views.specs.PassCode.{page_at, is_readable, pages_at, all_readable, Passes, Empty}
 use Rattle.views.specs.WellCode.{well_stored, all_well_stored}

@@ -1,4 +1,4 @@
-use Rattle.std.proofs.Common.{sym, ◌∙◌, rules, eq-eqb, ne_eqb}
+use Rattle.std.proofs.Common.{sym, ◌∙◌, eq-eqb, ne_eqb}
 use Rattle.chip.proofs.BlockLaws.{blank_block}
 use Rattle.chip.proofs.block.erase.Goals as goal
 

@@ -1,5 +1,4 @@
-use Rattle.std.proofs.Common.{◌≡◌, ℕ, ◌-◌, ◌*◌, ◌≤◌, ◌++◌, length, drop, sym, ◌∙◌, arith, rules}
-use Rattle.lists.specs.Lists.{repeat}
+use Rattle.std.proofs.Common.{arith, rules}
 use Rattle.chip.specs.Geometry.{page_size}
 use Rattle.chip.specs.Page.{torn_page}
 use Rattle.chip.proofs.PageLaws.{length_torn}

@@ -1,10 +1,6 @@
-use Rattle.std.proofs.Common.{◌≡◌, ℕ, ◌-◌, ◌*◌, ◌≤◌, ◌++◌, length, drop, sym, ◌∙◌, arith, rules}
+use Rattle.std.proofs.Common.{◌≡◌, ◌-◌, ◌*◌, ◌≤◌, ◌++◌, length, drop}
 use Rattle.lists.specs.Lists.{repeat}
-use Rattle.chip.specs.Geometry.{page_size}
 use Rattle.chip.specs.Page.{torn_page}
-use Rattle.chip.proofs.PageLaws.{length_torn}
-use Rattle.chip.proofs.BlockLaws.{fill_start, fill_more, fill_done}
-use Rattle.chip.proofs.Sizes.{page_in}
 use Rattle.chip.proofs.block.fill_torn.Given as goal
 
 abbrev pub invariant-loop-i : goal.invariant-loop-i

@@ -1,4 +1,4 @@
-use Rattle.std.proofs.Common.{◌≡◌, ◌≤◌, length, sym, ap, ◌∙◌, arith, rules}
+use Rattle.std.proofs.Common.{◌≡◌, ◌≤◌, length, sym, ap, ◌∙◌, arith}
 use lib.Count.{ones, count_trailing_zeros}
 use Rattle.chip.specs.Page.{is_free}
 use Rattle.chip.specs.Chip.{pages_of}

@@ -1,4 +1,4 @@
-use Rattle.std.proofs.Common.{◌≡◌, ℕ, ◌-◌, ◌*◌, ◌<◌, ◌≤◌, [], length, take, sym, refl, ap, ◌∙◌, ⊎_elim, arith, take_all, rules}
+use Rattle.std.proofs.Common.{ℕ, ◌*◌, ◌<◌, [], length, sym, refl, ap, ◌∙◌, arith, take_all, rules}
 use native.Mathlib.Nat.{add-sub_cancel_left}
 use Rattle.lists.specs.Lists.{cut, part}
 use Rattle.lists.proofs.Parts.{cut_at, length_cut}
@@ -34,7 +34,7 @@ loop-i-preserved c = let size : ℕ = page_size c.args.geometry in
     ∙ ap (λ (m : ℕ). is_free (part (c.loop-i.i * size) m c.args.block.now)) (sym (add-sub_cancel_left (c.loop-i.i * size) size))
     ∙ sym c.is_free.ensures in
     elim c.if-is_free.branch [
-      then-is_free w ↦ (search rules, w.free-is ∙ set_more is_free ps [] c.loop-i.i c.loop-i.free below c.loop-i.invariant.1 (omega (arith, c.requires.1)) (is ∙ w.if-is_free.true))
+      | then-is_free w ↦ (search rules, w.free-is ∙ set_more is_free ps [] c.loop-i.i c.loop-i.free below c.loop-i.invariant.1 (omega (arith, c.requires.1)) (is ∙ w.if-is_free.true))
       | else-is_free w ↦ (search rules, w.free-is ∙ set_same is_free ps [] c.loop-i.i c.loop-i.free below c.loop-i.invariant.1 (is ∙ w.if-is_free.false))
     ]
 

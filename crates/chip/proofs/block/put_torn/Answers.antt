@@ -1,4 +1,4 @@
-use Rattle.std.proofs.Common.{◌≡◌, ℕ, ◌-◌, ◌≤◌, List, ◌++◌, length, take, drop, set, ◌∙◌, ap₂, arith, length-set, rules}
+use Rattle.std.proofs.Common.{ℕ, List, set, ◌∙◌, ap₂, arith, length-set, rules}
 use Rattle.lists.proofs.Parts.{copy_more, copy_done}
 use Rattle.chip.specs.Geometry.{page_size}
 use Rattle.chip.specs.Page.{torn_page}

@@ -1,8 +1,5 @@
-use Rattle.std.proofs.Common.{◌≡◌, ℕ, ◌-◌, ◌≤◌, List, ◌++◌, length, take, drop, set, ◌∙◌, ap₂, arith, length-set, rules}
-use Rattle.lists.proofs.Parts.{copy_more, copy_done}
-use Rattle.chip.specs.Geometry.{page_size}
+use Rattle.std.proofs.Common.{◌≡◌, ◌-◌, ◌≤◌, ◌++◌, length, take, drop}
 use Rattle.chip.specs.Page.{torn_page}
-use Rattle.chip.proofs.PageLaws.{length_torn}
 use Rattle.chip.proofs.block.put_torn.Given as goal
 
 abbrev pub invariant-loop-i : goal.invariant-loop-i

@@ -1,4 +1,4 @@
-use Rattle.std.proofs.Common.{sym, ◌∙◌, rules}
+use Rattle.std.proofs.Common.{sym, ◌∙◌}
 use Rattle.chip.proofs.PageLaws.{torn_data, torn_spare, mend_other}
 use Rattle.chip.proofs.block.torn_byte.Goals as goal
 

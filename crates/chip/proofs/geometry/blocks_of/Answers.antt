@@ -1,4 +1,4 @@
-use Rattle.std.proofs.Common.{div-mul-le_self, arith, rules, eq-eqb, ne_eqb, le-leb}
+use Rattle.std.proofs.Common.{div-mul-le_self, rules, eq-eqb, ne_eqb, le-leb}
 use borrow.Author.Tests.{lt-leb}
 use Rattle.chip.specs.Geometry.{block_size}
 use Rattle.chip.proofs.Sizes.{block_pos, block_most}

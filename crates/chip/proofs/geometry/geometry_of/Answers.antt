@@ -1,4 +1,4 @@
-use Rattle.std.proofs.Common.{refl, rules}
+use Rattle.std.proofs.Common.{refl}
 use Rattle.chip.proofs.Sizes.{small_fits, large_fits}
 use Rattle.chip.proofs.geometry.geometry_of.Goals as goal
 

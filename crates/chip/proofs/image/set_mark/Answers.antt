@@ -1,4 +1,4 @@
-use Rattle.std.proofs.Common.{◌≡◌, ℕ, ◌+◌, ◌*◌, ◌/◌, ◌≤◌, length, get_or, refl, ◌∙◌, arith, rules}
+use Rattle.std.proofs.Common.{◌≡◌, ℕ, ◌+◌, ◌*◌, ◌/◌, ◌≤◌, length, get_or, refl, ◌∙◌, rules}
 use Rattle.lists.specs.Lists.{part}
 use Rattle.lists.proofs.Parts.{length_part}
 use Rattle.chip.specs.Geometry.{page_size}

@@ -1,4 +1,3 @@
-use Rattle.std.proofs.Common.{rules}
 use Rattle.chip.proofs.operation.tell.Goals as goal
 
 pub returns : goal.returns

@@ -1,4 +1,4 @@
-use Rattle.std.proofs.Common.{◌≡◌, ◌-◌, ◌≤◌, ◌++◌, length, take, replicate, rules}
+use Rattle.std.proofs.Common.{length, rules}
 use Rattle.chip.proofs.PageLaws.{blank_turn, blank_end}
 use Rattle.chip.proofs.page.blank_from.Goals as goal
 

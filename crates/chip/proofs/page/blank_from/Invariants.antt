@@ -1,5 +1,4 @@
-use Rattle.std.proofs.Common.{◌≡◌, ◌-◌, ◌≤◌, ◌++◌, length, take, replicate, rules}
-use Rattle.chip.proofs.PageLaws.{blank_turn, blank_end}
+use Rattle.std.proofs.Common.{◌≡◌, ◌-◌, ◌≤◌, ◌++◌, length, take, replicate}
 use Rattle.chip.proofs.page.blank_from.Given as goal
 
 abbrev pub invariant-loop-i : goal.invariant-loop-i

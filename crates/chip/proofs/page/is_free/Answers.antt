@@ -1,5 +1,4 @@
-use Rattle.std.proofs.Common.{◌≡◌, ◌-◌, ◌≤◌, length, drop, sym, ◌∙◌, rules}
-use Rattle.chip.specs.Page.{is_free}
+use Rattle.std.proofs.Common.{sym, ◌∙◌, rules}
 use Rattle.chip.proofs.PageLaws.{part_pass, part_stop}
 use Rattle.chip.proofs.page.is_free.Goals as goal
 

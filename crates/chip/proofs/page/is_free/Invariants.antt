@@ -1,6 +1,5 @@
-use Rattle.std.proofs.Common.{◌≡◌, ◌-◌, ◌≤◌, length, drop, sym, ◌∙◌, rules}
+use Rattle.std.proofs.Common.{◌≡◌, ◌-◌, ◌≤◌, length, drop}
 use Rattle.chip.specs.Page.{is_free}
-use Rattle.chip.proofs.PageLaws.{part_pass, part_stop}
 use Rattle.chip.proofs.page.is_free.Given as goal
 
 abbrev pub invariant-loop-i : goal.invariant-loop-i

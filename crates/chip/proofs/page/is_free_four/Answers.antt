@@ -1,4 +1,4 @@
-use Rattle.std.proofs.Common.{sym, ◌∙◌, rules, eq-eqb, ne_eqb}
+use Rattle.std.proofs.Common.{sym, ◌∙◌, eq-eqb, ne_eqb}
 use Rattle.chip.proofs.PageLaws.{free_four}
 use Rattle.chip.proofs.page.is_free_four.Goals as goal
 

@@ -1,5 +1,4 @@
-use Rattle.std.proofs.Common.{◌≡◌, ◌-◌, length, drop, sym, refl, ◌∙◌, arith, rules}
-use Rattle.chip.specs.Page.{is_free}
+use Rattle.std.proofs.Common.{sym, refl, ◌∙◌, arith, rules}
 use Rattle.chip.proofs.PageLaws.{free_stop, free_pass, free_end}
 use Rattle.chip.proofs.page.is_free_from.Goals as goal
 

@@ -1,6 +1,5 @@
-use Rattle.std.proofs.Common.{◌≡◌, ◌-◌, length, drop, sym, refl, ◌∙◌, arith, rules}
+use Rattle.std.proofs.Common.{◌≡◌, ◌-◌, length, drop}
 use Rattle.chip.specs.Page.{is_free}
-use Rattle.chip.proofs.PageLaws.{free_stop, free_pass, free_end}
 use Rattle.chip.proofs.page.is_free_from.Given as goal
 
 abbrev pub invariant-loop-i : goal.invariant-loop-i

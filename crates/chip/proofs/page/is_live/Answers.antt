@@ -1,4 +1,4 @@
-use Rattle.std.proofs.Common.{arith, rules, eq-eqb, ne_eqb}
+use Rattle.std.proofs.Common.{arith, eq-eqb, ne_eqb}
 use Rattle.chip.specs.declared.page.Mark.TheVariants.{Valid, Obsolete}
 use Rattle.chip.proofs.PageLaws.{set_read}
 use Rattle.chip.proofs.page.is_live.Goals as goal

@@ -1,4 +1,4 @@
-use Rattle.std.proofs.Common.{sym, ◌∙◌, rules}
+use Rattle.std.proofs.Common.{sym, ◌∙◌}
 use Rattle.chip.proofs.page.set_mark.Goals as goal
 
 pub returns-in-Whole : goal.returns-in-Whole

@@ -1,4 +1,4 @@
-use Rattle.std.proofs.Common.{sym, rules}
+use Rattle.std.proofs.Common.{sym}
 use Rattle.chip.proofs.PowerLaws.{outcome_left}
 use Rattle.chip.proofs.power.next.Goals as goal
 

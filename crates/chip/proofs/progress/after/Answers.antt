@@ -1,4 +1,3 @@
-use Rattle.std.proofs.Common.{rules}
 use Rattle.chip.proofs.progress.after.Goals as goal
 
 pub returns-in-Whole : goal.returns-in-Whole

@@ -3,7 +3,6 @@ use Prim.Native.Nat.{ℕ, ◌*◌, ◌<◌, ◌≤◌}
 use native.Mathlib.Omega.{arith}
 use Rattle.lists.proofs.Alls.{All-map}
 use Rattle.commits.proofs.ExecuteLaws.{executes_none, executes_some, pages_most_lem, places_on}
-use borrow.Author.Rules.{rules}
 use Rattle.commits.proofs.execute.execute.Goals as goal
 
 some : {n : ℕ} → (n ≡ 0 → ⊥) → 0 < n

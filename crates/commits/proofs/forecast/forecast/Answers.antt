@@ -2,7 +2,6 @@ use mathlib.Core.Path.{◌≡◌}
 use Prim.Native.Nat.{ℕ, ◌<◌}
 use native.Mathlib.Omega.{arith}
 use Rattle.commits.proofs.ForecastLaws.{forecasts_none, forecasts_some}
-use borrow.Author.Rules.{rules}
 use Rattle.commits.proofs.forecast.forecast.Goals as goal
 
 some : {n : ℕ} → (n ≡ 0 → ⊥) → 0 < n

@@ -1,5 +1,4 @@
 use Rattle.contents.proofs.MeasureLaws.{forced_none, forced_reset, forced_less, forced_full}
-use borrow.Author.Rules.{rules}
 use Rattle.contents.proofs.measure.is_forced.Goals as goal
 
 pub returns-then-part-eq0 : goal.returns-then-part-eq0

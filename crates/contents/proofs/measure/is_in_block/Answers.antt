@@ -1,6 +1,5 @@
 use native.Mathlib.Omega.{arith}
 use Rattle.contents.proofs.MeasureLaws.{block_before, block_from, block_most}
-use borrow.Author.Rules.{rules}
 use Rattle.contents.proofs.measure.is_in_block.Goals as goal
 
 pub overflow_mul-first : goal.overflow_mul-first

@@ -1,12 +1,6 @@
-use mathlib.Core.Path.{◌≡◌, refl, sym, ◌∙◌}
-use Prim.Native.Nat.{◌-◌, ◌≤◌}
+use mathlib.Core.Path.{refl, sym, ◌∙◌}
 use native.Mathlib.Omega.{arith}
-use lib.ListN.{drop}
-use Rattle.lists.specs.Lists.{any}
-use Rattle.chip.specs.Chip.{in_block}
-use Rattle.views.specs.Stored.{stored_list}
 use Rattle.contents.proofs.MeasureLaws.{listed_here, listed_next, listed_done}
-use borrow.Author.Rules.{rules}
 use Rattle.contents.proofs.measure.is_listed_in.Goals as goal
 
 pub loop-i-init : goal.loop-i-init

@@ -1,12 +1,9 @@
-use mathlib.Core.Path.{◌≡◌, refl, sym, ◌∙◌}
+use mathlib.Core.Path.{◌≡◌}
 use Prim.Native.Nat.{◌-◌, ◌≤◌}
-use native.Mathlib.Omega.{arith}
 use lib.ListN.{drop}
 use Rattle.lists.specs.Lists.{any}
 use Rattle.chip.specs.Chip.{in_block}
 use Rattle.views.specs.Stored.{stored_list}
-use Rattle.contents.proofs.MeasureLaws.{listed_here, listed_next, listed_done}
-use borrow.Author.Rules.{rules}
 use Rattle.contents.proofs.measure.is_listed_in.Given as goal
 
 abbrev pub invariant-loop-i : goal.invariant-loop-i

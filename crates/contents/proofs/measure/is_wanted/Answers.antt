@@ -1,5 +1,4 @@
 use Rattle.contents.proofs.MeasureLaws.{wanted_part, wanted_old, wanted_no}
-use borrow.Author.Rules.{rules}
 use Rattle.contents.proofs.measure.is_wanted.Goals as goal
 
 pub returns-then-parts-n-gt0 : goal.returns-then-parts-n-gt0

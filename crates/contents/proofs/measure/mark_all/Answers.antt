@@ -1,9 +1,6 @@
 use mathlib.Core.Path.{◌∙◌, refl}
-use Prim.Native.Nat.{ℕ, ◌-◌, ◌≤◌}
 use native.Mathlib.Omega.{arith}
-use Rattle.contents.specs.ContentsCode.{FillsArray}
 use Rattle.contents.proofs.MeasureLaws.{fills_start, fills_next, fills_done}
-use borrow.Author.Rules.{rules}
 use Rattle.contents.proofs.measure.mark_all.Goals as goal
 
 pub loop-n-init : goal.loop-n-init

@@ -1,9 +1,7 @@
 use mathlib.Core.Path.{ap, ◌∙◌}
-use Prim.Native.Nat.{ℕ}
 use lib.ListN.{get_or, set}
 use Rattle.lists.specs.Lists.{bit}
 use Rattle.contents.specs.ContentsCode.{is_forced_by}
-use borrow.Author.Rules.{rules}
 use Rattle.contents.proofs.measure.mark_form.Goals as goal
 
 pub returns : goal.returns

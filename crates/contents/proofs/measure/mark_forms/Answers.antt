@@ -1,12 +1,11 @@
 use mathlib.Core.Path.{◌∙◌, ap}
-use Prim.Native.Nat.{ℕ, ◌-◌, ◌≤◌}
+use Prim.Native.Nat.{ℕ}
 use native.Mathlib.Omega.{arith}
 use lib.ListN.{get_or, length}
 use Rattle.lists.specs.Lists.{bit}
 use Rattle.views.specs.Stored.{stored_list}
-use Rattle.contents.specs.ContentsCode.{FillsArray, is_forced_by}
+use Rattle.contents.specs.ContentsCode.{is_forced_by}
 use Rattle.contents.proofs.MeasureLaws.{fills_start, fills_next, fills_done}
-use borrow.Author.Rules.{rules}
 use Rattle.contents.proofs.measure.mark_forms.Goals as goal
 
 pub loop-n-init : goal.loop-n-init

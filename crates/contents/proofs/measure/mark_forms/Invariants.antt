@@ -1,12 +1,8 @@
-use mathlib.Core.Path.{◌∙◌, ap}
 use Prim.Native.Nat.{ℕ, ◌-◌, ◌≤◌}
-use native.Mathlib.Omega.{arith}
 use lib.ListN.{get_or, length}
 use Rattle.lists.specs.Lists.{bit}
 use Rattle.views.specs.Stored.{stored_list}
 use Rattle.contents.specs.ContentsCode.{FillsArray, is_forced_by}
-use Rattle.contents.proofs.MeasureLaws.{fills_start, fills_next, fills_done}
-use borrow.Author.Rules.{rules}
 use Rattle.contents.proofs.measure.mark_forms.Given as goal
 
 abbrev pub invariant-loop-n : goal.invariant-loop-n

@@ -1,12 +1,7 @@
 use mathlib.Core.Path.{◌∙◌, ap}
-use Prim.Native.Nat.{ℕ, ◌-◌, ◌≤◌}
 use native.Mathlib.Omega.{arith}
-use Rattle.lists.specs.Lists.{any, bit}
-use Rattle.chip.specs.Chip.{in_block}
-use Rattle.views.specs.Stored.{stored_list}
-use Rattle.contents.specs.ContentsCode.{FillsArray}
+use Rattle.lists.specs.Lists.{bit}
 use Rattle.contents.proofs.MeasureLaws.{fills_start, fills_next, fills_done}
-use borrow.Author.Rules.{rules}
 use Rattle.contents.proofs.measure.mark_olds.Goals as goal
 
 pub loop-n-init : goal.loop-n-init

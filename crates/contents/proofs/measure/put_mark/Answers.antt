@@ -1,4 +1,3 @@
-use borrow.Author.Rules.{rules}
 use Rattle.contents.proofs.measure.put_mark.Goals as goal
 
 pub returns-then-x : goal.returns-then-x

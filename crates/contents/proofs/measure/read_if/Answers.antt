@@ -1,6 +1,5 @@
 use mathlib.Core.Path.{refl}
 use Rattle.contents.proofs.MeasureLaws.{reads_none, reads_one}
-use borrow.Author.Rules.{rules}
 use Rattle.contents.proofs.measure.read_if.Goals as goal
 
 pub returns-then-wanted : goal.returns-then-wanted

@@ -1,12 +1,6 @@
-use mathlib.Core.Path.{◌∙◌, sym}
-use Prim.Native.Nat.{ℕ, ◌-◌, ◌≤◌}
+use mathlib.Core.Path.{◌∙◌}
 use native.Mathlib.Omega.{arith}
-use Rattle.chip.specs.Chip.{pages_of}
-use Rattle.views.specs.Stored.{node_view}
-use Rattle.journal.specs.Plan.{rewrite}
-use Rattle.contents.specs.ContentsCode.{ReadsNodes, is_wanted}
 use Rattle.contents.proofs.MeasureLaws.{reading_start, reading_next, reading_done}
-use borrow.Author.Rules.{rules}
 use Rattle.contents.proofs.measure.read_nodes.Goals as goal
 
 pub loop-n-init : goal.loop-n-init

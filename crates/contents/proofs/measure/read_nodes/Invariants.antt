@@ -1,12 +1,8 @@
-use mathlib.Core.Path.{◌∙◌, sym}
 use Prim.Native.Nat.{ℕ, ◌-◌, ◌≤◌}
-use native.Mathlib.Omega.{arith}
 use Rattle.chip.specs.Chip.{pages_of}
 use Rattle.views.specs.Stored.{node_view}
 use Rattle.journal.specs.Plan.{rewrite}
 use Rattle.contents.specs.ContentsCode.{ReadsNodes, is_wanted}
-use Rattle.contents.proofs.MeasureLaws.{reading_start, reading_next, reading_done}
-use borrow.Author.Rules.{rules}
 use Rattle.contents.proofs.measure.read_nodes.Given as goal
 
 abbrev pub invariant-loop-n : goal.invariant-loop-n

@@ -1,7 +1,6 @@
 use Rattle.chip.specs.Chip.{pages_of}
 use Rattle.contents.specs.ContentsCode.{contents_in}
 use Rattle.contents.proofs.MeasureLaws.{all_read}
-use borrow.Author.Rules.{rules}
 use Rattle.contents.proofs.measure.rest_in.Goals as goal
 
 pub returns : goal.returns

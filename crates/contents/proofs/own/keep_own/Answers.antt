@@ -1,6 +1,5 @@
-use Prim.Native.Nat.{◌-◌, ◌≤◌}
 use native.Mathlib.Omega.{arith}
-use Rattle.contents.proofs.KeepLaws.{Keeping, keeping_start, keeping_next, keeping_done}
+use Rattle.contents.proofs.KeepLaws.{keeping_start, keeping_next, keeping_done}
 use borrow.Author.Rules.{rules}
 use Rattle.contents.proofs.own.keep_own.Goals as goal
 

@@ -1,5 +1,4 @@
 use Rattle.contents.proofs.OwnLaws.{own_here, own_other}
-use borrow.Author.Rules.{rules}
 use Rattle.contents.proofs.own.own_unit.Goals as goal
 
 pub returns-then-read_half-number : goal.returns-then-read_half-number

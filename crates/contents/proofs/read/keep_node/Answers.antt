@@ -1,5 +1,4 @@
 use Rattle.contents.proofs.UnitsLaws.{keeps_view}
-use borrow.Author.Rules.{rules}
 use Rattle.contents.proofs.read.keep_node.Goals as goal
 
 pub returns : goal.returns

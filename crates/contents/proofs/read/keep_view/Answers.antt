@@ -3,7 +3,6 @@ use mathlib.Core.List.{[]}
 use native.Mathlib.Omega.{arith}
 use Rattle.views.specs.NodeCode.{entries_of}
 use Rattle.contents.proofs.UnitsLaws.{keeps_none, keeps_anew}
-use borrow.Author.Rules.{rules}
 use Rattle.contents.proofs.read.keep_view.Goals as goal
 
 pub returns-in-Untouched : goal.returns-in-Untouched

@@ -1,10 +1,9 @@
-use mathlib.Core.Path.{◌≡◌, refl, ◌∙◌}
-use Prim.Native.Nat.{◌+◌, ◌*◌, ◌-◌, ◌≤◌}
+use mathlib.Core.Path.{refl, ◌∙◌}
+use Prim.Native.Nat.{◌+◌, ◌*◌}
 use native.Mathlib.Omega.{arith}
-use lib.ListN.{length}
 use Rattle.contents.proofs.UnitsLaws.{length_put}
 use Rattle.views.proofs.NodeLaws.{length_entries}
-use Rattle.views.proofs.BufferLaws.{Pushing, pushing_start, pushing_next, pushing_done}
+use Rattle.views.proofs.BufferLaws.{pushing_start, pushing_next, pushing_done}
 use borrow.Author.Rules.{rules}
 use Rattle.contents.proofs.read.put_entries.Goals as goal
 

@@ -1,11 +1,7 @@
-use mathlib.Core.Path.{◌≡◌, refl, ◌∙◌}
-use Prim.Native.Nat.{◌+◌, ◌*◌, ◌-◌, ◌≤◌}
-use native.Mathlib.Omega.{arith}
+use mathlib.Core.Path.{◌≡◌}
+use Prim.Native.Nat.{◌-◌, ◌≤◌}
 use lib.ListN.{length}
-use Rattle.contents.proofs.UnitsLaws.{length_put}
-use Rattle.views.proofs.NodeLaws.{length_entries}
-use Rattle.views.proofs.BufferLaws.{Pushing, pushing_start, pushing_next, pushing_done}
-use borrow.Author.Rules.{rules}
+use Rattle.views.proofs.BufferLaws.{Pushing}
 use Rattle.contents.proofs.read.put_entries.Given as goal
 
 abbrev pub invariant-loop-i : goal.invariant-loop-i

@@ -1,9 +1,9 @@
-use mathlib.Core.Path.{refl, sym, ap, ◌∙◌}
-use Prim.Native.Nat.{ℕ, ◌*◌, ◌-◌, ◌≤◌}
+use mathlib.Core.Path.{refl}
+use Prim.Native.Nat.{◌*◌, ◌-◌}
 use native.Mathlib.Omega.{arith}
 use lib.ListN.{drop, length, take}
 use Rattle.pages.specs.Units.{decode}
-use Rattle.contents.proofs.TallyLaws.{Tallying, tallying_start, tallying_next, tallying_done}
+use Rattle.contents.proofs.TallyLaws.{tallying_start, tallying_next, tallying_done}
 use borrow.Author.Rules.{rules}
 use Rattle.contents.proofs.tally.tally_in.Goals as goal
 

@@ -1,10 +1,5 @@
-use mathlib.Core.Path.{refl, sym, ap, ◌∙◌}
-use Prim.Native.Nat.{ℕ, ◌*◌, ◌-◌, ◌≤◌}
-use native.Mathlib.Omega.{arith}
-use lib.ListN.{drop, length, take}
-use Rattle.pages.specs.Units.{decode}
-use Rattle.contents.proofs.TallyLaws.{Tallying, tallying_start, tallying_next, tallying_done}
-use borrow.Author.Rules.{rules}
+use Prim.Native.Nat.{◌-◌, ◌≤◌}
+use Rattle.contents.proofs.TallyLaws.{Tallying}
 use Rattle.contents.proofs.tally.tally_in.Given as goal
 
 abbrev pub invariant-loop-i : goal.invariant-loop-i

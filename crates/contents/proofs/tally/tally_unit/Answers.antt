@@ -3,7 +3,6 @@ use native.Mathlib.Omega.{arith}
 use Rattle.pages.specs.Units.{decode}
 use Rattle.pages.proofs.UnitLaws.{told}
 use Rattle.contents.proofs.TallyLaws.{tally_none, tally_other, tally_reset}
-use borrow.Author.Rules.{rules}
 use Rattle.contents.proofs.tally.tally_unit.Goals as goal
 
 pub returns-in_default : goal.returns-in_default

@@ -1,6 +1,5 @@
 use native.Mathlib.Omega.{arith}
 use Rattle.contents.proofs.WrittenLaws.{form_none, form_anew, form_own}
-use borrow.Author.Rules.{rules}
 use Rattle.contents.proofs.written.keep_form.Goals as goal
 
 pub returns-then-targets-n-eq65535 : goal.returns-then-targets-n-eq65535

@@ -1,8 +1,6 @@
-use Prim.Native.Nat.{ℕ, ◌-◌, ◌≤◌}
 use native.Mathlib.Omega.{arith}
 use Rattle.contents.specs.ContentsCode.{own_in}
-use Rattle.contents.proofs.WrittenLaws.{Writing, writing_start, writing_next, writing_done}
-use borrow.Author.Rules.{rules}
+use Rattle.contents.proofs.WrittenLaws.{writing_start, writing_next, writing_done}
 use Rattle.contents.proofs.written.keep_forms.Goals as goal
 
 pub loop-n-init : goal.loop-n-init

@@ -1,5 +1,4 @@
 use Rattle.chip.proofs.Sizes.{block_on_chip, blocks_whole}
-use Rattle.std.proofs.Common.{rules}
 use Rattle.execution.proofs.erase.erase_at.Goals as goal
 
 pub erase-requires : goal.erase-requires

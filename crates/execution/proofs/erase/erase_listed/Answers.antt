@@ -1,6 +1,4 @@
-use Rattle.std.proofs.Common.{◌≡◌, ◌-◌, ◌<◌, ◌≤◌, map, take, ◌∙◌, arith, rules}
-use Rattle.chip.specs.Chip.{erase}
-use Rattle.chip.specs.RunCode.{Ran}
+use Rattle.std.proofs.Common.{◌≡◌, ◌<◌, ◌∙◌, arith, rules}
 use Rattle.chip.proofs.Runs.{ran_none}
 use Rattle.execution.proofs.EraseLaws.{erased_more, first_at}
 use Rattle.execution.proofs.erase.erase_listed.Goals as goal

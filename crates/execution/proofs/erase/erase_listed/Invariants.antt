@@ -1,8 +1,6 @@
-use Rattle.std.proofs.Common.{◌≡◌, ◌-◌, ◌<◌, ◌≤◌, map, take, ◌∙◌, arith, rules}
+use Rattle.std.proofs.Common.{◌-◌, ◌≤◌, map, take}
 use Rattle.chip.specs.Chip.{erase}
 use Rattle.chip.specs.RunCode.{Ran}
-use Rattle.chip.proofs.Runs.{ran_none}
-use Rattle.execution.proofs.EraseLaws.{erased_more, first_at}
 use Rattle.execution.proofs.erase.erase_listed.Given as goal
 
 abbrev pub invariant-loop-i : goal.invariant-loop-i

@@ -1,4 +1,4 @@
-use Rattle.std.proofs.Common.{ℕ, ◌*◌, ◌<◌, ◌≤◌, length, take, sym, ◌∙◌, subst, arith, rules}
+use Rattle.std.proofs.Common.{ℕ, ◌*◌, ◌<◌, ◌≤◌, length, take, sym, ◌∙◌, subst, arith}
 use Rattle.lists.specs.Lists.{All}
 use Rattle.chip.proofs.Sizes.{blocks_pages, blocks_whole}
 use Rattle.execution.proofs.ExecuteLaws.{executes}

@@ -1,4 +1,4 @@
-use Rattle.std.proofs.Common.{ℕ, set, ap, rules}
+use Rattle.std.proofs.Common.{ℕ, set, ap}
 use Rattle.execution.proofs.figures.count_erase.Goals as goal
 
 pub returns : goal.returns

@@ -1,6 +1,5 @@
-use Rattle.std.proofs.Common.{◌≡◌, ◌-◌, ◌<◌, ◌≤◌, map, length, get_or, take, sym, ap, ◌∙◌, arith, rules}
+use Rattle.std.proofs.Common.{◌≡◌, ◌<◌, map, length, get_or, take, sym, ap, ◌∙◌, arith, rules}
 use Rattle.chip.specs.Chip.{erase}
-use Rattle.chip.specs.Erases.{figures_after}
 use Rattle.chip.proofs.EraseLaws.{figures_none, length_figures}
 use Rattle.execution.proofs.EraseLaws.{counted_more, first_at}
 use Rattle.execution.proofs.figures.count_listed.Goals as goal

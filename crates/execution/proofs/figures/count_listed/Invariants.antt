@@ -1,8 +1,6 @@
-use Rattle.std.proofs.Common.{◌≡◌, ◌-◌, ◌<◌, ◌≤◌, map, length, get_or, take, sym, ap, ◌∙◌, arith, rules}
+use Rattle.std.proofs.Common.{◌≡◌, ◌-◌, ◌≤◌, map, take}
 use Rattle.chip.specs.Chip.{erase}
 use Rattle.chip.specs.Erases.{figures_after}
-use Rattle.chip.proofs.EraseLaws.{figures_none, length_figures}
-use Rattle.execution.proofs.EraseLaws.{counted_more, first_at}
 use Rattle.execution.proofs.figures.count_listed.Given as goal
 
 abbrev pub invariant-loop-i : goal.invariant-loop-i

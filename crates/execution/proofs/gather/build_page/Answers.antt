@@ -1,4 +1,3 @@
-use Rattle.std.proofs.Common.{rules}
 use Rattle.execution.proofs.GatherLaws.{data_built}
 use Rattle.execution.proofs.gather.build_page.Goals as goal
 

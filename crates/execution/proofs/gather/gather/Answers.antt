@@ -1,5 +1,5 @@
-use Rattle.std.proofs.Common.{◌≡◌, ◌-◌, ◌≤◌, length, arith, rules}
-use Rattle.execution.proofs.GatherLaws.{Gathering, gathering_done, gathering_next, gathering_start}
+use Rattle.std.proofs.Common.{arith, rules}
+use Rattle.execution.proofs.GatherLaws.{gathering_done, gathering_next, gathering_start}
 use Rattle.execution.proofs.gather.gather.Goals as goal
 
 pub loop-n-init : goal.loop-n-init

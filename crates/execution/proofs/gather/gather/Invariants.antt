@@ -1,5 +1,5 @@
-use Rattle.std.proofs.Common.{◌≡◌, ◌-◌, ◌≤◌, length, arith, rules}
-use Rattle.execution.proofs.GatherLaws.{Gathering, gathering_done, gathering_next, gathering_start}
+use Rattle.std.proofs.Common.{◌≡◌, ◌-◌, ◌≤◌, length}
+use Rattle.execution.proofs.GatherLaws.{Gathering}
 use Rattle.execution.proofs.gather.gather.Given as goal
 
 abbrev pub invariant-loop-n : goal.invariant-loop-n

@@ -1,4 +1,3 @@
-use Rattle.std.proofs.Common.{rules}
 use Rattle.execution.proofs.GatherLaws.{laid_front}
 use Rattle.execution.proofs.gather.lay_units.Goals as goal
 

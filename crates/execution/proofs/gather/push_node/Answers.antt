@@ -1,4 +1,4 @@
-use Rattle.std.proofs.Common.{arith, rules}
+use Rattle.std.proofs.Common.{arith}
 use Rattle.execution.proofs.GatherLaws.{push_full, push_large, push_other, push_units}
 use Rattle.execution.proofs.gather.push_node.Goals as goal
 

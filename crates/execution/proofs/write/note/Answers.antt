@@ -1,4 +1,4 @@
-use Rattle.std.proofs.Common.{arith, rules}
+use Rattle.std.proofs.Common.{arith}
 use Rattle.execution.proofs.WriteLaws.{notes_turned}
 use Rattle.execution.proofs.write.note.Goals as goal
 

@@ -1,7 +1,6 @@
-use Rattle.std.proofs.Common.{◌≡◌, ℕ, ◌-◌, ◌/◌, ◌%◌, ◌<◌, ◌≤◌, take, sym, ap, ◌∙◌, subst, arith, rules}
+use Rattle.std.proofs.Common.{◌≡◌, ℕ, ◌/◌, ◌%◌, ◌<◌, take, sym, ap, ◌∙◌, subst, arith, rules}
 use Rattle.lists.specs.Lists.{All}
 use Rattle.chip.specs.Geometry.{page_size}
-use Rattle.execution.specs.WriteCode.{Writes}
 use Rattle.execution.proofs.WriteLaws.{writes_more, writes_none}
 use Rattle.execution.proofs.write.write_listed.Goals as goal
 

@@ -1,8 +1,5 @@
-use Rattle.std.proofs.Common.{◌≡◌, ℕ, ◌-◌, ◌/◌, ◌%◌, ◌<◌, ◌≤◌, take, sym, ap, ◌∙◌, subst, arith, rules}
-use Rattle.lists.specs.Lists.{All}
-use Rattle.chip.specs.Geometry.{page_size}
+use Rattle.std.proofs.Common.{◌-◌, ◌≤◌}
 use Rattle.execution.specs.WriteCode.{Writes}
-use Rattle.execution.proofs.WriteLaws.{writes_more, writes_none}
 use Rattle.execution.proofs.write.write_listed.Given as goal
 
 abbrev pub invariant-loop-i : goal.invariant-loop-i

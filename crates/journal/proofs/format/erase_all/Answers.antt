@@ -1,11 +1,8 @@
 use mathlib.Core.Path.{◌≡◌, ◌∙◌}
-use Prim.Native.Nat.{◌≤◌, ◌-◌, ◌*◌}
+use Prim.Native.Nat.{◌*◌}
 use native.Mathlib.Omega.{arith}
 use lib.ListN.{length}
-use Rattle.lists.specs.Lists.{tab}
 use Rattle.chip.specs.Geometry.{block_size}
-use Rattle.chip.specs.Chip.{erase}
-use Rattle.chip.specs.RunCode.{Ran}
 use Rattle.chip.proofs.Runs.{ran_none}
 use Rattle.chip.proofs.Sizes.{block_on_chip, blocks_whole}
 use Rattle.journal.proofs.FormatCode.{erased_more}

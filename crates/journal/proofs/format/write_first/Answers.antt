@@ -1,5 +1,4 @@
 use Rattle.journal.proofs.FormatCode.{first_data}
-use borrow.Author.Rules.{rules}
 use Rattle.journal.proofs.format.write_first.Goals as goal
 
 pub returns : goal.returns

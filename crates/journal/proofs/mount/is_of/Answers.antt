@@ -6,7 +6,6 @@ use native.Mathlib.Omega.{arith}
 use Rattle.chip.specs.Page.{is_live}
 use Rattle.pages.specs.Data.{head_of}
 use Rattle.journal.proofs.MountCode.{word_front}
-use borrow.Author.Rules.{rules}
 use Rattle.journal.proofs.mount.is_of.Goals as goal
 
 pub returns-then-not-is_live : goal.returns-then-not-is_live

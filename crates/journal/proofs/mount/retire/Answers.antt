@@ -1,6 +1,5 @@
 use borrow.Author.Tests.{eq-eqb, ne_eqb}
 use Rattle.chip.proofs.Runs.{ran_none}
-use borrow.Author.Rules.{rules}
 use Rattle.journal.proofs.mount.retire.Goals as goal
 
 pub returns-then-void-eq0 : goal.returns-then-void-eq0

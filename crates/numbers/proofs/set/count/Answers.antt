@@ -1,5 +1,4 @@
 use Rattle.numbers.proofs.Words.{counted}
-use borrow.Author.Rules.{rules}
 use Rattle.numbers.proofs.set.count.Goals as goal
 
 pub returns : goal.returns

@@ -1,10 +1,8 @@
-use mathlib.Core.Path.{◌≡◌, refl, ◌∙◌}
-use Prim.Native.Nat.{◌-◌, ◌≤◌}
+use mathlib.Core.Path.{refl, ◌∙◌}
 use native.Mathlib.Omega.{arith}
-use Rattle.numbers.specs.NumberSet.{words_of, uncounted}
+use Rattle.numbers.specs.NumberSet.{words_of}
 use Rattle.chip.specs.SetCode.{set_of}
 use Rattle.numbers.proofs.Gathered.{gather_put, gather_skip, gather_end, gather_past}
-use borrow.Author.Rules.{rules}
 use Rattle.numbers.proofs.set.gather.Goals as goal
 use Rattle.numbers.proofs.set.gather.Goals.{then-counts-n-eq0, else-counts-n-eq0}
 
@@ -18,7 +16,7 @@ returns-then-n-ge256 c = gather_past c.args.counts.now c.loop-n.set c.loop-n.n c
 pub loop-n-preserved : goal.loop-n-preserved
 loop-n-preserved c =
     elim c.if-counts-n-eq0.branch [
-      then-counts-n-eq0 w ↦ (omega arith, w.set-is ∙ gather_put c.args.counts.now c.loop-n.set c.loop-n.n c.loop-n.invariant.1 w.put_in.new.set (omega arith) w.if-counts-n-eq0.true w.put_in.ensures)
+      | then-counts-n-eq0 w ↦ (omega arith, w.set-is ∙ gather_put c.args.counts.now c.loop-n.set c.loop-n.n c.loop-n.invariant.1 w.put_in.new.set (omega arith) w.if-counts-n-eq0.true w.put_in.ensures)
       | else-counts-n-eq0 w ↦ (omega arith, w.set-is ∙ gather_skip c.args.counts.now c.loop-n.set c.loop-n.n c.loop-n.invariant.1 w.if-counts-n-eq0.false)
     ]
 

@@ -1,11 +1,6 @@
-use mathlib.Core.Path.{◌≡◌, refl, ◌∙◌}
-use mathlib.Core.Logic.{⊎_elim}
+use mathlib.Core.Path.{◌≡◌}
 use Prim.Native.Nat.{◌-◌, ◌≤◌}
-use native.Mathlib.Omega.{arith}
 use Rattle.numbers.specs.NumberSet.{words_of, uncounted}
-use Rattle.chip.specs.SetCode.{set_of}
-use Rattle.numbers.proofs.Gathered.{gather_put, gather_skip, gather_end, gather_past}
-use borrow.Author.Rules.{rules}
 use Rattle.numbers.proofs.set.gather.Given as goal
 
 abbrev pub invariant-loop-n : goal.invariant-loop-n

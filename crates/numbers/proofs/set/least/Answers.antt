@@ -1,10 +1,7 @@
-use mathlib.Core.Path.{◌≡◌}
-use Prim.Native.Nat.{◌*◌, ◌-◌, ◌≤◌}
 use native.Mathlib.Omega.{arith}
 use lib.Count.{trailing_le}
 use lib.ListN.{get_or}
-use Rattle.numbers.proofs.Words.{Passed, passed_start, passed_more, passed_found, passed_all}
-use borrow.Author.Rules.{rules}
+use Rattle.numbers.proofs.Words.{passed_start, passed_more, passed_found, passed_all}
 use Rattle.numbers.proofs.set.least.Goals as goal
 
 pub loop-w-init : goal.loop-w-init

@@ -1,10 +1,6 @@
 use mathlib.Core.Path.{◌≡◌}
 use Prim.Native.Nat.{◌*◌, ◌-◌, ◌≤◌}
-use native.Mathlib.Omega.{arith}
-use lib.Count.{trailing_le}
-use lib.ListN.{get_or}
-use Rattle.numbers.proofs.Words.{Passed, passed_start, passed_more, passed_found, passed_all}
-use borrow.Author.Rules.{rules}
+use Rattle.numbers.proofs.Words.{Passed}
 use Rattle.numbers.proofs.set.least.Given as goal
 
 abbrev pub invariant-loop-w : goal.invariant-loop-w

@@ -1,7 +1,6 @@
 use mathlib.Core.Bool.{true}
 use native.Mathlib.Omega.{arith}
 use Rattle.numbers.proofs.Words.{put_word, past}
-use borrow.Author.Rules.{rules}
 use Rattle.numbers.proofs.set.put_in.Goals as goal
 
 pub returns-then-n-ge256 : goal.returns-then-n-ge256

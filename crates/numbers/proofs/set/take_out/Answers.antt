@@ -4,7 +4,6 @@ use native.Mathlib.Omega.{arith}
 use lib.ListN.{get_or}
 use Rattle.numbers.proofs.BitLaws.{or_most}
 use Rattle.numbers.proofs.Words.{take_word, past}
-use borrow.Author.Rules.{rules}
 use Rattle.numbers.proofs.set.take_out.Goals as goal
 
 pub returns-then-n-ge256 : goal.returns-then-n-ge256

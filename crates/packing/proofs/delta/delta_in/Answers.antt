@@ -1,7 +1,6 @@
 use mathlib.Core.Path.{sym, ◌∙◌}
 use native.Mathlib.Omega.{arith}
 use Rattle.packing.proofs.FillArrays.{packs_delta}
-use borrow.Author.Rules.{rules}
 use Rattle.packing.proofs.delta.delta_in.Goals as goal
 
 pub pack_in-count-requires : goal.pack_in-count-requires

@@ -2,7 +2,6 @@ use lib.ListN.{take}
 use Rattle.journal.specs.PlanCode.{packing_of}
 use mathlib.Core.Path.{sym, ◌∙◌}
 use Rattle.packing.proofs.FillArrays.{keeps_both, keeps_short, fills_delta_lem}
-use borrow.Author.Rules.{rules}
 use Rattle.packing.proofs.delta.fill_pages.Goals as goal
 
 pub widen_all-requires : goal.widen_all-requires

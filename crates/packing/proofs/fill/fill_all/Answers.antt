@@ -1,15 +1,13 @@
-use mathlib.Core.Path.{◌≡◌, sym, ◌∙◌}
-use mathlib.Core.List.{[], foldl}
-use Prim.Native.Nat.{ℕ, ◌-◌, ◌≤◌}
+use mathlib.Core.Path.{sym, ◌∙◌}
+use mathlib.Core.List.{[]}
 use native.Mathlib.Omega.{arith}
 use lib.ListN.{take}
 use Rattle.journal.specs.Plan.{count_from}
 use Rattle.journal.specs.Packing.{fill_node}
 use Rattle.journal.specs.PlanCode.{is_marked, packing_of, sizes_in}
-use Rattle.packing.specs.PackingCode.{fill_if, KeepsForms, Ready}
+use Rattle.packing.specs.PackingCode.{fill_if}
 use Rattle.packing.proofs.PackingArrays.{fold_start, fold_next, fold_done, fold_filter}
 use Rattle.packing.proofs.FillArrays.{keeps_same, keeps_both}
-use borrow.Author.Rules.{rules}
 use Rattle.packing.proofs.fill.fill_all.Goals as goal
 
 pub loop-n-init : goal.loop-n-init

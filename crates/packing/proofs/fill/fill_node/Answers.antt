@@ -1,6 +1,5 @@
 use native.Mathlib.Omega.{arith}
 use Rattle.packing.proofs.FillArrays.{fills_had, fills_none, fills_full, fills_in}
-use borrow.Author.Rules.{rules}
 use Rattle.packing.proofs.fill.fill_node.Goals as goal
 
 pub returns-then-targets-n-ne-NONE : goal.returns-then-targets-n-ne-NONE

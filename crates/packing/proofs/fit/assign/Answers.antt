@@ -1,6 +1,5 @@
 use native.Mathlib.Omega.{arith}
 use Rattle.packing.proofs.PackingArrays.{assign_old, assign_new}
-use borrow.Author.Rules.{rules}
 use Rattle.packing.proofs.fit.assign.Goals as goal
 
 pub overflow_sub-rooms : goal.overflow_sub-rooms

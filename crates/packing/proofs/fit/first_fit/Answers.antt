@@ -1,11 +1,5 @@
-use mathlib.Core.Path.{◌≡◌}
-use Prim.Native.Nat.{◌+◌, ◌-◌, ◌≤◌}
 use native.Mathlib.Omega.{arith}
-use lib.Dec.{leb}
-use lib.ListN.{drop, take}
-use Rattle.lists.specs.Lists.{first}
 use Rattle.packing.proofs.PackingArrays.{first_next, first_found, first_none}
-use borrow.Author.Rules.{rules}
 use Rattle.packing.proofs.fit.first_fit.Goals as goal
 
 pub loop-i-init : goal.loop-i-init

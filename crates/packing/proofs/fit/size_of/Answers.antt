@@ -1,5 +1,4 @@
 use borrow.Author.Tests.{eq-eqb, ne_eqb}
-use borrow.Author.Rules.{rules}
 use Rattle.packing.proofs.fit.size_of.Goals as goal
 
 pub returns-then-forms-n-eq1 : goal.returns-then-forms-n-eq1

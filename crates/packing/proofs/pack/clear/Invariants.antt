@@ -1,11 +1,7 @@
-use mathlib.Core.Path.{◌≡◌, refl, ap, ◌∙◌}
-use mathlib.Core.List.{List, ◌++◌}
-use Prim.Native.Nat.{ℕ, ◌-◌, ◌≤◌}
-use native.Mathlib.Omega.{arith}
-use lib.ListN.{drop, length, replicate, set}
-use borrow.Author.Fill.{fill_none, fill_more}
-use Rattle.packing.proofs.PackingArrays.{fill_done}
-use borrow.Author.Rules.{rules}
+use mathlib.Core.Path.{◌≡◌}
+use mathlib.Core.List.{◌++◌}
+use Prim.Native.Nat.{◌-◌, ◌≤◌}
+use lib.ListN.{drop, length, replicate}
 use Rattle.packing.proofs.pack.clear.Given as goal
 
 abbrev pub invariant-loop-n : goal.invariant-loop-n

@@ -1,7 +1,6 @@
 use native.Mathlib.Omega.{arith}
 use lib.ListN.{length}
 use Rattle.packing.proofs.PackingArrays.{unpacked_ready, packs_passes}
-use borrow.Author.Rules.{rules}
 use Rattle.packing.proofs.pack.pack_in.Goals as goal
 
 pub pack_pass-marked-requires : goal.pack_pass-marked-requires

@@ -1,13 +1,8 @@
-use mathlib.Core.Path.{◌≡◌}
-use mathlib.Core.List.{foldl}
-use Prim.Native.Nat.{◌+◌, ◌-◌, ◌≤◌}
 use native.Mathlib.Omega.{arith}
 use lib.ListN.{take}
-use Rattle.journal.specs.Plan.{count_from}
 use Rattle.journal.specs.PlanCode.{packing_of}
-use Rattle.packing.specs.PackingCode.{pack_if, Ready}
+use Rattle.packing.specs.PackingCode.{pack_if}
 use Rattle.packing.proofs.PackingArrays.{fold_start, fold_next, fold_done}
-use borrow.Author.Rules.{rules}
 use Rattle.packing.proofs.pack.pack_pass.Goals as goal
 
 pub loop-n-init : goal.loop-n-init

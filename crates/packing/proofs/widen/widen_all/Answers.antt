@@ -1,16 +1,14 @@
-use mathlib.Core.Path.{◌≡◌, sym, ◌∙◌}
-use mathlib.Core.List.{foldl}
-use Prim.Native.Nat.{ℕ, ◌-◌, ◌≤◌}
+use mathlib.Core.Path.{sym, ◌∙◌}
+use Prim.Native.Nat.{ℕ}
 use native.Mathlib.Omega.{arith}
 use lib.Dec.{eqb}
 use lib.ListN.{get_or, take}
 use Rattle.journal.specs.Plan.{count_from}
 use Rattle.journal.specs.Packing.{widen_node}
 use Rattle.journal.specs.PlanCode.{packing_of, sizes_in}
-use Rattle.packing.specs.PackingCode.{widen_if, KeepsForms, Ready}
+use Rattle.packing.specs.PackingCode.{widen_if}
 use Rattle.packing.proofs.PackingArrays.{fold_start, fold_next, fold_done, fold_filter}
 use Rattle.packing.proofs.FillArrays.{keeps_same, keeps_both, keeps_short}
-use borrow.Author.Rules.{rules}
 use Rattle.packing.proofs.widen.widen_all.Goals as goal
 
 pub loop-n-init : goal.loop-n-init

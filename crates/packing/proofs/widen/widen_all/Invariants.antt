@@ -1,16 +1,10 @@
-use mathlib.Core.Path.{◌≡◌, sym, ◌∙◌}
+use mathlib.Core.Path.{◌≡◌}
 use mathlib.Core.List.{foldl}
 use Prim.Native.Nat.{ℕ, ◌-◌, ◌≤◌}
-use native.Mathlib.Omega.{arith}
-use lib.Dec.{eqb}
-use lib.ListN.{get_or, take}
+use lib.ListN.{take}
 use Rattle.journal.specs.Plan.{count_from}
-use Rattle.journal.specs.Packing.{widen_node}
-use Rattle.journal.specs.PlanCode.{packing_of, sizes_in}
+use Rattle.journal.specs.PlanCode.{packing_of}
 use Rattle.packing.specs.PackingCode.{widen_if, KeepsForms, Ready}
-use Rattle.packing.proofs.PackingArrays.{fold_start, fold_next, fold_done, fold_filter}
-use Rattle.packing.proofs.FillArrays.{keeps_same, keeps_both, keeps_short}
-use borrow.Author.Rules.{rules}
 use Rattle.packing.proofs.widen.widen_all.Given as goal
 
 abbrev pub invariant-loop-n : goal.invariant-loop-n

@@ -1,6 +1,5 @@
 use mathlib.Core.Path.{refl}
 use Rattle.packing.proofs.FillArrays.{fills_same}
-use borrow.Author.Rules.{rules}
 use Rattle.packing.proofs.widen.widen_if.Goals as goal
 
 pub returns-then-here : goal.returns-then-here

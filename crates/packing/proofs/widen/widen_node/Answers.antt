@@ -1,6 +1,5 @@
 use native.Mathlib.Omega.{arith}
 use Rattle.packing.proofs.FillArrays.{widens_none, widens_anew, widens_full, widens_in}
-use borrow.Author.Rules.{rules}
 use Rattle.packing.proofs.widen.widen_node.Goals as goal
 
 pub overflow_cast-page : goal.overflow_cast-page

@@ -8,7 +8,6 @@ use Rattle.chip.specs.Geometry.{page_size}
 use Rattle.chip.proofs.Sizes.{Size, chip_size, page_end, blocks_pages, pages_most_lem}
 use Rattle.pages.specs.Show.{shown_units}
 use Rattle.pages.proofs.ShowLaws.{refused_1, refused_4, accepted, shown_none, shown_some}
-use borrow.Author.Rules.{rules}
 use Rattle.pages.proofs.show.show.Goals as goal
 
 pub returns-then-blocks-eq0 : goal.returns-then-blocks-eq0

@@ -1,6 +1,5 @@
 use mathlib.Core.Path.{sym, ◌∙◌}
 use borrow.Author.Tests.{eq-eqb, ne_eqb}
-use borrow.Author.Rules.{rules}
 use Rattle.pages.proofs.unit.decode_kind.Goals as goal
 
 pub returns-then-kind-eq1 : goal.returns-then-kind-eq1

@@ -1,4 +1,3 @@
-use borrow.Author.Rules.{rules}
 use Rattle.pages.specs.Units.{encode}
 use Rattle.pages.proofs.unit.encode_unit.Goals as goal
 

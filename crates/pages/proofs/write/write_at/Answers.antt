@@ -9,7 +9,6 @@ use Rattle.chip.proofs.Sizes.{page_end, whole_pages}
 use Rattle.chip.proofs.ImageLaws.{page_lent}
 use Rattle.pages.specs.WriteCode.{written}
 use Rattle.pages.proofs.WriteLaws.{length_written, written_ran}
-use borrow.Author.Rules.{rules}
 use Rattle.pages.proofs.write.write_at.Goals as goal
 
 pub overflow_mul-a : goal.overflow_mul-a

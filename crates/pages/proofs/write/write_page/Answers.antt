@@ -1,5 +1,4 @@
 use Rattle.pages.proofs.WriteLaws.{written_steps}
-use borrow.Author.Rules.{rules}
 use Rattle.pages.proofs.write.write_page.Goals as goal
 
 pub returns : goal.returns

@@ -6,7 +6,6 @@ use Rattle.chip.specs.Chip.{pages_of}
 use Rattle.plan.proofs.ChooseLaws.{enough_places}
 use Rattle.plan.proofs.PlaceLaws.{erases_are}
 use Rattle.chip.proofs.Sizes.{pages_pos}
-use borrow.Author.Rules.{rules}
 use Rattle.plan.proofs.make.lay.Goals as goal
 
 pub returns : goal.returns

@@ -10,7 +10,6 @@ use Rattle.plan.specs.PlacesCode.{free_pages}
 use Rattle.chip.proofs.Sizes.{block_on_chip, blocks_whole}
 use Rattle.plan.proofs.SurveyLaws.{survey_spare}
 use Rattle.plan.proofs.MakeLaws.{made, made_none, pages_fit, pages_few}
-use borrow.Author.Rules.{rules}
 use Rattle.plan.proofs.make.make.Goals as goal
 
 low : {a b : ℕ} → a < b → b ≤ 32 → a ≤ 32

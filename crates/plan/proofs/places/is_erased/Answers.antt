@@ -3,7 +3,6 @@ use mathlib.Core.Bool.{not}
 use native.Mathlib.Omega.{arith}
 use borrow.Author.Tests.{le-ltb, lt-ltb}
 use Rattle.plan.proofs.LastLaws.{above}
-use borrow.Author.Rules.{rules}
 use Rattle.plan.proofs.places.is_erased.Goals as goal
 
 pub returns-then-left-eq0 : goal.returns-then-left-eq0

@@ -1,14 +1,11 @@
-use mathlib.Core.Path.{◌≡◌, refl}
-use mathlib.Core.List.{◌++◌}
-use Prim.Native.Nat.{◌-◌, ◌≤◌}
+use mathlib.Core.Path.{refl}
 use native.Mathlib.Omega.{arith}
-use lib.ListN.{length, take, drop}
+use lib.ListN.{length, take}
 use lib.Seq.{length-take-le}
 use Rattle.chip.specs.Chip.{pages_of}
 use Rattle.plan.proofs.PlaceLaws.{take_at_all, erase_next, erase_done}
 use Rattle.chip.proofs.Sizes.{block_on_chip}
 use borrow.Author.Rules.{rules}
-use Rattle.plan.specs.PlacesCode.{erases_from}
 use Rattle.plan.proofs.places.put_erased.Goals as goal
 
 pub loop-j-init : goal.loop-j-init

@@ -1,15 +1,14 @@
-use mathlib.Core.Path.{◌≡◌, refl, sym, ap, ◌∙◌}
+use mathlib.Core.Path.{refl, sym, ap, ◌∙◌}
 use mathlib.Core.Bool.{Bool, cond}
 use mathlib.Core.List.{[], ◌∷◌, ◌++◌}
-use Prim.Native.Nat.{ℕ, ◌+◌, ◌-◌, ◌*◌, ◌≤◌}
+use Prim.Native.Nat.{ℕ, ◌+◌, ◌*◌, ◌≤◌}
 use native.Mathlib.Nat.{add-sub_cancel_left}
 use native.Mathlib.Omega.{arith}
-use lib.ListN.{length, take}
+use lib.ListN.{take}
 use Rattle.lists.specs.Lists.{filter}
 use Rattle.chip.specs.Geometry.{most_pages}
 use Rattle.chip.specs.Chip.{pages_of}
 use Rattle.journal.specs.Plan.{count_from, free_at}
-use Rattle.plan.specs.PlacesCode.{free_pages}
 use Rattle.plan.proofs.PlaceLaws.{free_enough, free_over, free_pages_is}
 use Rattle.plan.proofs.MarkLaws.{push_next}
 use Rattle.chip.proofs.Sizes.{block_low}

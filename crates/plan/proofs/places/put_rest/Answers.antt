@@ -1,13 +1,12 @@
-use mathlib.Core.Path.{◌≡◌, refl, ◌∙◌}
+use mathlib.Core.Path.{refl, ◌∙◌}
 use mathlib.Core.List.{◌++◌}
-use Prim.Native.Nat.{◌-◌, ◌≤◌}
+use Prim.Native.Nat.{◌-◌}
 use native.Mathlib.Omega.{arith}
-use lib.ListN.{length, take, length-set}
+use lib.ListN.{take, length-set}
 use Rattle.lists.specs.Lists.{flat}
 use Rattle.journal.specs.Plan.{pages_in}
 use Rattle.plan.proofs.PlaceLaws.{ring_block, rest_start, rest_next, rest_done}
 use Rattle.chip.proofs.Sizes.{pages_pos}
-use borrow.Author.Rules.{rules}
 use Rattle.plan.proofs.places.put_rest.Goals as goal
 
 pub loop-i-init : goal.loop-i-init

@@ -1,13 +1,9 @@
-use mathlib.Core.Path.{◌≡◌, refl, ◌∙◌}
+use mathlib.Core.Path.{◌≡◌}
 use mathlib.Core.List.{◌++◌}
 use Prim.Native.Nat.{◌-◌, ◌≤◌}
-use native.Mathlib.Omega.{arith}
-use lib.ListN.{length, take, length-set}
+use lib.ListN.{length, take}
 use Rattle.lists.specs.Lists.{flat}
 use Rattle.journal.specs.Plan.{pages_in}
-use Rattle.plan.proofs.PlaceLaws.{ring_block, rest_start, rest_next, rest_done}
-use Rattle.chip.proofs.Sizes.{pages_pos}
-use borrow.Author.Rules.{rules}
 use Rattle.plan.proofs.places.put_rest.Given as goal
 
 abbrev pub invariant-loop-i : goal.invariant-loop-i

@@ -1,13 +1,9 @@
-use mathlib.Core.Path.{◌≡◌, refl, ap}
+use mathlib.Core.Path.{refl, ap}
 use mathlib.Core.Bool.{not}
-use Prim.Native.Nat.{◌-◌, ◌≤◌}
 use native.Mathlib.Omega.{arith}
-use Rattle.lists.specs.Lists.{filter}
-use Rattle.journal.specs.Plan.{count_from}
-use Rattle.plan.specs.SurveyCode.{first_or, is_held}
+use Rattle.plan.specs.SurveyCode.{is_held}
 use Rattle.plan.proofs.SurveyLaws.{search_here, search_on, search_over}
 use borrow.Author.Tests.{eq-eqb, ne_eqb}
-use borrow.Author.Rules.{rules}
 use Rattle.plan.proofs.survey.first_marked.Goals as goal
 
 pub loop-i-init : goal.loop-i-init

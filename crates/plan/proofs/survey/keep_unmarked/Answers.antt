@@ -1,10 +1,6 @@
-use mathlib.Core.Path.{◌≡◌, refl}
-use mathlib.Core.List.{◌++◌}
-use Prim.Native.Nat.{◌+◌, ◌-◌, ◌≤◌}
+use mathlib.Core.Path.{refl}
 use native.Mathlib.Omega.{arith}
-use lib.ListN.{length, take}
-use Rattle.lists.specs.Lists.{filter}
-use Rattle.journal.specs.Plan.{count_from}
+use lib.ListN.{take}
 use Rattle.plan.specs.SurveyCode.{is_unmarked}
 use Rattle.plan.proofs.MarkLaws.{push_next, push_done}
 use borrow.Author.Rules.{rules}

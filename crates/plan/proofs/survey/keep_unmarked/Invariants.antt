@@ -1,13 +1,10 @@
-use mathlib.Core.Path.{◌≡◌, refl}
+use mathlib.Core.Path.{◌≡◌}
 use mathlib.Core.List.{◌++◌}
 use Prim.Native.Nat.{◌+◌, ◌-◌, ◌≤◌}
-use native.Mathlib.Omega.{arith}
 use lib.ListN.{length, take}
 use Rattle.lists.specs.Lists.{filter}
 use Rattle.journal.specs.Plan.{count_from}
 use Rattle.plan.specs.SurveyCode.{is_unmarked}
-use Rattle.plan.proofs.MarkLaws.{push_next, push_done}
-use borrow.Author.Rules.{rules}
 use Rattle.plan.proofs.survey.keep_unmarked.Given as goal
 
 abbrev pub invariant-loop-i : goal.invariant-loop-i

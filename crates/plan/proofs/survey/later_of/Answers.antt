@@ -1,5 +1,4 @@
 use Rattle.plan.proofs.LastLaws.{later_lower, later_same, later_index, later_higher, later_first, above}
-use borrow.Author.Rules.{rules}
 use Rattle.plan.proofs.survey.later_of.Goals as goal
 
 pub returns-then-commit-z : goal.returns-then-commit-z

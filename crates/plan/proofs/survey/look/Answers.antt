@@ -1,7 +1,6 @@
 use mathlib.Core.Path.{sym, ◌∙◌}
 use borrow.Author.Tests.{not-true, not-false}
 use Rattle.plan.proofs.LastLaws.{look_dead, look_live}
-use borrow.Author.Rules.{rules}
 use Rattle.plan.proofs.survey.look.Goals as goal
 
 pub returns-then-not-is_live : goal.returns-then-not-is_live

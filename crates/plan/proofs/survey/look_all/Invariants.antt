@@ -1,16 +1,11 @@
-use mathlib.Core.Path.{◌≡◌, refl, sym, ap, ◌∙◌}
-use mathlib.Core.List.{List}
-use Prim.Native.Nat.{ℕ, suc, ◌+◌, ◌-◌, ◌*◌, ◌/◌, ◌<◌, ◌≤◌}
-use native.Mathlib.Omega.{arith}
+use mathlib.Core.Path.{◌≡◌}
+use Prim.Native.Nat.{◌/◌, ◌≤◌}
 use lib.ListN.{length}
 use Rattle.chip.specs.Geometry.{page_size}
 use Rattle.chip.specs.Chip.{pages_of}
-use Rattle.chip.proofs.ImageLaws.{length_pages}
-use Rattle.chip.proofs.Sizes.{page_end}
-use Rattle.pages.specs.Steps.{Live, ordered}
+use Rattle.pages.specs.Steps.{ordered}
 use Rattle.plan.specs.SurveyCode.{last_in, mark_held}
-use Rattle.plan.proofs.LastLaws.{live_at, look_start, turn_newest, turn_marks}
-use borrow.Author.Rules.{rules}
+use Rattle.plan.proofs.LastLaws.{live_at}
 use Rattle.plan.proofs.survey.look_all.Given as goal
 
 abbrev pub invariant-loop-at : goal.invariant-loop-at

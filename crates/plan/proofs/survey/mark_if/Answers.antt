@@ -1,5 +1,4 @@
 use mathlib.Core.Path.{◌∙◌}
-use borrow.Author.Rules.{rules}
 use Rattle.plan.proofs.survey.mark_if.Goals as goal
 
 pub returns-then-here : goal.returns-then-here

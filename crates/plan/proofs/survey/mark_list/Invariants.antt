@@ -1,12 +1,9 @@
-use mathlib.Core.Path.{◌≡◌, refl, sym, ap, ◌∙◌}
-use mathlib.Core.List.{List, foldl}
-use Prim.Native.Nat.{ℕ, ◌+◌, ◌-◌, ◌*◌, ◌≤◌}
-use native.Mathlib.Omega.{arith}
-use lib.ListN.{length, drop, length-set}
+use mathlib.Core.Path.{◌≡◌}
+use mathlib.Core.List.{foldl}
+use Prim.Native.Nat.{◌-◌, ◌≤◌}
+use lib.ListN.{length, drop}
 use Rattle.views.specs.Stored.{stored_list}
 use Rattle.plan.specs.SurveyCode.{mark}
-use Rattle.plan.proofs.MarkLaws.{slot_next, slots_done}
-use borrow.Author.Rules.{rules}
 use Rattle.plan.proofs.survey.mark_list.Given as goal
 
 abbrev pub invariant-loop-i : goal.invariant-loop-i

@@ -1,6 +1,6 @@
 use mathlib.Core.Path.{◌≡◌, refl, ap, ◌∙◌}
 use mathlib.Core.List.{foldl}
-use Prim.Native.Nat.{ℕ, ◌-◌, ◌≤◌}
+use Prim.Native.Nat.{ℕ, ◌-◌}
 use native.Mathlib.Omega.{arith}
 use lib.ListN.{length}
 use Rattle.lists.specs.Lists.{flat}
@@ -9,7 +9,6 @@ use Rattle.journal.specs.Plan.{count_from}
 use Rattle.plan.specs.SurveyCode.{mark}
 use Rattle.plan.proofs.MarkLaws.{node_next, nodes_done, length_marks}
 use Rattle.chip.proofs.Sizes.{pages_pos}
-use borrow.Author.Rules.{rules}
 use Rattle.plan.proofs.survey.mark_lists.Goals as goal
 
 pub loop-n-init : goal.loop-n-init

@@ -1,15 +1,11 @@
-use mathlib.Core.Path.{◌≡◌, refl, ap, ◌∙◌}
+use mathlib.Core.Path.{◌≡◌}
 use mathlib.Core.List.{foldl}
-use Prim.Native.Nat.{ℕ, ◌-◌, ◌≤◌}
-use native.Mathlib.Omega.{arith}
+use Prim.Native.Nat.{◌-◌, ◌≤◌}
 use lib.ListN.{length}
 use Rattle.lists.specs.Lists.{flat}
 use Rattle.views.specs.Stored.{stored_list}
 use Rattle.journal.specs.Plan.{count_from}
 use Rattle.plan.specs.SurveyCode.{mark}
-use Rattle.plan.proofs.MarkLaws.{node_next, nodes_done, length_marks}
-use Rattle.chip.proofs.Sizes.{pages_pos}
-use borrow.Author.Rules.{rules}
 use Rattle.plan.proofs.survey.mark_lists.Given as goal
 
 abbrev pub invariant-loop-n : goal.invariant-loop-n

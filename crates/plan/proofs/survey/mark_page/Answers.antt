@@ -2,7 +2,6 @@ use mathlib.Core.Path.{sym}
 use Prim.Native.Nat.{◌/◌}
 use native.Mathlib.Omega.{arith}
 use lib.Seq.{set_out}
-use borrow.Author.Rules.{rules}
 use Rattle.plan.proofs.survey.mark_page.Goals as goal
 
 pub returns-else-b-lt32 : goal.returns-else-b-lt32

@@ -1,7 +1,6 @@
 use mathlib.Core.Path.{sym, ap, ◌∙◌}
 use mathlib.Core.List.{List, foldl}
 use Prim.Native.Nat.{ℕ, ◌/◌}
-use native.Mathlib.Omega.{arith}
 use lib.ListN.{length}
 use Rattle.lists.specs.Lists.{flat}
 use Rattle.chip.specs.Chip.{pages_of}
@@ -13,7 +12,6 @@ use Rattle.plan.specs.SurveyCode.{mark, mark_held}
 use Rattle.plan.proofs.LastLaws.{last_place_lem}
 use Rattle.plan.proofs.MarkLaws.{length_marks, marked_all}
 use Rattle.chip.proofs.Sizes.{pages_pos}
-use borrow.Author.Rules.{rules}
 use Rattle.plan.proofs.survey.mark_used.Goals as goal
 
 pub look_all-z-requires : goal.look_all-z-requires

@@ -4,7 +4,6 @@ use Rattle.lists.specs.Lists.{filter}
 use Rattle.journal.specs.Plan.{count_from}
 use Rattle.plan.specs.SurveyCode.{first_or, is_held}
 use Rattle.plan.proofs.SurveyLaws.{first_around}
-use borrow.Author.Rules.{rules}
 use Rattle.plan.proofs.survey.oldest_of.Goals as goal
 
 pub returns : goal.returns

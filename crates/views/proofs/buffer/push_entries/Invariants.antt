@@ -1,9 +1,5 @@
 use Prim.Native.Nat.{◌-◌, ◌≤◌}
-use mathlib.Core.Path.{◌≡◌}
-use lib.ListN.{length}
-use native.Mathlib.Omega.{arith}
-use Rattle.views.proofs.BufferLaws.{Pushing, pushing_start, pushing_next, pushing_done}
-use borrow.Author.Rules.{rules}
+use Rattle.views.proofs.BufferLaws.{Pushing}
 use Rattle.views.proofs.buffer.push_entries.Given as goal
 
 abbrev pub invariant-loop-i : goal.invariant-loop-i

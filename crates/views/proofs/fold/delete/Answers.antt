@@ -1,5 +1,4 @@
 use Rattle.views.proofs.FoldLaws.{left_out, spoilt}
-use borrow.Author.Rules.{rules}
 use Rattle.views.proofs.fold.delete.Goals as goal
 
 pub returns-in-Untouched : goal.returns-in-Untouched

@@ -1,10 +1,6 @@
-use mathlib.Core.Path.{◌≡◌}
-use Prim.Native.Nat.{◌+◌, ◌-◌, ◌≤◌}
-use native.Mathlib.Omega.{arith}
-use lib.ListN.{length}
+use Prim.Native.Nat.{◌+◌}
 use Rattle.views.specs.FoldCode.{view_in}
-use Rattle.views.proofs.FoldLaws.{spoilt, Left, left_start, left_next, left_skip, stopped, ended}
-use borrow.Author.Rules.{rules}
+use Rattle.views.proofs.FoldLaws.{spoilt, left_start, left_next, left_skip, stopped, ended}
 use Rattle.views.proofs.fold.fold_units.Goals as goal
 
 pub loop-i-init : goal.loop-i-init

@@ -1,10 +1,8 @@
 use mathlib.Core.Path.{◌≡◌}
-use Prim.Native.Nat.{◌+◌, ◌-◌, ◌≤◌}
-use native.Mathlib.Omega.{arith}
+use Prim.Native.Nat.{◌-◌, ◌≤◌}
 use lib.ListN.{length}
 use Rattle.views.specs.FoldCode.{view_in}
-use Rattle.views.proofs.FoldLaws.{spoilt, Left, left_start, left_next, left_skip, stopped, ended}
-use borrow.Author.Rules.{rules}
+use Rattle.views.proofs.FoldLaws.{Left}
 use Rattle.views.proofs.fold.fold_units.Given as goal
 
 abbrev pub invariant-loop-i : goal.invariant-loop-i

@@ -1,5 +1,4 @@
 use Rattle.views.proofs.FoldLaws.{entered, overfull, spoilt}
-use borrow.Author.Rules.{rules}
 use Rattle.views.proofs.fold.insert.Goals as goal
 
 pub returns-in-Untouched : goal.returns-in-Untouched

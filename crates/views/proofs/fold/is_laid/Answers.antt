@@ -5,7 +5,6 @@ use Rattle.lists.proofs.Tests.{clash}
 use borrow.Author.Tests.{eqb-true}
 use Rattle.pages.specs.Units.{is_reset_value}
 use Rattle.views.proofs.FoldLaws.{laid_delete, laid_insert, laid_reset}
-use borrow.Author.Rules.{rules}
 use Rattle.views.proofs.fold.is_laid.Goals as goal
 
 pub returns-then-kind-eq1 : goal.returns-then-kind-eq1

@@ -1,7 +1,6 @@
 use mathlib.Core.Path.{refl}
 use Rattle.lists.proofs.Tests.{clash}
 use Rattle.views.proofs.FoldLaws.{passed}
-use borrow.Author.Rules.{rules}
 use Rattle.views.proofs.fold.is_passed.Goals as goal
 
 pub returns-then-bytes-ne0 : goal.returns-then-bytes-ne0

@@ -1,12 +1,8 @@
 use mathlib.Core.Path.{◌≡◌, refl}
 use mathlib.Core.Bool.{Bool, true, false, not}
-use Prim.Native.Nat.{ℕ, ◌*◌, ◌-◌, ◌<◌, ◌≤◌}
 use native.Mathlib.Omega.{arith}
-use lib.ListN.{drop, length, take}
 use Rattle.lists.proofs.Tests.{clash}
-use Rattle.views.specs.FoldCode.{IsPassed}
 use Rattle.views.proofs.FoldLaws.{skips_next}
-use borrow.Author.Rules.{rules}
 use Rattle.views.proofs.fold.skip.Goals as goal
 
 passes : (b : Bool) → not b ≡ false → b ≡ true

@@ -1,6 +1,5 @@
 use mathlib.Core.Path.{refl}
 use borrow.Author.Tests.{eq-eqb, ne_eqb}
-use borrow.Author.Rules.{rules}
 use Rattle.views.proofs.fold.turn.Goals as goal
 
 pub returns-then-n-node : goal.returns-then-n-node

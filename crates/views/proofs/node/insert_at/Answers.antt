@@ -1,8 +1,7 @@
 use mathlib.Core.Path.{◌≡◌, ap, ◌∙◌}
-use Prim.Native.Nat.{◌+◌, ◌-◌, ◌≤◌}
+use Prim.Native.Nat.{◌+◌}
 use native.Mathlib.Omega.{arith}
 use lib.ListN.{length, take}
-use Rattle.views.specs.NodeCode.{insert_index}
 use Rattle.views.proofs.NodeLaws.{insert_push, pushed}
 use borrow.Author.Rules.{rules}
 use Rattle.views.proofs.node.insert_at.Goals as goal

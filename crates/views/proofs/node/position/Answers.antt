@@ -1,10 +1,6 @@
 use mathlib.Core.Path.{◌≡◌}
-use Prim.Native.Nat.{◌+◌, ◌-◌, ◌≤◌}
 use native.Mathlib.Omega.{arith}
-use lib.ListN.{take, drop}
-use Rattle.views.specs.NodeCode.{rank}
 use Rattle.views.proofs.NodeLaws.{rank_pass, rank_stop, rank_end}
-use borrow.Author.Rules.{rules}
 use Rattle.views.proofs.node.position.Goals as goal
 
 pub returns-then-key-keys : goal.returns-then-key-keys

@@ -1,10 +1,7 @@
 use mathlib.Core.Path.{◌≡◌}
 use Prim.Native.Nat.{◌+◌, ◌-◌, ◌≤◌}
-use native.Mathlib.Omega.{arith}
 use lib.ListN.{take, drop}
 use Rattle.views.specs.NodeCode.{rank}
-use Rattle.views.proofs.NodeLaws.{rank_pass, rank_stop, rank_end}
-use borrow.Author.Rules.{rules}
 use Rattle.views.proofs.node.position.Given as goal
 
 abbrev pub invariant-loop-i : goal.invariant-loop-i

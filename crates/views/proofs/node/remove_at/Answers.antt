@@ -1,8 +1,7 @@
 use mathlib.Core.Path.{◌≡◌, ◌∙◌}
-use Prim.Native.Nat.{◌+◌, ◌-◌, ◌≤◌}
+use Prim.Native.Nat.{◌+◌, ◌-◌}
 use native.Mathlib.Omega.{arith}
 use lib.ListN.{length}
-use Rattle.views.specs.NodeCode.{remove_index}
 use Rattle.views.proofs.NodeLaws.{remove_pull, pulled}
 use borrow.Author.Rules.{rules}
 use Rattle.views.proofs.node.remove_at.Goals as goal

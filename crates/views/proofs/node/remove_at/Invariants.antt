@@ -1,10 +1,7 @@
-use mathlib.Core.Path.{◌≡◌, ◌∙◌}
-use Prim.Native.Nat.{◌+◌, ◌-◌, ◌≤◌}
-use native.Mathlib.Omega.{arith}
+use mathlib.Core.Path.{◌≡◌}
+use Prim.Native.Nat.{◌-◌, ◌≤◌}
 use lib.ListN.{length}
 use Rattle.views.specs.NodeCode.{remove_index}
-use Rattle.views.proofs.NodeLaws.{remove_pull, pulled}
-use borrow.Author.Rules.{rules}
 use Rattle.views.proofs.node.remove_at.Given as goal
 
 abbrev pub invariant-loop-i : goal.invariant-loop-i

@@ -1,6 +1,5 @@
 use native.Mathlib.Omega.{arith}
 use Rattle.views.proofs.NodeLaws.{lost, unchanged}
-use borrow.Author.Rules.{rules}
 use Rattle.views.proofs.node.take_out.Goals as goal
 
 pub returns-then-keys-p : goal.returns-then-keys-p

@@ -1,6 +1,5 @@
 use borrow.Author.Tests.{not-true, not-false}
 use Rattle.views.proofs.ReadLaws.{refused_units, read_table}
-use borrow.Author.Rules.{rules}
 use Rattle.views.proofs.read.read_nodes.Goals as goal
 
 pub returns-then-not-note_all : goal.returns-then-not-note_all

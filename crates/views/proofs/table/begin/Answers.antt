@@ -1,5 +1,4 @@
 use Rattle.views.proofs.StoreLaws.{begun}
-use borrow.Author.Rules.{rules}
 use Rattle.views.proofs.table.begin.Goals as goal
 
 pub returns : goal.returns

@@ -1,6 +1,5 @@
 use native.Mathlib.Omega.{arith}
 use Rattle.views.proofs.StoreLaws.{joined_empty, joined_long, joined_same, joined_new, joined_fifth}
-use borrow.Author.Rules.{rules}
 use Rattle.views.proofs.table.join.Goals as goal
 
 pub overflow_cast-len : goal.overflow_cast-len

@@ -1,4 +1,3 @@
-use borrow.Author.Rules.{rules}
 use Rattle.views.proofs.table.note.Goals as goal
 
 pub returns-in-Insert : goal.returns-in-Insert

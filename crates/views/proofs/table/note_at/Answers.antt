@@ -4,7 +4,6 @@ use lib.ListN.{length}
 use Rattle.chip.specs.Geometry.{page_size}
 use Rattle.chip.proofs.Sizes.{page_end}
 use Rattle.views.proofs.TableLaws.{place_off, place_many, place_noted}
-use borrow.Author.Rules.{rules}
 use Rattle.views.proofs.table.note_at.Goals as goal
 
 pub returns-then-p-image : goal.returns-then-p-image

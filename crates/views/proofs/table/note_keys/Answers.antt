@@ -1,9 +1,6 @@
-use Prim.Native.Nat.{◌-◌, ◌≤◌}
 use native.Mathlib.Omega.{arith}
-use lib.ListN.{length}
 use borrow.Author.Tests.{not-true, not-false}
-use Rattle.views.proofs.TableLaws.{Passing, passing_start, passing_next, passing_stop, passing_end}
-use borrow.Author.Rules.{rules}
+use Rattle.views.proofs.TableLaws.{passing_start, passing_next, passing_stop, passing_end}
 use Rattle.views.proofs.table.note_keys.Goals as goal
 
 pub loop-i-init : goal.loop-i-init

@@ -1,9 +1,6 @@
 use Prim.Native.Nat.{◌-◌, ◌≤◌}
-use native.Mathlib.Omega.{arith}
 use lib.ListN.{length}
-use borrow.Author.Tests.{not-true, not-false}
-use Rattle.views.proofs.TableLaws.{Passing, passing_start, passing_next, passing_stop, passing_end}
-use borrow.Author.Rules.{rules}
+use Rattle.views.proofs.TableLaws.{Passing}
 use Rattle.views.proofs.table.note_keys.Given as goal
 
 abbrev pub invariant-loop-i : goal.invariant-loop-i

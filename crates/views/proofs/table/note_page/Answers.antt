@@ -1,5 +1,4 @@
 use Rattle.views.proofs.TableLaws.{page_noted}
-use borrow.Author.Rules.{rules}
 use Rattle.views.proofs.table.note_page.Goals as goal
 
 pub returns : goal.returns

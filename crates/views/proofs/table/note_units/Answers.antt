@@ -1,9 +1,7 @@
 use mathlib.Core.Path.{sym, ◌∙◌}
-use Prim.Native.Nat.{◌-◌, ◌≤◌}
 use native.Mathlib.Omega.{arith}
 use Rattle.pages.proofs.UnitLaws.{told}
-use Rattle.views.proofs.TableLaws.{Noting, noting_start, noting_next, noting_stop, noting_end}
-use borrow.Author.Rules.{rules}
+use Rattle.views.proofs.TableLaws.{noting_start, noting_next, noting_stop, noting_end}
 use Rattle.views.proofs.table.note_units.Goals as goal
 
 pub loop-i-init : goal.loop-i-init

@@ -1,9 +1,5 @@
-use mathlib.Core.Path.{sym, ◌∙◌}
 use Prim.Native.Nat.{◌-◌, ◌≤◌}
-use native.Mathlib.Omega.{arith}
-use Rattle.pages.proofs.UnitLaws.{told}
-use Rattle.views.proofs.TableLaws.{Noting, noting_start, noting_next, noting_stop, noting_end}
-use borrow.Author.Rules.{rules}
+use Rattle.views.proofs.TableLaws.{Noting}
 use Rattle.views.proofs.table.note_units.Given as goal
 
 abbrev pub invariant-loop-i : goal.invariant-loop-i

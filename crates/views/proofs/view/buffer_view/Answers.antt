@@ -1,7 +1,6 @@
 use Rattle.views.specs.FoldCode.{view_in}
 use Rattle.views.proofs.FoldLaws.{spoilt}
 use Rattle.views.proofs.ViewSteps.{renamed, buffer_few, buffer_many}
-use borrow.Author.Rules.{rules}
 use Rattle.views.proofs.view.buffer_view.Goals as goal
 
 pub returns-then-count-le960 : goal.returns-then-count-le960

@@ -1,5 +1,4 @@
 use Rattle.views.proofs.ViewSteps.{handed}
-use borrow.Author.Rules.{rules}
 use Rattle.views.proofs.view.list_view.Goals as goal
 
 pub returns : goal.returns

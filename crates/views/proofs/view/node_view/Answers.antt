@@ -1,4 +1,3 @@
-use borrow.Author.Rules.{rules}
 use Rattle.views.proofs.view.node_view.Goals as goal
 
 pub returns : goal.returns

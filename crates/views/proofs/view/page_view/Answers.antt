@@ -1,7 +1,6 @@
 use Rattle.views.specs.FoldCode.{view_in}
 use Rattle.views.proofs.FoldLaws.{spoilt}
 use Rattle.views.proofs.ViewSteps.{renamed, page_few, page_many}
-use borrow.Author.Rules.{rules}
 use Rattle.views.proofs.view.page_view.Goals as goal
 
 pub returns-then-units-geometry : goal.returns-then-units-geometry

@@ -6,7 +6,6 @@ use Rattle.chip.specs.Geometry.{page_size}
 use Rattle.chip.proofs.Sizes.{page_end}
 use Rattle.views.specs.FoldCode.{view_in}
 use Rattle.views.proofs.ViewSteps.{renamed, place_on, place_off}
-use borrow.Author.Rules.{rules}
 use Rattle.views.proofs.view.place_view.Goals as goal
 
 pub overflow_mul-a : goal.overflow_mul-a

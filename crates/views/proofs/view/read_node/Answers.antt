@@ -1,7 +1,6 @@
 use mathlib.Core.Path.{ap, ◌∙◌}
 use Rattle.views.specs.Stored.{buffer_view}
 use Rattle.views.proofs.ViewSteps.{counted, renamed, handed}
-use borrow.Author.Rules.{rules}
 use Rattle.views.proofs.view.read_node.Goals as goal
 
 pub returns : goal.returns

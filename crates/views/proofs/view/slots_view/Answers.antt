@@ -1,12 +1,8 @@
-use mathlib.Core.Path.{◌≡◌, refl}
-use Prim.Native.Nat.{◌-◌, ◌≤◌}
+use mathlib.Core.Path.{refl}
 use native.Mathlib.Omega.{arith}
-use lib.ListN.{length, drop}
 use Rattle.chip.specs.Chip.{pages_of}
 use Rattle.views.specs.FoldCode.{view_in}
-use Rattle.views.specs.Stored.{stored_list, list_view}
-use Rattle.views.proofs.ViewSteps.{after_pages, list_length, slot_next, slots_done}
-use borrow.Author.Rules.{rules}
+use Rattle.views.proofs.ViewSteps.{list_length, slot_next, slots_done}
 use Rattle.views.proofs.view.slots_view.Goals as goal
 
 pub loop-i-init : goal.loop-i-init

@@ -1,12 +1,10 @@
-use mathlib.Core.Path.{◌≡◌, refl}
+use mathlib.Core.Path.{◌≡◌}
 use Prim.Native.Nat.{◌-◌, ◌≤◌}
-use native.Mathlib.Omega.{arith}
 use lib.ListN.{length, drop}
 use Rattle.chip.specs.Chip.{pages_of}
 use Rattle.views.specs.FoldCode.{view_in}
 use Rattle.views.specs.Stored.{stored_list, list_view}
-use Rattle.views.proofs.ViewSteps.{after_pages, list_length, slot_next, slots_done}
-use borrow.Author.Rules.{rules}
+use Rattle.views.proofs.ViewSteps.{after_pages}
 use Rattle.views.proofs.view.slots_view.Given as goal
 
 abbrev pub invariant-loop-i : goal.invariant-loop-i

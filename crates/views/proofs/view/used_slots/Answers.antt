@@ -1,7 +1,6 @@
 use mathlib.Core.Path.{sym}
 use native.Mathlib.Omega.{arith}
 use Rattle.views.proofs.ViewSteps.{list_length, list_past}
-use borrow.Author.Rules.{rules}
 use Rattle.views.proofs.view.used_slots.Goals as goal
 
 pub overflow_cast-len : goal.overflow_cast-len

@@ -1,10 +1,9 @@
-use mathlib.Core.Path.{◌≡◌, refl}
-use Prim.Native.Nat.{◌≤◌}
+use mathlib.Core.Path.{refl}
 use native.Mathlib.Omega.{arith}
 use borrow.Author.Tests.{not-true, not-false}
 use Rattle.lists.specs.Lists.{all_below}
 use Rattle.chip.specs.Chip.{pages_of}
-use Rattle.views.specs.WellCode.{all_well_stored, well_stored}
+use Rattle.views.specs.WellCode.{well_stored}
 use Rattle.views.proofs.WellLaws.{below_fails, below_passes, below_none}
 use borrow.Author.Rules.{rules}
 use Rattle.views.proofs.well.all_well.Goals as goal

@@ -1,12 +1,8 @@
-use mathlib.Core.Path.{◌≡◌, refl}
+use mathlib.Core.Path.{◌≡◌}
 use Prim.Native.Nat.{◌≤◌}
-use native.Mathlib.Omega.{arith}
-use borrow.Author.Tests.{not-true, not-false}
 use Rattle.lists.specs.Lists.{all_below}
 use Rattle.chip.specs.Chip.{pages_of}
 use Rattle.views.specs.WellCode.{all_well_stored, well_stored}
-use Rattle.views.proofs.WellLaws.{below_fails, below_passes, below_none}
-use borrow.Author.Rules.{rules}
 use Rattle.views.proofs.well.all_well.Given as goal
 
 abbrev pub invariant-loop-n : goal.invariant-loop-n

@@ -1,6 +1,5 @@
 use borrow.Author.Tests.{le-leb, lt-leb}
 use Rattle.views.specs.WellCode.{well_stored}
-use borrow.Author.Rules.{rules}
 use Rattle.views.proofs.well.is_well.Goals as goal
 
 pub returns-then-lens-node-gt4 : goal.returns-then-lens-node-gt4
