@@ -90,12 +90,16 @@ class Names:
         self.params = told["params"]
         self.source = source
         self.lost = []
+        self.cycle = False
 
     def path(self, steps):
         """The new path below c of an old one below it."""
         steps = [s.strip("«»") for s in steps if s != "before"]
         if not steps:
             return "c"
+        # in a recursion the old requires had the measure before the clause
+        if self.cycle and steps[:2] == ["requires", "1"]:
+            steps = ["requires", *steps[2:]]
         head, rest = norm(steps[0]), steps[1:]
         if steps[0] in ("args", "requires", "ranges"):
             if len(steps) > 1 and (steps[0], steps[1]) in self.args:
@@ -109,6 +113,8 @@ class Names:
             return ".".join(["c", "type_inv", self.typed[head], *rest[1:]])
         if head not in self.steps and head.endswith("-lem"):
             head = head[: -len("-lem")]
+        if head not in self.steps:
+            head = head[:1].lower() + head[1:]
         if head not in self.steps:
             self.lost.append(".".join(steps))
             return ".".join(["c", *steps])
@@ -210,17 +216,26 @@ def is_plain(body):
     return re.sub(r"^\S+( \S+)* =\s*", "", body.strip()).strip() in ("search rules", "")
 
 
-def turn(crate, folder, told, source, prefix=""):
+def turn(crate, folder, parts, source):
+    """Turns the proof of a folder; parts has for each function in it its name, which a folder of one function leaves empty, and what was told of it."""
     path = os.path.join(folder, "Proof.antt")
     with open(path, encoding="utf-8") as f:
         imports, blocks = blocks_of(f.read())
-    names = Names(told, source)
+    every = {norm(name): Names(told, source) for name, told in parts}
+    for name in every:
+        every[name].cycle = bool(name)
     place = os.path.relpath(folder, os.path.join(ROOT, "crates", crate, "proofs")).replace("/", ".")
     kept = [l for l in imports if not OWN.match(l)]
     helpers, answers, invariants = {}, [], []
     loops = {"invariant": 0, "decreases": 0}
     for b in blocks:
         kind = b["type"][0]
+        if re.search(r"\bMeasures \d|→ In \d", kind):
+            continue
+        near = [p for p in every if p and norm(b["name"]).startswith(p + "-")]
+        prefix = max(near, key=len) if near else next(iter(every))
+        names = every[prefix]
+        stem = prefix.replace("-", "_") + "-" if len(every) > 1 else ""
         body = "\n".join(b["body"]).rstrip("\n")
         word = "invariant" if re.search(r"\.invariant-", kind) and "Need" not in kind else "decreases" if re.search(r"\.decreases-", kind) and "Need" not in kind else ""
         if word and re.match(r"^[\w-]+\.(invariant|decreases)-", kind.strip()):
@@ -228,7 +243,7 @@ def turn(crate, folder, told, source, prefix=""):
             loops[word] += 1
         elif "Need-" in kind:
             name = norm(b["name"])
-            if prefix and name.startswith(norm(prefix) + "-"):
+            if prefix and name.startswith(prefix + "-"):
                 name = name[len(prefix) + 1 :]
             name = re.sub(r"^(loop\d*(?:-\d+)?)-holds", r"\1-init", name)
             name = re.sub(r"^(loop\d*)-again", r"\1-preserved", name)
@@ -237,8 +252,8 @@ def turn(crate, folder, told, source, prefix=""):
                 continue
             m = re.match(rf"{re.escape(b['name'])}((?: [^\s=]+)*) =\s?", body)
             params = m.group(1).split()
-            turn_of = params[:-1] if "κs" not in params else params[:-2]
-            root = params[len(turn_of)]
+            given = params[:1] if every.keys() - {""} else []
+            root = params[len(given)]
             rest = body[m.end() :]
             new = names.needs.get(name)
             if new is None:
@@ -263,7 +278,8 @@ def turn(crate, folder, told, source, prefix=""):
             if lets:
                 text = "\n" + lets.rstrip("\n") + text
             sep = " " if not text.startswith("\n") else ""
-            extra = " ".join(["c"] + [x for x in params[1:] if x != "κs"])
+            extra = " ".join(given + ["c"] + [x for x in params[len(given) + 1 :] if x != "κs"])
+            new = stem + new
             answers.append("\n".join(b["comment"] + [f"pub {new} : goal.{new}"] + b["open"] + [f"{new} {extra} ={sep}{text}"]))
         elif "statement" in kind:
             continue
@@ -282,7 +298,7 @@ def turn(crate, folder, told, source, prefix=""):
             helpers[b["name"]] = {"type": " ".join(t.split()), "body": " ".join(x.split()), "text": x + " " + t}
         else:
             answers.append("\n".join(b["comment"] + [f"{b['name']} : " + "\n".join(b["type"]).rstrip()] + b["open"] + [body]))
-    for lost in sorted(set(names.lost)):
+    for lost in sorted({x for names in every.values() for x in names.lost}):
         print(f"{crate} {place}: no step for {lost}")
     os.remove(path)
     for file, module, parts in (("Invariants", "Given", invariants), ("Answers", "Goals", answers)):
@@ -296,6 +312,7 @@ def main(argv):
     with open(names, encoding="utf-8") as f:
         told = json.load(f)
     source = Source()
+    folders = {}
     for key in sorted(told):
         m = re.match(rf"Rattle-{crate}-proofs\.(.*)\.Lts(?:-(\w+))?$", key)
         if not m:
@@ -304,10 +321,12 @@ def main(argv):
         name = m.group(1).split(".")[-1]
         if only and name not in only or not os.path.exists(os.path.join(folder, "Proof.antt")):
             continue
+        folders.setdefault(folder, []).append((m.group(2) or "", told[key]))
+    for folder, parts in folders.items():
         try:
-            turn(crate, folder, told[key], source, norm(m.group(2)) if m.group(2) else "")
+            turn(crate, folder, parts, source)
         except Exception as e:
-            print(f"{crate} {m.group(1)}: {type(e).__name__} {e}")
+            print(f"{folder}: {type(e).__name__} {e}")
     return 0
 
 

@@ -1,7 +1,7 @@
 -- A shape that became another in place. Assumes nothing.
 use mathlib.Core.Path.{◌≡◌, refl, sym, ap, ◌∙◌}
 use mathlib.Core.List.{List, [], ◌∷◌, ◌++◌, map}
-use Prim.Native.Nat.{ℕ, zero, suc, ◌+◌, ◌<◌, ◌≤◌}
+use Prim.Native.Nat.{ℕ, suc, ◌+◌, ◌<◌, ◌≤◌}
 use native.Mathlib.Omega.{arith}
 use lib.ListN.{length}
 use Rattle.lists.proofs.Flats.{map-append}
@@ -9,9 +9,8 @@ use Rattle.views.specs.Nodes.{Entry, view}
 use Rattle.tree.specs.Tree.{there, Table, at, first_key}
 use Rattle.tree.specs.Step6.{times}
 use Rattle.tree.proofs.Entries.{Between, between_append, between_left, between_right}
-use Rattle.tree.proofs.Tables.{hit}
 use Rattle.tree.proofs.Shape.{Kid, Shape, number, entry_of, nums, recs, nums_of, recs_of, start_of, Starts, Kids, Inner, Sub, hit_same, hit_zero, kids_left, kids_right, kids_join, start_first, kids_frame, sub_frame}
-use Rattle.tree.proofs.Children.{same, starts_start, nums_of_three}
+use Rattle.tree.proofs.Children.{starts_start, nums_of_three}
 
 -- shape s of table t became shape s' of table u, under its number and within its bounds; the records are as f says
 pub record Becomes (f : List Entry → List Entry) (t u : Table) (l lo hi : ℕ) (s s' : Shape l) : Type 0 where

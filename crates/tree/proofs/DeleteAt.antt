@@ -24,7 +24,7 @@ use Rattle.tree.specs.DeleteUnits.{settle_units, mend_units, delete_units_at, fr
 use Rattle.tree.proofs.Validity.{Smalls, ValidUpdates, after_small}
 use Rattle.tree.proofs.Entries.{between_up, delete_step, delete_least}
 use Rattle.tree.proofs.Tables.{at_same, at_other, there_old}
-use Rattle.tree.proofs.Shape.{Leaf, Kid, Shape, number, entry_of, tops, nums, recs, nums_of, recs_of, start_of, Sub, times_append, hit_same, hit_zero, kids_left, kids_right, there_le, sub_out, kids_between, sub_between}
+use Rattle.tree.proofs.Shape.{Leaf, Kid, Shape, number, entry_of, tops, nums, recs, recs_of, start_of, Sub, times_append, hit_same, hit_zero, kids_left, kids_right, there_le, sub_out, kids_between, sub_between}
 use Rattle.tree.proofs.Children.{nums_of_three, recs_of_three, starts_before, Under, under, under_sub, under_count, under_once}
 use Rattle.tree.proofs.PairUnits.{frees_append}
 use Rattle.tree.proofs.Least.{nodes_old}

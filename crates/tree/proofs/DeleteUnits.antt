@@ -13,7 +13,7 @@ use Rattle.lists.proofs.Alls.{All-append, All-map, All-left, All-right, All-head
 use Rattle.lists.proofs.Tests.{cases, clash, below_or_not}
 use Rattle.pages.specs.declared.unit.Unit as U
 use Rattle.views.specs.Nodes.{Entry, delete_entry, apply}
-use Rattle.tree.specs.Tree.{entries_of, there, Table, at, entries_at, next, root_level, child, nodes}
+use Rattle.tree.specs.Tree.{entries_of, there, Table, at, entries_at, next, root_level, nodes}
 use Rattle.tree.specs.Step6.{top, times, Tree}
 use Rattle.tree.specs.Delete.{Down, kept, lost, leaves, Two, alone, two, behind, neighbours, settle, mend, delete_at, collapsed, delete}
 use Rattle.tree.specs.Units.{touch_view, after_units}

@@ -1,12 +1,12 @@
 -- On a tree the entry that a child gives up is new to its parent. Assumes nothing.
 use mathlib.Core.Path.{◌≡◌, ap, sym, ◌∙◌, subst}
 use mathlib.Core.List.{List, ◌∷◌, ◌++◌, map}
-use Prim.Native.Nat.{ℕ, zero, suc, ◌+◌, ◌<◌, ◌≤◌}
+use Prim.Native.Nat.{ℕ, zero, suc, ◌<◌, ◌≤◌}
 use native.Mathlib.Omega.{arith}
 use lib.ListN.{length, length-append}
 use Rattle.lists.proofs.Flats.{map-append}
 use Rattle.views.specs.Nodes.{Entry, entry, insert_entry}
-use Rattle.tree.specs.Tree.{Table, at, entries_of, entries_at, root_level, child}
+use Rattle.tree.specs.Tree.{Table, at, entries_of, entries_at, root_level}
 use Rattle.tree.specs.Step6.{top, times, Tree}
 use Rattle.tree.specs.Insert.{Up, gains, insert_at}
 use Rattle.tree.specs.InsertCode.{Fresh}

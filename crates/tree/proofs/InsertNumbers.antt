@@ -11,13 +11,13 @@ use borrow.Author.Tests.{eq-eqb, ne_eqb, le-leb, lt-leb, lt-ltb, le-ltb}
 use Rattle.lists.specs.Lists.{bit}
 use Rattle.lists.proofs.Tests.{below_or_not, same_or_not}
 use Rattle.views.specs.Nodes.{Entry, entry, view, insert_entry}
-use Rattle.tree.specs.Tree.{level_of, entries_of, there, Table, at, put, entries_at, next, root_level, child, first_key, least, least2, nodes}
+use Rattle.tree.specs.Tree.{level_of, entries_of, there, Table, at, put, entries_at, next, root_level, first_key, least, least2, nodes}
 use Rattle.tree.specs.Step6.{top, times, Tree}
 use Rattle.tree.specs.Insert.{Up, stop, gains, table_of, halve, refusal, done, allowed, raise, fit_or_split, gain, pass, insert_at, inserted, insert, spills, takes, needs}
 use Rattle.tree.specs.InsertCode.{gives_of}
 use Rattle.tree.proofs.Entries.{LeafStep, insert_step}
 use Rattle.tree.proofs.Tables.{hit, at_same, there_new, there_old}
-use Rattle.tree.proofs.Shape.{Kid, Shape, number, entry_of, tops, nums, start_of, Sub, hit_same, hit_zero, there_le}
+use Rattle.tree.proofs.Shape.{Kid, Shape, number, entry_of, nums, start_of, Sub, hit_same, hit_zero, there_le}
 use Rattle.tree.proofs.Children.{Grown, joined_over, gained_tops, nums_of_three, Under, under, under_sub, under_count, under_once}
 use Rattle.tree.proofs.Shaped.{level_at, at_root}
 use Rattle.tree.proofs.Step6.{shape_of}

@@ -15,7 +15,7 @@ use Rattle.pages.proofs.UnitLaws.{level_value}
 use Rattle.views.specs.Nodes.{Entry, entry, View, view, apply, insert_entry, inserted as insertOf, anew}
 use Rattle.views.specs.Groups.{unit_for}
 use Rattle.views.proofs.Entries.{insert_most}
-use Rattle.tree.specs.Tree.{level_of, entries_of, there, Table, at, put, next, root_level, child, first_key, least, least2}
+use Rattle.tree.specs.Tree.{level_of, entries_of, there, Table, at, put, next, root_level, first_key, least, least2}
 use Rattle.tree.specs.Step6.{top, times, Tree}
 use Rattle.tree.specs.Insert.{Up, stop, gains, table_of, halve, raise, fit_or_split, gain, pass, insert_at, inserted}
 use Rattle.tree.specs.Units.{anew_at, after_units}

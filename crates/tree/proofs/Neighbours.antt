@@ -10,14 +10,14 @@ use Rattle.lists.specs.Lists.{All, none}
 use Rattle.lists.proofs.Alls.{All-left, All-right, All-head, All-tail}
 use Rattle.lists.proofs.Flats.{map-append}
 use Rattle.views.specs.Nodes.{Entry}
-use Rattle.tree.specs.Tree.{Table, at, nodes}
+use Rattle.tree.specs.Tree.{Table, nodes}
 use Rattle.tree.specs.Step6.{times}
 use Rattle.tree.specs.Delete.{Down, kept, leaves, Two, alone, two, behind, neighbours, settle}
 use Rattle.tree.specs.Thick.{least_of}
 use Rattle.tree.specs.Units.{after_units}
 use Rattle.tree.specs.DeleteUnits.{settle_units, frees}
 use Rattle.tree.proofs.Entries.{Between, between_le, between_left}
-use Rattle.tree.proofs.Shape.{Kid, Shape, number, entry_of, nums, start_of, Sub}
+use Rattle.tree.proofs.Shape.{Kid, Shape, entry_of, nums, start_of, Sub}
 use Rattle.pages.specs.declared.unit.Unit as U
 use Rattle.tree.proofs.Validity.{Smalls, ValidUpdates}
 use Rattle.tree.proofs.Becomes.{Becomes}

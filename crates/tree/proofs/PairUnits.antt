@@ -1,7 +1,6 @@
 -- The units of a join and of a move give its table. Assumes nothing.
 use mathlib.Core.Path.{◌≡◌, refl, sym, ap, ap₂, ◌∙◌}
 use mathlib.Core.Logic.{◌⊎◌, ⊎_elim}
-use mathlib.Core.Bool.{cond}
 use mathlib.Core.List.{List, [], ◌∷◌, ◌++◌, map, foldl}
 use Prim.Native.Nat.{ℕ, suc, ◌+◌, ◌-◌, ◌<◌, ◌≤◌}
 use native.Mathlib.Omega.{arith}
@@ -14,7 +13,7 @@ use Rattle.pages.specs.declared.unit.Update.{Update}
 use Rattle.pages.specs.declared.unit.Update.TheVariants.{Insert, Delete, Reset}
 use Rattle.views.specs.Nodes.{Entry, entry, View, freed, view, apply, within, inserted, insert_entry, delete_entry}
 use Rattle.views.specs.Groups.{unit_for}
-use Rattle.tree.specs.Tree.{there, Table, at, put, first_key}
+use Rattle.tree.specs.Tree.{Table, at, put, first_key}
 use Rattle.tree.specs.Step6.{times}
 use Rattle.tree.specs.Delete.{join, share, moved}
 use Rattle.tree.specs.Units.{after_units}

@@ -2,7 +2,7 @@
 use mathlib.Core.Path.{◌≡◌, refl}
 use mathlib.Core.Bool.{true, false}
 use mathlib.Core.List.{List, [], ◌∷◌, ◌++◌}
-use Prim.Native.Nat.{ℕ, suc, ◌+◌, ◌*◌}
+use Prim.Native.Nat.{ℕ, suc, ◌*◌}
 use lib.ListN.{length, replicate}
 use Rattle.lists.specs.Lists.{tab}
 use Rattle.views.specs.Nodes.{Entry, entry, untouched, freed, view}

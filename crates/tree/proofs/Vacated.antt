@@ -6,7 +6,7 @@ use native.Mathlib.Omega.{arith}
 use lib.ListN.{length, length-map}
 use Rattle.lists.specs.Lists.{none}
 use Rattle.views.specs.Nodes.{Entry, View, untouched, freed, broken, view}
-use Rattle.tree.specs.Tree.{level_of, entries_of, there, Table, at, put, next}
+use Rattle.tree.specs.Tree.{level_of, entries_of, there, Table, at, next}
 use Rattle.tree.specs.Step6.{top, times}
 use Rattle.tree.specs.Thick.{Filled}
 use Rattle.tree.specs.Rebuild.{freed_from, vacated}

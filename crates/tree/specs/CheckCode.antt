@@ -28,8 +28,8 @@ obeys_at zero lo hi es = keys_in lo hi es
 obeys_at (suc l) lo hi es = starts_at lo es && keys_in lo hi es
 
 -- a node of level l that obeys the rules of one node
-abbrev pub field_own : ℕ → View → ℕ → ℕ → Bool
-field_own l w lo hi = is_level l w && obeys_at l lo hi (entries_of w)
+abbrev pub own_at : ℕ → View → ℕ → ℕ → Bool
+own_at l w lo hi = is_level l w && obeys_at l lo hi (entries_of w)
 
 -- the numbers reached from these entries of a node above level l
 abbrev pub under : ℕ → Table → List Entry → List ℕ
