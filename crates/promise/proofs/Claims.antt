@@ -12,7 +12,7 @@ use Rattle.lists.proofs.Tests.{cases, clash, and_left, and_right}
 use Rattle.chip.specs.Geometry.{Nand, geometry_of}
 use Rattle.promise.specs.Plain.{Answer, refuses, accepted, Plain, or_else, when, Call, reads, updates, forecasts, formats, commits, mounts, is_chip_size, is_torn_size, has_blocks, first_refusal, numbers_refusal, refusal_of, last_number, no_number_left, may_cut, Verdict, denied, cut, passed, judge, verdict, cut_off, accepted_answer, answer, after, after_by, answer_by, is_commit, is_cut, cuts, first_choice, compared, plain_run, resting, enough_writes, enough_marks}
 use Rattle.promise.specs.Calls.{Store, Committing, Commit}
-use Rattle.promise.specs.Steps.{Act, commit, mount, format, fed, is_ten, boots, Step, Lends, one, other, last_image, Only, starts, counts, nand_after, Named, next, answer_to, Agrees, feed, feeds, choices, seen, expected, Allowed, promised}
+use Rattle.promise.specs.Steps.{Act, commit, fed, is_ten, boots, Step, Lends, one, other, last_image, Only, starts, counts, nand_after, Named, next, answer_to, Agrees, feed, feeds, choices, seen, expected, Allowed, promised}
 use Rattle.promise.specs.Promise as P
 use Rattle.promise.specs.Promise.{FormatRefusal, format1, format10, MountRefusal, mount1, mount10, CommitRefusal, commit2, commit1, commit6, commit10, CommitPower}
 use Rattle.promise.proofs.Promise.{apart, accepted_not, and-false, when_is, first_most, on_of, nand_next, Invariant, own_nand, begins, started, agrees, agrees_any}

@@ -16,7 +16,7 @@ use Rattle.tree.specs.Step6.{top}
 use Rattle.tree.specs.Insert.{done, inserted, insert, needs}
 use Rattle.tree.specs.Thick.{thin}
 use Rattle.tree.specs.Rebuild.{rebuild}
-use Rattle.promise.specs.Plain.{Answer, refuses, accepted, finds, looked_up, Plain, when, UpdateCall, updates, reads, forecasts, commits, mounts, looking_up, insertion, numbers_refusal, later_refusal, no_number_left, resting, updated, enough_writes}
+use Rattle.promise.specs.Plain.{Answer, refuses, accepted, finds, looked_up, Plain, UpdateCall, updates, reads, forecasts, commits, mounts, looking_up, insertion, numbers_refusal, later_refusal, no_number_left, resting, updated, enough_writes}
 use Rattle.promise.specs.Calls.{means, tree_in, number_in, Store, state_of, PassesFirst, Updates, Insert, LookUp, OpsTold, Format, Proceeding, Committing, Commit, Forecast, Mount}
 use Rattle.promise.specs.Steps.{commit, Step, counts, Rebuilt}
 use Rattle.promise.specs.Height.{Low}

@@ -9,7 +9,6 @@ use lib.ListN.{length, get_or}
 use borrow.Author.Tests.{eqb-true, ne_eqb, le-leb, lt-leb, lt-ltb, le-ltb}
 use Rattle.lists.proofs.Filters.{bit_most}
 use Rattle.lists.proofs.Tests.{cases, clash, or_right}
-use Rattle.lists.specs.Lists.{bit}
 use Rattle.chip.specs.Geometry.{Nand, geometry_of, blocks_of}
 use Rattle.chip.specs.declared.geometry.Nand.TheVariants.{Small, Large}
 use Rattle.chip.specs.declared.page.Mark.TheVariants.{Valid, Obsolete}
@@ -20,7 +19,7 @@ use Rattle.tree.specs.Thick.{thin}
 use Rattle.promise.specs.Plain.{Answer, refuses, accepted, tells, Plain, or_else, when, ReadCall, UpdateCall, Call, reads, updates, forecasts, formats, commits, mounts, is_chip_size, is_torn_size, has_blocks, first_refusal, tree_refusal, later_refusal, no_number_left, leaf, resting, fresh, updated, committed, enough_writes}
 use Rattle.promise.specs.Calls.{Meaning, invalid, means, tree_in, Store, is_one_of, tells_or, accepts_or, ProperRead, ProperUpdate, state_of, Same, FirstTests, Reads, Updates, Format, Proceeding, Commit, Forecast, Mount}
 use Rattle.promise.specs.Steps.{Act, read, update, forecast, format, commit, mount, boots, Step, one, Hands, Allowed, Runs}
-use Rattle.promise.proofs.Promise.{apart, accepted_not, when_is, leaf_not_thin}
+use Rattle.promise.proofs.Promise.{accepted_not, when_is, leaf_not_thin}
 use Rattle.promise.proofs.Proper.{apart_from}
 
 -- the state, with the newest update first and a figure for each block; the image: the tree and number of its last whole commit, whether it has a void page, whether it has room,

@@ -1,17 +1,16 @@
 -- Inserts and deletes of keys of 32 bits are lawful updates: they make thick trees of thick trees, and say what becomes of each key; the height of such trees; and a tree rebuilt. Assumes nothing.
 use mathlib.Core.Path.{◌≡◌, refl, sym, ap, ◌∙◌, subst}
 use mathlib.Core.Logic.{⊎_elim}
-use mathlib.Core.Bool.{true, false}
-use Prim.Native.Nat.{ℕ, zero, suc, ◌*◌, ◌-◌, ◌<◌, ◌≤◌}
+use Prim.Native.Nat.{ℕ, suc, ◌*◌, ◌-◌, ◌<◌, ◌≤◌}
 use native.Mathlib.Omega.{arith}
 use lib.Dec.{eqb}
-use lib.ListN.{length, replicate, length-replicate}
+use lib.ListN.{length, length-replicate}
 use borrow.Author.Tests.{eqb-true, eqb-false}
 use Rattle.lists.proofs.Tests.{cases, same_or_not}
 use Rattle.chip.specs.Geometry.{Nand, geometry_of, blocks_of}
 use Rattle.chip.proofs.Sizes.{chip_size}
 use Rattle.views.specs.Nodes.{untouched}
-use Rattle.tree.specs.Tree.{Table, next, nodes, root_level, lookup, find}
+use Rattle.tree.specs.Tree.{Table, nodes, root_level, lookup, find}
 use Rattle.tree.specs.Insert.{TreeStep, refusal, done, insert}
 use Rattle.tree.specs.Delete.{delete}
 use Rattle.tree.specs.Step6.{top, Tree}
