@@ -11,7 +11,7 @@ use chip::geometry::Geometry;
 use chip::progress::Progress;
 use execution::execute as carry;
 use execution::execute::Commit;
-use log;
+use journal;
 
 // What a rebuild starts from: the geometry and the blocks of the chip, the greatest standing commit number, and the commit number of the void pages, 0 where there are none.
 #[derive(Clone, Copy)]

@@ -8,7 +8,7 @@ use crate::state::{Numbers, State, Wrote, WroteParts};
 use crate::{admit, ending, state};
 use chip::geometry::Nand;
 use chip::{geometry, progress};
-use log;
+use journal;
 use numbers::set;
 
 // Format as the part named, on a lent node table and lent erases, with power for `allowance` operations: after it the node table has one empty leaf, node 0, on

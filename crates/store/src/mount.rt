@@ -9,7 +9,7 @@ use crate::state::{Numbers, State, Wrote, WroteParts};
 use crate::{admit, check, ending, state};
 use chip::geometry::Nand;
 use chip::{geometry, progress};
-use log;
+use journal;
 
 // Mount as the part named, on a lent node table and lent erases, with power for `allowance` operations. The buffer's bytes stay, whatever they are.
 pub fn mount_lent(

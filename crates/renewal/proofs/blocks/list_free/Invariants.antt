@@ -1,0 +1,21 @@
+use mathlib.Core.Path.{◌≡◌, refl, ◌∙◌}
+use mathlib.Core.List.{◌++◌}
+use Prim.Native.Nat.{◌-◌, ◌≤◌}
+use native.Mathlib.Omega.{arith}
+use lib.ListN.{length, take}
+use Rattle.lists.specs.Lists.{filter}
+use Rattle.chip.specs.Chip.{pages_of}
+use Rattle.chip.proofs.Sizes.{block_on_chip}
+use Rattle.journal.specs.Plan.{count_from, wholly_free}
+use Rattle.journal.specs.Rebuild.{free_blocks}
+use Rattle.plan.proofs.MarkLaws.{push_next}
+use Rattle.renewal.proofs.BlocksLaws.{found_free, free_start}
+use borrow.Author.Rules.{rules}
+use Rattle.renewal.proofs.blocks.list_free.Given as goal
+
+abbrev pub invariant-loop-b : goal.invariant-loop-b
+invariant-loop-b l = (l.n ≤ l.b) × (l.b ≤ l.blocks) × (length l.ring ≡ length l.initial.ring)
+    × (take l.n l.ring ++ filter (wholly_free l.geometry (pages_of l.geometry l.image)) (count_from l.b (l.blocks - l.b)) ≡ free_blocks l.geometry l.blocks (pages_of l.geometry l.image))
+
+abbrev pub decreases-loop-b : goal.decreases-loop-b
+decreases-loop-b l = l.blocks - l.b

@@ -1,0 +1,14 @@
+use mathlib.Core.Path.{refl}
+use Prim.Native.Nat.{◌-◌}
+use native.Mathlib.Omega.{arith}
+use Rattle.views.specs.NodeCode.{entries_in}
+use Rattle.tree.specs.Rebuild.{nodes_for}
+use Rattle.renewal.proofs.LayersLaws.{Putting, putting_start, part_within, node_fits, above_fits, putting_step, putting_done}
+use borrow.Author.Rules.{rules}
+use Rattle.renewal.proofs.layers.put_level.Given as goal
+
+abbrev pub invariant-loop-i : goal.invariant-loop-i
+invariant-loop-i l = Putting l.level l.first l.count (entries_in l.count l.keys l.values) l.initial.sizes l.initial.units l.i l.from l.sizes l.units l.lows l.numbers
+
+abbrev pub decreases-loop-i : goal.decreases-loop-i
+decreases-loop-i l = nodes_for l.count - l.i
