@@ -76,7 +76,11 @@ class Names:
             step, _, fields = arm
             for field, old, path in fields:
                 self.arms.setdefault((norm(old), tuple(path)), (step, field))
-        self.typed = {}
+        self.typed, self.typed_at, self.at = {}, {}, None
+        places = [place[0] for place in told["places"]]
+        for (old, _), (place, _) in zip(told["needs"], told["asked_at"]):
+            if place in places:
+                self.typed_at.setdefault(norm(old), [(norm(step), var) for var, step in told["typed"][places.index(place)]])
         for place in told["typed"]:
             for var, old in place:
                 self.typed.setdefault(norm(old), var)
@@ -104,13 +108,16 @@ class Names:
         if steps[0] in ("args", "requires", "ranges"):
             if len(steps) > 1 and (steps[0], steps[1]) in self.args:
                 steps = [steps[0], self.args[(steps[0], steps[1])], *steps[2:]]
+            if len(steps) > 1 and steps[0] == "args":
+                steps = [steps[0], steps[1].replace("-", "_"), *steps[2:]]
             return ".".join(["c", *steps])
         for n in range(len(rest), -1, -1):
             if (head, tuple(rest[:n])) in self.arms:
                 step, field = self.arms[(head, tuple(rest[:n]))]
                 return ".".join(["c", step, field, *rest[n:]])
         if head in self.typed and rest[:1] == ["given"]:
-            return ".".join(["c", "type_inv", self.typed[head], *rest[1:]])
+            if self.at is None or (head, self.typed[head]) in self.typed_at.get(self.at, [(head, self.typed[head])]):
+                return ".".join(["c", "type_inv", self.typed[head], *rest[1:]])
         if head not in self.steps and head.endswith("-lem"):
             head = head[: -len("-lem")]
         if head not in self.steps:
@@ -188,6 +195,12 @@ def resolved(names, text, roots, helpers):
         out += lines[i]
         i += 1
     return out
+
+
+def without_c(text, helper):
+    """The text where the helper is cited as it stands in a let, and not as a function of c."""
+    name = rf"(?<![\w.'-]){re.escape(helper)}"
+    return re.sub(rf"{name} c(?![\w.'-])", helper, re.sub(rf"\({name} c\)", helper, text))
 
 
 def renamed(text, by):
@@ -268,11 +281,18 @@ def turn(crate, folder, parts, source):
                         if h not in used:
                             used.append(h)
             cite(rest)
+            names.at = name
             text = resolved(names, rest, {root} if root != "_" else set(), helpers)
             lets = ""
             for h in used:
-                text = re.sub(rf"\(?(?<![\w.'-]){re.escape(h)} c\)?(?![\w'-])", lambda m: h if m.group(0).startswith("(") == m.group(0).endswith(")") else m.group(0).replace(f"{h} c", h), text)
-                lets += f"    let {h} : {helpers[h]['type']} = {helpers[h]['body']} in\n"
+                text = without_c(text, h)
+                root_of_type, kind_of = helpers[h]["type"]
+                root_of_body, more, term = helpers[h]["body"]
+                kind_of, term = (" ".join(resolved(names, t, {r}, helpers).split()) for t, r in ((kind_of, root_of_type), (term, root_of_body)))
+                for other in helpers:
+                    kind_of, term = without_c(kind_of, other), without_c(term, other)
+                term = f"(λ {' '.join(more)}. {term})" if more else term
+                lets += f"    let {h} : {kind_of} = {term} in\n"
             if lets and not text.startswith("\n"):
                 text = "\n    " + text.lstrip()
             if lets:
@@ -286,16 +306,8 @@ def turn(crate, folder, parts, source):
         elif re.search(r"\(\w+ : (tie|lts|[\w-]+-lts)\.", kind):
             m = re.match(r"^\((\w+) : [^)]*\)\s*→?\s*(.*)$", "\n".join(b["type"]), re.S)
             mb = re.match(rf"{re.escape(b['name'])}((?: [^\s=]+)*) =\s?", body)
-            root_t, root_b = m.group(1), mb.group(1).split()[0]
-            more = mb.group(1).split()[1:]
-            t = resolved(names, m.group(2).strip(), {root_t}, helpers)
-            x = resolved(names, body[mb.end() :].strip(), {root_b}, helpers)
-            for h in helpers:
-                t = re.sub(rf"\(?(?<![\w.'-]){re.escape(h)} c\)?(?![\w'-])", h, t)
-                x = re.sub(rf"\(?(?<![\w.'-]){re.escape(h)} c\)?(?![\w'-])", h, x)
-            if more:
-                x = f"(λ {' '.join(more)}. {x})"
-            helpers[b["name"]] = {"type": " ".join(t.split()), "body": " ".join(x.split()), "text": x + " " + t}
+            first, *more = mb.group(1).split()
+            helpers[b["name"]] = {"type": (m.group(1), m.group(2).strip()), "body": (first, more, body[mb.end() :].strip()), "text": body[mb.end() :] + m.group(2)}
         else:
             answers.append("\n".join(b["comment"] + [f"{b['name']} : " + "\n".join(b["type"]).rstrip()] + b["open"] + [body]))
     for lost in sorted({x for names in every.values() for x in names.lost}):

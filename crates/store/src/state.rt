@@ -13,7 +13,7 @@ pub const UNITS: usize = 960;
 // On or off, the part, the number of blocks (B), the greatest commit number (G), the pending updates, the free node numbers as a set, the units of the
 // reservation buffer with their count, the node table: for each node the length of its list and its pages, and for each block its erases
 // since the last finished mount or format.
-#[derive(Drop)]
+#[derive(Clone, Copy)]
 pub struct State {
     pub on: bool,
     pub nand: Nand,
@@ -41,7 +41,7 @@ pub struct Numbers {
 }
 
 // What format, mount and commit give back: the answer, the operations done by kind, the state.
-#[derive(Drop)]
+#[derive(Clone, Copy)]
 pub struct Wrote {
     pub answer: Answer,
     pub ops: Counts,
@@ -49,7 +49,7 @@ pub struct Wrote {
 }
 
 // What insert and delete give back: the answer and the state.
-#[derive(Drop)]
+#[derive(Clone, Copy)]
 pub struct Updated {
     pub answer: Answer,
     pub state: State,

@@ -22,7 +22,7 @@ pub enum Call {
 }
 
 // What a call gives back: the answer, the operations told (by a forecast: foretold), the state.
-#[derive(Drop)]
+#[derive(Clone, Copy)]
 pub struct Stepped {
     pub answer: Answer,
     pub ops: Counts,

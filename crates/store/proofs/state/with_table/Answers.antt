@@ -1,0 +1,5 @@
+use borrow.Author.Rules.{rules}
+use Rattle.store.proofs.state.with_table.Goals as goal
+
+pub returns : goal.returns
+returns c = rw c.join-s.ensures
