@@ -1,0 +1,6 @@
+use borrow.Author.Rules.{rules}
+use Rattle.frames.proofs.LineLaws.{empties}
+use Rattle.frames.proofs.line.is_empty.Goals as goal
+
+pub returns : goal.returns
+returns c = empties c.args.line
