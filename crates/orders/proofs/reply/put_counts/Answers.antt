@@ -1,0 +1,6 @@
+use Rattle.orders.proofs.ReplyLaws.{both}
+use borrow.Author.Rules.{rules}
+use Rattle.orders.proofs.reply.put_counts.Goals as goal
+
+pub returns : goal.returns
+returns c = both c.put_number-a.ensures (both c.put_number-b.ensures (both c.put_number-c.ensures (both c.put_number-d.ensures c.put_feed.ensures)))
