@@ -1,0 +1,6 @@
+use Rattle.exports.proofs.WordLaws.{loaded}
+use borrow.Author.Rules.{rules}
+use Rattle.exports.proofs.numbers.load.Goals as goal
+
+pub returns : goal.returns
+returns c = loaded c.args.words.now _ _ _ _ c.part_in-nand.ensures c.wide.ensures c.wide-2.ensures

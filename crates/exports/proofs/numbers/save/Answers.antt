@@ -1,0 +1,6 @@
+use Rattle.exports.proofs.WordLaws.{saved}
+use borrow.Author.Rules.{rules}
+use Rattle.exports.proofs.numbers.save.Goals as goal
+
+pub returns : goal.returns
+returns c = saved c.args.numbers _ _ _ _ c.word-on.ensures c.narrow-blocks.ensures c.narrow-count.ensures c.part_word-part.ensures
