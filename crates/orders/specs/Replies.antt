@@ -1,5 +1,5 @@
 -- The lines that the probe writes, as lists of bytes with their line feed.
-use Rattle.std.specs.Prelude.{List, [], ◌∷◌, ◌++◌, ℕ, ◌+◌}
+use Rattle.std.specs.Prelude.{List, [], ◌∷◌, ◌++◌, ℕ}
 use Rattle.lists.specs.Lists.{flat}
 use Rattle.chip.specs.declared.progress.Counts.{Counts}
 use Rattle.frames.specs.Frames.{hex_text}

@@ -8,7 +8,7 @@ use lib.Dec.{eqb}
 use lib.ListN.{length, drop, get_or, length-append, length-map}
 use lib.Seq.{take_at, get_or_at, get_or-drop}
 use borrow.Author.Tests.{eq-eqb, ne_eqb, eqb-true, eqb-false}
-use Rattle.lists.specs.Lists.{All, all, filter, part, sort, tab}
+use Rattle.lists.specs.Lists.{All, all, filter, part, sort}
 use Rattle.lists.proofs.Tests.{cases, and_left, and_right}
 use Rattle.lists.proofs.Alls.{All-head, All-left, All-right}
 use Rattle.lists.proofs.Ends.{End, nil, snoc, end_of}

@@ -1,7 +1,7 @@
 -- What the counts told say of a call, by its contract alone: a finished format 1, 2, B; a finished commit the pages and erases of its plan; a mount
 -- marks alone; a call refused otherwise than with 10 nothing. Assumes nothing.
 use mathlib.Core.Path.{◌≡◌, refl, sym, ap, ◌∙◌}
-use mathlib.Core.Bool.{true, false, not, ◌&&◌}
+use mathlib.Core.Bool.{true, not, ◌&&◌}
 use mathlib.Core.List.{List}
 use Prim.Native.Nat.{ℕ, zero, suc, ◌*◌, ◌≤◌, ◌<◌}
 use native.Mathlib.Omega.{arith}

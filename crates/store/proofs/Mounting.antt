@@ -24,7 +24,7 @@ use Rattle.chip.specs.RunCode.{at_start, machine, Ran}
 use Rattle.chip.proofs.ImageLaws.{same_image_lem}
 use Rattle.chip.proofs.Runs as R
 use Rattle.chip.proofs.Runs.{ran_told, ran_total, with_power}
-use Rattle.pages.specs.Steps.{Live, live, live_from, of_commit, ordered, stand, steps}
+use Rattle.pages.specs.Steps.{Live, live_from, of_commit, ordered, stand, steps}
 use Rattle.views.specs.Table as Views
 use Rattle.views.specs.Table.{Node}
 use Rattle.views.proofs.ViewLaws.{Apart, apart_filter, apart_live}

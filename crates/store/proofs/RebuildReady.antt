@@ -6,7 +6,7 @@ use mathlib.Core.List.{List, [], ◌∷◌, map, reverse}
 use Prim.Native.Nat.{ℕ, zero, suc, ◌+◌, ◌*◌, ◌≤◌, ◌<◌}
 use native.Mathlib.Omega.{arith}
 use lib.ListN.{length, get_or, set, length-reverse}
-use Rattle.lists.specs.Lists.{All, none, more, all, modify}
+use Rattle.lists.specs.Lists.{All, none, more, modify}
 use Rattle.lists.proofs.Alls.{All-modify}
 use Rattle.lists.proofs.Tests.{below_or_not, clash}
 use Rattle.chip.specs.declared.page.Mark.TheVariants.{Obsolete}

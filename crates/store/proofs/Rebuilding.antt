@@ -44,7 +44,7 @@ use Rattle.journal.proofs.EraseLaws.{commit_erases, erased_none}
 use Rattle.journal.proofs.MountLaws.{mount_erases, mount_few}
 use Rattle.journal.proofs.PlanBlocks as Log
 use Rattle.journal.proofs.RebuildSafe.{RebuildSafe, image_rebuilt, node_rebuilt, rebuild_few}
-use Rattle.promise.specs.Plain.{Plain, accepted, refuses, resting, start_refusal, last_number, enough_writes}
+use Rattle.promise.specs.Plain.{Plain, refuses, resting, start_refusal, last_number, enough_writes}
 use Rattle.promise.specs.Calls as P
 use Rattle.promise.specs.Calls.{Meaning, invalid, is_one_of, accepts_or}
 use Rattle.promise.specs.Image.{views_of, by_six, image_meaning}

@@ -7,7 +7,6 @@ use Rattle.promise.specs.Steps.{Act}
 use Rattle.store.specs.declared.answer.Answer as A
 use Rattle.store.specs.declared.answer.Answer.TheVariants as Answer
 use Rattle.store.specs.declared.answer.Look.{Look}
-use Rattle.store.specs.declared.answer.Look.TheVariants as Look
 use Rattle.store.specs.declared.answer.Forecast as F
 use Rattle.store.specs.declared.state.State.{State}
 use Rattle.store.specs.declared.state.Wrote.{Wrote}

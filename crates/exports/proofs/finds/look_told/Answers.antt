@@ -1,4 +1,3 @@
-use borrow.Author.Rules.{rules}
 use mathlib.Core.Path.{sym, ap}
 use Rattle.exports.specs.Told.{look_told}
 use Rattle.exports.proofs.finds.look_told.Goals as goal

@@ -1,5 +1,4 @@
 use Rattle.exports.proofs.CallLaws.{reported}
-use borrow.Author.Rules.{rules}
 use Rattle.exports.proofs.finds.vehinoke_block_report.Goals as goal
 
 pub returns : goal.returns

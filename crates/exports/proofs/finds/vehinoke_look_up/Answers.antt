@@ -1,5 +1,4 @@
 use Rattle.exports.proofs.CallLaws.{looked}
-use borrow.Author.Rules.{rules}
 use Rattle.exports.proofs.finds.vehinoke_look_up.Goals as goal
 
 pub returns : goal.returns

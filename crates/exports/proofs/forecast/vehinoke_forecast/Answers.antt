@@ -1,5 +1,4 @@
 use Rattle.exports.proofs.CallLaws.{foreseen}
-use borrow.Author.Rules.{rules}
 use Rattle.exports.proofs.forecast.vehinoke_forecast.Goals as goal
 
 pub returns : goal.returns

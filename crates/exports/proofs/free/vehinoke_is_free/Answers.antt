@@ -1,5 +1,4 @@
 use mathlib.Core.Path.{ap, ◌∙◌}
-use borrow.Author.Rules.{rules}
 use Rattle.exports.specs.Words.{bit}
 use Rattle.exports.proofs.free.vehinoke_is_free.Goals as goal
 

@@ -1,5 +1,4 @@
 use Rattle.exports.proofs.WordLaws.{loaded}
-use borrow.Author.Rules.{rules}
 use Rattle.exports.proofs.numbers.load.Goals as goal
 
 pub returns : goal.returns

@@ -1,5 +1,4 @@
 use Rattle.exports.proofs.WordLaws.{loaded_free}
-use borrow.Author.Rules.{rules}
 use Rattle.exports.proofs.numbers.load_free.Goals as goal
 
 pub returns : goal.returns

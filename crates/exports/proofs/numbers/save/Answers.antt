@@ -1,5 +1,4 @@
 use Rattle.exports.proofs.WordLaws.{saved}
-use borrow.Author.Rules.{rules}
 use Rattle.exports.proofs.numbers.save.Goals as goal
 
 pub returns : goal.returns

@@ -1,6 +1,5 @@
 use mathlib.Core.Path.{refl}
 use Rattle.exports.proofs.CallLaws.{deleted}
-use borrow.Author.Rules.{rules}
 use Rattle.exports.proofs.updates.vehinoke_delete.Goals as goal
 
 pub returns : goal.returns

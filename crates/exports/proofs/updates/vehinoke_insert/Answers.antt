@@ -1,6 +1,5 @@
 use mathlib.Core.Path.{refl}
 use Rattle.exports.proofs.CallLaws.{inserted}
-use borrow.Author.Rules.{rules}
 use Rattle.exports.proofs.updates.vehinoke_insert.Goals as goal
 
 pub returns : goal.returns

@@ -1,5 +1,4 @@
 use Rattle.exports.proofs.CallLaws.{committed}
-use borrow.Author.Rules.{rules}
 use Rattle.exports.proofs.writes.vehinoke_commit.Goals as goal
 
 pub returns : goal.returns

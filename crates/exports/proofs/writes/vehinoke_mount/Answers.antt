@@ -1,6 +1,5 @@
 use mathlib.Core.Path.{refl}
 use Rattle.chip.specs.Geometry.{Nand}
-use borrow.Author.Rules.{rules}
 use Rattle.exports.proofs.CallLaws.{named_part, unnamed_part}
 use Rattle.exports.proofs.ExactLaws.{mount_narrow}
 use Rattle.store.specs.Ensured.{Mounts}

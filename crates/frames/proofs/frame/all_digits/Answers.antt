@@ -1,8 +1,4 @@
 use borrow.Author.Rules.{rules}
-use mathlib.Core.Path.{◌≡◌, refl}
-use Prim.Native.Nat.{◌≤◌, ◌-◌}
-use lib.ListN.{length, drop}
-use Rattle.frames.specs.Frames.{all_digits}
 use Rattle.frames.proofs.Digits.{stops, goes, ends}
 use Rattle.frames.proofs.frame.all_digits.Goals as goal
 

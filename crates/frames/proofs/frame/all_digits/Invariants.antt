@@ -1,9 +1,7 @@
-use borrow.Author.Rules.{rules}
-use mathlib.Core.Path.{◌≡◌, refl}
+use mathlib.Core.Path.{◌≡◌}
 use Prim.Native.Nat.{◌≤◌, ◌-◌}
 use lib.ListN.{length, drop}
 use Rattle.frames.specs.Frames.{all_digits}
-use Rattle.frames.proofs.Digits.{stops, goes, ends}
 use Rattle.frames.proofs.frame.all_digits.Given as goal
 
 abbrev pub invariant-loop-i : goal.invariant-loop-i

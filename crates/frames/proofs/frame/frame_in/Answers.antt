@@ -1,4 +1,3 @@
-use borrow.Author.Rules.{rules}
 use native.Mathlib.Omega.{arith}
 use Rattle.frames.proofs.FrameLaws.{part_digits, all_of_two, no_digits, of_two, of_ten, of_eighteen, of_other}
 use Rattle.frames.proofs.frame.frame_in.Goals as goal

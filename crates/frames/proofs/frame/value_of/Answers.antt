@@ -1,8 +1,5 @@
-use borrow.Author.Rules.{rules}
-use Prim.Native.Nat.{◌-◌}
 use native.Mathlib.Omega.{arith}
-use lib.ListN.{length}
-use Rattle.frames.proofs.Digits.{Reading, started, reads, fits, read}
+use Rattle.frames.proofs.Digits.{started, reads, fits, read}
 use Rattle.frames.proofs.frame.value_of.Goals as goal
 
 pub loop-i-init : goal.loop-i-init

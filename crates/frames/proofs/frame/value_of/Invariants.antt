@@ -1,8 +1,6 @@
-use borrow.Author.Rules.{rules}
 use Prim.Native.Nat.{◌-◌}
-use native.Mathlib.Omega.{arith}
 use lib.ListN.{length}
-use Rattle.frames.proofs.Digits.{Reading, started, reads, fits, read}
+use Rattle.frames.proofs.Digits.{Reading}
 use Rattle.frames.proofs.frame.value_of.Given as goal
 
 abbrev pub invariant-loop-i : goal.invariant-loop-i

@@ -1,4 +1,3 @@
-use borrow.Author.Rules.{rules}
 use Rattle.frames.proofs.LineLaws.{empties}
 use Rattle.frames.proofs.line.is_empty.Goals as goal
 

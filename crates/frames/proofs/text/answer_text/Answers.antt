@@ -1,4 +1,3 @@
-use borrow.Author.Rules.{rules}
 use Rattle.frames.specs.Frames.{answer_text}
 use Rattle.frames.proofs.text.answer_text.Goals as goal
 

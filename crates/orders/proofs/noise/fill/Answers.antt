@@ -1,8 +1,5 @@
-use borrow.Author.Rules.{rules}
-use Prim.Native.Nat.{◌-◌}
 use native.Mathlib.Omega.{arith}
-use lib.ListN.{length}
-use Rattle.orders.proofs.NoiseLaws.{Making, started, makes, made}
+use Rattle.orders.proofs.NoiseLaws.{started, makes, made}
 use Rattle.orders.proofs.noise.fill.Goals as goal
 
 pub loop-i-init : goal.loop-i-init

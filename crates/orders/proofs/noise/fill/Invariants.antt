@@ -1,8 +1,6 @@
-use borrow.Author.Rules.{rules}
 use Prim.Native.Nat.{◌-◌}
-use native.Mathlib.Omega.{arith}
 use lib.ListN.{length}
-use Rattle.orders.proofs.NoiseLaws.{Making, started, makes, made}
+use Rattle.orders.proofs.NoiseLaws.{Making}
 use Rattle.orders.proofs.noise.fill.Given as goal
 
 abbrev pub invariant-loop-i : goal.invariant-loop-i

@@ -1,4 +1,3 @@
-use borrow.Author.Rules.{rules}
 use native.Mathlib.Omega.{arith}
 use Rattle.frames.proofs.FrameLaws.{part_digits, all_of_two}
 use Rattle.orders.proofs.OrderLaws.{no_digits, of_two, of_four, of_ten, of_twelve, of_eighteen, of_other}

@@ -1,9 +1,7 @@
 use borrow.Author.Rules.{rules}
 use mathlib.Core.Path.{◌≡◌}
-use Prim.Native.Nat.{◌-◌}
-use native.Mathlib.Omega.{arith}
 use lib.ListN.{length}
-use Rattle.orders.proofs.ReplyLaws.{Bytes, begun, puts, put_all}
+use Rattle.orders.proofs.ReplyLaws.{begun, puts, put_all}
 use Rattle.orders.proofs.reply.put_bytes.Goals as goal
 
 pub loop-i-init : goal.loop-i-init

@@ -1,9 +1,6 @@
-use borrow.Author.Rules.{rules}
-use mathlib.Core.Path.{◌≡◌}
 use Prim.Native.Nat.{◌-◌}
-use native.Mathlib.Omega.{arith}
 use lib.ListN.{length}
-use Rattle.orders.proofs.ReplyLaws.{Bytes, begun, puts, put_all}
+use Rattle.orders.proofs.ReplyLaws.{Bytes}
 use Rattle.orders.proofs.reply.put_bytes.Given as goal
 
 abbrev pub invariant-loop-i : goal.invariant-loop-i

@@ -1,4 +1,3 @@
-use borrow.Author.Rules.{rules}
 use native.Mathlib.Omega.{arith}
 use Rattle.orders.proofs.ReplyLaws.{one}
 use Rattle.orders.proofs.reply.put_feed.Goals as goal

@@ -1,4 +1,3 @@
-use borrow.Author.Rules.{rules}
 use Rattle.orders.proofs.ReplyLaws.{both}
 use Rattle.orders.proofs.reply.put_look.Goals as goal
 

@@ -1,8 +1,7 @@
-use borrow.Author.Rules.{rules}
 use Prim.Native.Nat.{◌<◌}
 use lib.ListN.{length}
 use native.Mathlib.Omega.{arith}
-use Rattle.orders.proofs.ReplyLaws.{Digits, started, writes, written}
+use Rattle.orders.proofs.ReplyLaws.{started, writes, written}
 use Rattle.orders.proofs.reply.put_number.Goals as goal
 
 pub loop-left-init : goal.loop-left-init

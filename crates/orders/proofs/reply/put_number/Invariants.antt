@@ -1,8 +1,4 @@
-use borrow.Author.Rules.{rules}
-use Prim.Native.Nat.{◌<◌}
-use lib.ListN.{length}
-use native.Mathlib.Omega.{arith}
-use Rattle.orders.proofs.ReplyLaws.{Digits, started, writes, written}
+use Rattle.orders.proofs.ReplyLaws.{Digits}
 use Rattle.orders.proofs.reply.put_number.Given as goal
 
 abbrev pub invariant-loop-left : goal.invariant-loop-left

@@ -1,5 +1,4 @@
 use borrow.Author.Rules.{rules}
-use native.Mathlib.Omega.{arith}
 use Rattle.orders.proofs.ReplyLaws.{both, length_bytes}
 use Rattle.orders.proofs.reply.put_shown.Goals as goal
 

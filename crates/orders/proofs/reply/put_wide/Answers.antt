@@ -1,5 +1,4 @@
 use Rattle.orders.proofs.ReplyLaws.{both, halves}
-use borrow.Author.Rules.{rules}
 use Rattle.orders.proofs.reply.put_wide.Goals as goal
 
 pub returns : goal.returns

@@ -1,9 +1,5 @@
-use borrow.Author.Rules.{rules}
-use mathlib.Core.Path.{◌≡◌, ap}
-use Prim.Native.Nat.{ℕ}
-use lib.Bits.{bit_xor}
+use mathlib.Core.Path.{◌≡◌}
 use Rattle.orders.specs.Sums.{bit_steps, byte_step}
-use Rattle.orders.proofs.SumLaws.{stepped, stopped}
 use Rattle.orders.proofs.sum.byte_step.Given as goal
 
 abbrev pub invariant-loop-left : goal.invariant-loop-left

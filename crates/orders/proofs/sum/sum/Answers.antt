@@ -1,9 +1,4 @@
 use borrow.Author.Rules.{rules}
-use mathlib.Core.Path.{◌≡◌, refl}
-use mathlib.Core.List.{foldl}
-use Prim.Native.Nat.{◌≤◌, ◌-◌}
-use lib.ListN.{length, drop}
-use Rattle.orders.specs.Sums.{byte_step}
 use Rattle.orders.proofs.SumLaws.{added, ended}
 use Rattle.orders.proofs.sum.sum.Goals as goal
 

@@ -1,13 +1,9 @@
-use mathlib.Core.Path.{◌≡◌, refl, ◌∙◌}
-use mathlib.Core.List.{◌++◌}
-use Prim.Native.Nat.{◌-◌, ◌≤◌}
+use mathlib.Core.Path.{refl, ◌∙◌}
 use native.Mathlib.Omega.{arith}
-use lib.ListN.{length, take}
-use Rattle.lists.specs.Lists.{filter}
+use lib.ListN.{length}
 use Rattle.chip.specs.Chip.{pages_of}
 use Rattle.chip.proofs.Sizes.{block_on_chip}
-use Rattle.journal.specs.Plan.{count_from, wholly_free}
-use Rattle.journal.specs.Rebuild.{free_blocks}
+use Rattle.journal.specs.Plan.{wholly_free}
 use Rattle.plan.proofs.MarkLaws.{push_next}
 use Rattle.renewal.proofs.BlocksLaws.{found_free, free_start}
 use borrow.Author.Rules.{rules}

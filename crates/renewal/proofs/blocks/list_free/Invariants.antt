@@ -1,16 +1,11 @@
-use mathlib.Core.Path.{◌≡◌, refl, ◌∙◌}
+use mathlib.Core.Path.{◌≡◌}
 use mathlib.Core.List.{◌++◌}
 use Prim.Native.Nat.{◌-◌, ◌≤◌}
-use native.Mathlib.Omega.{arith}
 use lib.ListN.{length, take}
 use Rattle.lists.specs.Lists.{filter}
 use Rattle.chip.specs.Chip.{pages_of}
-use Rattle.chip.proofs.Sizes.{block_on_chip}
 use Rattle.journal.specs.Plan.{count_from, wholly_free}
 use Rattle.journal.specs.Rebuild.{free_blocks}
-use Rattle.plan.proofs.MarkLaws.{push_next}
-use Rattle.renewal.proofs.BlocksLaws.{found_free, free_start}
-use borrow.Author.Rules.{rules}
 use Rattle.renewal.proofs.blocks.list_free.Given as goal
 
 abbrev pub invariant-loop-b : goal.invariant-loop-b

@@ -1,6 +1,5 @@
 use Rattle.views.specs.NodeCode.{entries_in}
 use Rattle.renewal.proofs.LayersLaws.{lays_tree}
-use borrow.Author.Rules.{rules}
 use Rattle.renewal.proofs.layers.lay_tree.Goals as goal
 
 pub returns : goal.returns

@@ -1,5 +1,4 @@
 use borrow.Author.Tests.{eq-eqb, ne_eqb}
-use borrow.Author.Rules.{rules}
 use Rattle.renewal.proofs.layers.low_key.Goals as goal
 
 pub returns-then-from-eq0 : goal.returns-then-from-eq0

@@ -1,6 +1,5 @@
 use mathlib.Core.Path.{refl, ap}
 use lib.ListN.{set}
-use borrow.Author.Rules.{rules}
 use Rattle.renewal.proofs.layers.put_above.Goals as goal
 
 pub returns : goal.returns

@@ -1,10 +1,7 @@
 use mathlib.Core.Path.{refl}
-use Prim.Native.Nat.{◌-◌}
 use native.Mathlib.Omega.{arith}
 use Rattle.views.specs.NodeCode.{entries_in}
-use Rattle.tree.specs.Rebuild.{nodes_for}
-use Rattle.renewal.proofs.LayersLaws.{Putting, putting_start, part_within, node_fits, above_fits, putting_step, putting_done}
-use borrow.Author.Rules.{rules}
+use Rattle.renewal.proofs.LayersLaws.{putting_start, part_within, node_fits, above_fits, putting_step, putting_done}
 use Rattle.renewal.proofs.layers.put_level.Goals as goal
 
 pub loop-i-init : goal.loop-i-init

@@ -2,7 +2,6 @@ use native.Mathlib.Omega.{arith}
 use Rattle.views.specs.NodeCode.{entries_in}
 use Rattle.renewal.proofs.NodesLaws.{length_entries_in}
 use Rattle.renewal.proofs.LayersLaws.{levels_many}
-use borrow.Author.Rules.{rules}
 use Rattle.renewal.proofs.layers.put_levels.Goals as goal
 
 pub returns-then-count-le16 : goal.returns-then-count-le16

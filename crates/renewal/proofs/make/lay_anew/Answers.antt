@@ -2,7 +2,6 @@ use native.Mathlib.Omega.{arith}
 use lib.ListN.{length}
 use Rattle.chip.proofs.Sizes.{blocks_whole}
 use Rattle.renewal.proofs.MakeLaws.{laid_anew, records_fit}
-use borrow.Author.Rules.{rules}
 use Rattle.renewal.proofs.make.lay_anew.Goals as goal
 
 pub gather-count-requires : goal.gather-count-requires

@@ -1,6 +1,5 @@
 use native.Mathlib.Omega.{arith}
 use Rattle.renewal.proofs.MakeLaws.{makes, pages_low, pages_room, ring_spare}
-use borrow.Author.Rules.{rules}
 use Rattle.renewal.proofs.make.make.Goals as goal
 
 pub lay_anew-nodes-requires : goal.lay_anew-nodes-requires

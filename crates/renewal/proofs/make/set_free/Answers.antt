@@ -1,5 +1,4 @@
 use Rattle.renewal.proofs.MakeLaws.{counted_from}
-use borrow.Author.Rules.{rules}
 use Rattle.renewal.proofs.make.set_free.Goals as goal
 
 pub returns : goal.returns

@@ -1,9 +1,7 @@
-use mathlib.Core.Path.{◌≡◌, refl, ◌∙◌}
-use Prim.Native.Nat.{◌+◌, ◌-◌, ◌≤◌}
+use mathlib.Core.Path.{refl, ◌∙◌}
 use native.Mathlib.Omega.{arith}
-use lib.ListN.{drop, length, length-set, take}
+use lib.ListN.{length-set}
 use Rattle.renewal.proofs.NodesLaws.{copy_next, copy_done}
-use borrow.Author.Rules.{rules}
 use Rattle.renewal.proofs.nodes.copy_front.Goals as goal
 
 pub loop-i-init : goal.loop-i-init

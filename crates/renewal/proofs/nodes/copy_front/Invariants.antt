@@ -1,9 +1,6 @@
-use mathlib.Core.Path.{◌≡◌, refl, ◌∙◌}
-use Prim.Native.Nat.{◌+◌, ◌-◌, ◌≤◌}
-use native.Mathlib.Omega.{arith}
-use lib.ListN.{drop, length, length-set, take}
-use Rattle.renewal.proofs.NodesLaws.{copy_next, copy_done}
-use borrow.Author.Rules.{rules}
+use mathlib.Core.Path.{◌≡◌}
+use Prim.Native.Nat.{◌-◌, ◌≤◌}
+use lib.ListN.{drop, length, take}
 use Rattle.renewal.proofs.nodes.copy_front.Given as goal
 
 abbrev pub invariant-loop-i : goal.invariant-loop-i

@@ -1,7 +1,6 @@
 use mathlib.Core.Path.{refl}
 use lib.ListN.{drop}
 use Rattle.renewal.proofs.NodesLaws.{shows_entries}
-use borrow.Author.Rules.{rules}
 use Rattle.renewal.proofs.nodes.node_of.Goals as goal
 
 pub returns : goal.returns

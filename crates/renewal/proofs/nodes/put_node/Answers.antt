@@ -3,7 +3,6 @@ use lib.ListN.{drop}
 use Rattle.views.specs.Nodes.{view}
 use Rattle.views.specs.NodeCode.{entries_in}
 use Rattle.renewal.proofs.NodesLaws.{puts_as}
-use borrow.Author.Rules.{rules}
 use Rattle.renewal.proofs.nodes.put_node.Goals as goal
 
 pub returns : goal.returns

@@ -1,7 +1,6 @@
 use mathlib.Core.Path.{refl}
 use Rattle.views.specs.FoldCode.{view_of}
 use Rattle.renewal.proofs.NodesLaws.{puts_view}
-use borrow.Author.Rules.{rules}
 use Rattle.renewal.proofs.nodes.put_view.Goals as goal
 
 pub returns : goal.returns

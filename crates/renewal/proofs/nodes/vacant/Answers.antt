@@ -1,6 +1,5 @@
 use Rattle.views.specs.Stored.{stored_list}
 use Rattle.renewal.proofs.NodesLaws.{stands_root, stands_freed, stands_untouched}
-use borrow.Author.Rules.{rules}
 use Rattle.renewal.proofs.nodes.vacant.Goals as goal
 
 pub returns-then-number-eq0 : goal.returns-then-number-eq0

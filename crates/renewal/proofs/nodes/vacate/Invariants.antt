@@ -1,8 +1,5 @@
 use Prim.Native.Nat.{◌-◌, ◌≤◌}
-use native.Mathlib.Omega.{arith}
 use Rattle.renewal.specs.LayersCode.{HoldsVacant}
-use Rattle.renewal.proofs.NodesLaws.{vacant_start, vacant_next, vacant_done}
-use borrow.Author.Rules.{rules}
 use Rattle.renewal.proofs.nodes.vacate.Given as goal
 
 abbrev pub invariant-loop-n : goal.invariant-loop-n

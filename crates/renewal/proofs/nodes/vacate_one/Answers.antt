@@ -1,5 +1,4 @@
 use Rattle.renewal.proofs.NodesLaws.{puts_as}
-use borrow.Author.Rules.{rules}
 use Rattle.renewal.proofs.nodes.vacate_one.Goals as goal
 
 pub returns : goal.returns

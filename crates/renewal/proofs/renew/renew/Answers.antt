@@ -6,7 +6,6 @@ use lib.ListN.{take}
 use Rattle.lists.specs.Lists.{All, none}
 use Rattle.chip.proofs.Sizes.{blocks_whole}
 use Rattle.renewal.proofs.RenewLaws.{renewed}
-use borrow.Author.Rules.{rules}
 use Rattle.renewal.proofs.renew.renew.Goals as goal
 
 -- nothing is erased

@@ -2,7 +2,6 @@ use native.Mathlib.Omega.{arith}
 use borrow.Author.Tests.{not-true, not-false}
 use Rattle.chip.specs.Geometry.{geometry_of}
 use Rattle.store.proofs.AdmitLaws.{admit_off, admit_size, admit_other, admit_passes}
-use borrow.Author.Rules.{rules}
 use Rattle.store.proofs.admit.admit.Goals as goal
 
 pub returns-then-not-numbers : goal.returns-then-not-numbers

@@ -3,7 +3,6 @@ use native.Mathlib.Omega.{arith}
 use Rattle.store.specs.AdmitCode.{tests_of, denied, idle, full, plans}
 use Rattle.store.specs.Answers.{refusal_in}
 use Rattle.store.proofs.UpdateTests.{number_for}
-use borrow.Author.Rules.{rules}
 use Rattle.store.proofs.admit.commit_begins.Goals as goal
 
 pub returns-then-number-gt0 : goal.returns-then-number-gt0

@@ -1,5 +1,4 @@
 use Rattle.store.proofs.SizeLaws.{sized_none, sized_some}
-use borrow.Author.Rules.{rules}
 use Rattle.store.proofs.admit.sized.Goals as goal
 
 pub returns-then-torn-geometry : goal.returns-then-torn-geometry

@@ -3,7 +3,6 @@ use native.Mathlib.Omega.{arith}
 use Rattle.chip.specs.Geometry.{geometry_of}
 use Rattle.store.specs.AdmitCode.{admit_number}
 use Rattle.store.proofs.CommitTests.{update_first, update_full, update_passes}
-use borrow.Author.Rules.{rules}
 use Rattle.store.proofs.admit.update_tests.Goals as goal
 
 pub returns-in-Off : goal.returns-in-Off

@@ -6,7 +6,6 @@ use Rattle.chip.specs.Chip.{pages_of}
 use Rattle.pages.specs.Steps.{steps}
 use Rattle.store.proofs.SizeLaws.{on-chip}
 use Rattle.store.proofs.CheckLaws.{refused_checks, says_refused, says_stands, StandsBy, stands_room, stands_numbered, stands_layout, stands_shape, stands_tree}
-use borrow.Author.Rules.{rules}
 use Rattle.store.proofs.check.check.Goals as goal
 
 pub settle-requires : goal.settle-requires

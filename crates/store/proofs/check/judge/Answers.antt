@@ -3,7 +3,6 @@ use mathlib.Core.Bool.{true, false}
 use borrow.Author.Tests.{not-true, not-false}
 use Rattle.tree.specs.CheckCode.{is_grown, is_found_thin}
 use Rattle.store.proofs.CheckLaws.{judged_layout, judged_shape, judged_tree}
-use borrow.Author.Rules.{rules}
 use Rattle.store.proofs.check.judge.Goals as goal
 
 pub read_nodes-well-requires : goal.read_nodes-well-requires

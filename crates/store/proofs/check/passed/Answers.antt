@@ -1,5 +1,4 @@
 use borrow.Author.Tests.{eq-eqb, ne_eqb}
-use borrow.Author.Rules.{rules}
 use Rattle.store.proofs.check.passed.Goals as goal
 
 pub returns-then-voids-eq0 : goal.returns-then-voids-eq0

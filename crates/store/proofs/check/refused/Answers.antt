@@ -1,5 +1,4 @@
 use borrow.Author.Tests.{eq-eqb, ne_eqb}
-use borrow.Author.Rules.{rules}
 use Rattle.store.proofs.check.refused.Goals as goal
 
 pub returns-then-number-eq7 : goal.returns-then-number-eq7

@@ -6,7 +6,6 @@ use Rattle.store.specs.declared.state.Wrote.{Wrote}
 use Rattle.store.specs.Ensured.{Commits}
 use Rattle.store.specs.Parts.{wrote_with, wrote_free}
 use Rattle.store.proofs.PartLaws.{of_parts}
-use borrow.Author.Rules.{rules}
 use Rattle.store.proofs.commit.commit.Goals as goal
 
 pub returns : goal.returns

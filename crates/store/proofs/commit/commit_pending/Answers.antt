@@ -2,7 +2,6 @@ use mathlib.Core.Path.{◌≡◌, refl}
 use Prim.Native.Nat.{ℕ, ◌<◌}
 use native.Mathlib.Omega.{arith}
 use lib.ListN.{length, get_or}
-use Rattle.chip.specs.Geometry.{geometry_of}
 use Rattle.chip.proofs.Sizes.{nand_fits}
 use Rattle.store.specs.Parts.{joined, with_free}
 use Rattle.store.proofs.CommitTests.{Planning, planning}

@@ -2,7 +2,6 @@ use mathlib.Core.Path.{ap, ◌∙◌}
 use Rattle.store.specs.declared.state.WroteParts.{WroteParts}
 use Rattle.store.specs.Parts.{joined, wrote_with}
 use Rattle.store.proofs.EndingLaws.{ended_cut, ended_done}
-use borrow.Author.Rules.{rules}
 use Rattle.store.proofs.ending.ended.Goals as goal
 
 pub returns-then-gone : goal.returns-then-gone

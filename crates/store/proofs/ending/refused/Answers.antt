@@ -1,4 +1,3 @@
-use borrow.Author.Rules.{rules}
 use Rattle.store.proofs.ending.refused.Goals as goal
 
 pub returns : goal.returns

@@ -3,7 +3,6 @@ use Rattle.store.specs.declared.answer.Look.{Look}
 use Rattle.store.specs.declared.state.State.{State}
 use Rattle.store.specs.Ensured.{Looks}
 use Rattle.store.proofs.PartLaws.{of_parts}
-use borrow.Author.Rules.{rules}
 use Rattle.store.proofs.find.look_up.Goals as goal
 
 pub returns : goal.returns

@@ -1,5 +1,4 @@
 use mathlib.Core.Path.{refl, sym, ap, ◌∙◌}
-use native.Mathlib.Omega.{arith}
 use Prim.Native.Nat.{◌<◌}
 use Rattle.chip.specs.Geometry.{geometry_of}
 use Rattle.chip.proofs.Sizes.{blocks_whole, nand_fits}

@@ -3,7 +3,6 @@ use Rattle.store.specs.declared.answer.Forecast.{Forecast}
 use Rattle.store.specs.declared.state.State.{State}
 use Rattle.store.specs.Ensured.{Forecasts}
 use Rattle.store.proofs.PartLaws.{of_parts}
-use borrow.Author.Rules.{rules}
 use Rattle.store.proofs.forecast.forecast.Goals as goal
 
 pub returns : goal.returns

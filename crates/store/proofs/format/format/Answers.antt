@@ -2,7 +2,6 @@ use Rattle.store.specs.declared.state.State.{State}
 use Rattle.store.specs.declared.state.Wrote.{Wrote}
 use Rattle.store.specs.Ensured.{Formats}
 use Rattle.store.proofs.PartLaws.{of_parts}
-use borrow.Author.Rules.{rules}
 use Rattle.store.proofs.format.format.Goals as goal
 
 pub returns : goal.returns

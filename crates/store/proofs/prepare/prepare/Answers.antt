@@ -1,7 +1,5 @@
-use mathlib.Core.Path.{◌≡◌, sym, subst}
 use native.Mathlib.Omega.{arith}
 use Rattle.store.proofs.PrepareLaws.{is_last, is_full, is_ready}
-use borrow.Author.Rules.{rules}
 use Rattle.store.proofs.prepare.prepare.Goals as goal
 
 pub returns-then-commit-ge-LAST : goal.returns-then-commit-ge-LAST

@@ -3,7 +3,6 @@ use Rattle.store.specs.declared.answer.Report.{Report}
 use Rattle.store.specs.declared.state.State.{State}
 use Rattle.store.specs.Ensured.{Reports}
 use Rattle.store.proofs.PartLaws.{of_parts}
-use borrow.Author.Rules.{rules}
 use Rattle.store.proofs.report.block_report.Goals as goal
 
 pub returns : goal.returns

@@ -1,4 +1,3 @@
-use borrow.Author.Rules.{rules}
 use Rattle.store.proofs.show.show.Goals as goal
 
 pub show-requires : goal.show-requires

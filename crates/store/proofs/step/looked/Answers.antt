@@ -1,7 +1,6 @@
 use mathlib.Core.Path.{sym, ap}
 use Rattle.store.specs.declared.answer.Look.{Look}
 use Rattle.store.specs.Step.{of_look}
-use borrow.Author.Rules.{rules}
 use Rattle.store.proofs.step.looked.Goals as goal
 
 pub returns-in-Found : goal.returns-in-Found

@@ -1,4 +1,3 @@
-use borrow.Author.Rules.{rules}
 use Rattle.store.proofs.StepLaws.{step_format, step_insert, step_delete, step_look, step_forecast, step_commit, step_mount}
 use Rattle.store.proofs.step.step.Goals as goal
 

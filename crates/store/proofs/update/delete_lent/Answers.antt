@@ -9,7 +9,6 @@ use Rattle.store.specs.AdmitCode.{ChipOf, update_tests}
 use Rattle.store.specs.Answers.{refusal_in}
 use Rattle.store.specs.Parts.{joined}
 use Rattle.store.proofs.UpdateTests.{updates_refused, updates_pass, updates_done, number_for}
-use borrow.Author.Rules.{rules}
 use Rattle.store.proofs.update.delete_lent.Goals as goal
 
 pub returns-then-number-gt0 : goal.returns-then-number-gt0

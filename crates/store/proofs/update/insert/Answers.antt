@@ -2,7 +2,6 @@ use Rattle.store.specs.declared.state.State.{State}
 use Rattle.store.specs.declared.state.Updated.{Updated}
 use Rattle.store.specs.Ensured.{Inserts}
 use Rattle.store.proofs.PartLaws.{of_parts}
-use borrow.Author.Rules.{rules}
 use Rattle.store.proofs.update.insert.Goals as goal
 
 pub returns : goal.returns
