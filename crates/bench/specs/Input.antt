@@ -1,5 +1,5 @@
 -- What the bytes of standard input do to the store: each line that ends is taken as a frame, and the call of a frame is one step.
-use Rattle.std.specs.Prelude.{List, [], ◌∷◌, ℕ}
+use Rattle.std.specs.Prelude.{List, [], ◌∷◌, ℕ, take}
 use Rattle.lists.specs.Lists.{flat}
 use Rattle.store.specs.declared.state.State.{State}
 use Rattle.store.specs.declared.step.Call.{Call}
@@ -36,3 +36,25 @@ TakesIn torn bytes l s i l' s' i' = (begun : List ℕ) → LineHolds l begun →
 pub record TakesSome (torn : List ℕ) (l : Line) (s : State) (i : List ℕ) (l' : Line) (s' : State) (i' : List ℕ) : Type 0 where
   pub bytes : List ℕ
   pub takes : TakesIn torn bytes l s i l' s' i'
+
+-- ---- where a read or a write fails, the state and the line begun are gone: what was done to the image
+-- a line that ended, and whose answer could not be written: its call was made
+pub record EndsUntold (torn : List ℕ) (l : Line) (s : State) (i i' : List ℕ) : Type 0 where
+  pub state : State
+  pub ends : EndsLine torn l s i state i'
+
+-- whatever the line begun holds: the calls of the lines that end in these bytes are made
+unfoldable pub CallsIn : (torn bytes : List ℕ) (l : Line) (s : State) (i : List ℕ) (s' : State) (i' : List ℕ) → Type 0
+CallsIn torn bytes l s i s' i' = (begun : List ℕ) → LineHolds l begun → RunsTo torn (calls_in (lines_in begun bytes)) s i s' i'
+
+-- of the bytes read the first `count` were taken
+pub record TakesFirst (torn bytes : List ℕ) (l : Line) (s : State) (i i' : List ℕ) : Type 0 where
+  pub count : ℕ
+  pub state : State
+  pub calls : CallsIn torn (take count bytes) l s i state i'
+
+-- some bytes were taken
+pub record TakesPart (torn : List ℕ) (l : Line) (s : State) (i i' : List ℕ) : Type 0 where
+  pub bytes : List ℕ
+  pub state : State
+  pub calls : CallsIn torn bytes l s i state i'

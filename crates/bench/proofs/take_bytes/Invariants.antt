@@ -1,0 +1,6 @@
+use lib.ListN.{take}
+use Rattle.bench.specs.Input.{TakesIn}
+use Rattle.bench.proofs.take_bytes.Given as goal
+
+abbrev pub invariant-loop-byte : goal.invariant-loop-byte
+invariant-loop-byte g l = TakesIn l.torn (take l.byte-index l.bytes) l.initial.line l.initial.state l.initial.image l.line l.state l.image
