@@ -1,6 +1,8 @@
 // The cases of the first demand and of the large part, each as a call: a line for each with the refusal in two digits, and behind it what the call tells.
 #![tactic(auto)]
 
+ghost use Rattle.std.specs.Prelude.{◌≤◌};
+
 use chip::geometry::Nand;
 use chip::progress::Counts;
 use std::io;
@@ -125,19 +127,23 @@ fn size(rt: &impl Print, image: &mut [u8], torn: &[u8]) -> io::Result<()> {
     Ok(())
 }
 
+// The same on an image of so many bytes, each 255.
+fn size_of<const N: usize>(rt: &impl Print, torn: &[u8]) -> io::Result<()>
+    requires { N ≤ 557568 }
+{
+    let mut image = [255u8; N];
+    size(rt, &mut image, torn)
+}
+
 // Images of 33 blocks, of 2 blocks and of a byte too few, and a torn slice of a byte too few.
 fn sizes(rt: &impl Print) -> io::Result<()> {
     println!(rt; "size")?;
-    let mut large = [255u8; 557568];
-    let mut two = [255u8; 33792];
-    let mut less = [255u8; 50687];
-    let mut image = [255u8; 50688];
     let torn = [90u8; 528];
     let short = [90u8; 527];
-    size(rt, &mut large, &torn)?;
-    size(rt, &mut two, &torn)?;
-    size(rt, &mut less, &torn)?;
-    size(rt, &mut image, &short)
+    size_of::<557568>(rt, &torn)?;
+    size_of::<33792>(rt, &torn)?;
+    size_of::<50687>(rt, &torn)?;
+    size_of::<50688>(rt, &short)
 }
 
 // One byte of the image.
