@@ -93,3 +93,25 @@ CarriesIn bytes l h l' k = (begun : List ℕ) → LineHolds l begun → CarriesB
 pub record CarriesSome (l : Line) (h : Rig) (l' : Line) (k : Rig) : Type 0 where
   pub bytes : List ℕ
   pub carries : CarriesIn bytes l h l' k
+
+-- ---- where a read or a write fails, the state, the bed and the line begun are gone: what was done to the torn bytes and the image
+-- what the torn bytes and the image are after these lines, in order
+pub record LinesDone (ls : List (List ℕ)) (h : Rig) (torn image : List ℕ) : Type 0 where
+  pub left : Rig
+  pub carries : CarriesLines ls h left
+  pub same_torn : left.torn ≡ torn
+  pub same_image : left.image ≡ image
+
+-- whatever the line begun holds: the lines that end in these bytes are carried out
+unfoldable pub LinesIn : (bytes : List ℕ) (l : Line) (h : Rig) (torn image : List ℕ) → Type 0
+LinesIn bytes l h torn image = (begun : List ℕ) → LineHolds l begun → LinesDone (lines_in begun bytes) h torn image
+
+-- of the bytes read, the lines that end in the first `count` were carried out
+pub record CarriesFirst (bytes : List ℕ) (l : Line) (h : Rig) (torn image : List ℕ) : Type 0 where
+  pub count : ℕ
+  pub lines : LinesIn (take count bytes) l h torn image
+
+-- some bytes were taken
+pub record CarriesPart (l : Line) (h : Rig) (torn image : List ℕ) : Type 0 where
+  pub bytes : List ℕ
+  pub lines : LinesIn bytes l h torn image

@@ -68,10 +68,8 @@ fn accepted(bed: Bed, out: &mut [u8], at: usize) -> Made
 
 // Each byte made 255.
 fn clear(image: &mut [u8]) {
-    let mut i = 0;
-    while i < image.len() {
-        image[i] = 255;
-        i += 1;
+    for byte in image.iter_mut() {
+        *byte = 255;
     }
 }
 

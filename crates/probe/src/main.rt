@@ -2,8 +2,8 @@
 // frames of hexadecimal from standard input, one a line, and answers each by a line.
 #![tactic(auto)]
 
-ghost use Rattle.std.specs.Prelude.{◌≡◌, length};
-ghost use Rattle.probe.specs.Makes.{rig, CarriesOut, CarriesLine, CarriesIn, CarriesSome};
+ghost use Rattle.std.specs.Prelude.{◌≡◌, length, IfOk, OnErr};
+ghost use Rattle.probe.specs.Makes.{rig, CarriesOut, CarriesLine, CarriesIn, CarriesFirst, CarriesSome, CarriesPart};
 
 mod bed;
 mod calls;
@@ -15,6 +15,8 @@ use frames::line;
 use frames::line::Line;
 use orders::order::Order;
 use orders::{order, reply};
+use std::io;
+use std::io::{Read, Write};
 use store::state;
 use store::state::State;
 
@@ -34,112 +36,142 @@ struct Reading {
     more: bool,
 }
 
-// An order carried out, and its reply gathered.
-fn carry_out(probe: Probe, image: &mut [u8], torn: &mut [u8], out: &mut [u8], given: Order) -> Probe
+// An order carried out, and its reply gathered. Where room for the reply cannot be made, it is not begun.
+fn carry_out<W: Write>(
+    writer: &mut W,
+    probe: Probe,
+    image: &mut [u8],
+    torn: &mut [u8],
+    out: &mut [u8],
+    given: Order,
+) -> io::Result<Probe>
     requires { length out.old ≡ 65536 }
-    ensures { CarriesOut given (rig probe.bed torn.old probe.state image.old)
-        (rig result.bed torn.new result.state image.new) }
+    ensures ok { IfOk result (λ p. CarriesOut given (rig probe.bed torn.old probe.state image.old)
+        (rig p.bed torn.new p.state image.new)) }
+    ensures err { OnErr result (image.new ≡ image.old) }
+    ensures err_torn { OnErr result (torn.new ≡ torn.old) }
 {
     let state = probe.state;
     let lent = probe.bed;
     let nand = lent.nand;
-    let at = output::room(out, probe.at);
+    let at = output::room(writer, out, probe.at)?;
     match given {
         Order::NoFrame => {
             let end = reply::put_short(out, at, 255);
-            Probe {
+            Ok(Probe {
                 state,
                 bed: lent,
                 at: end,
-            }
+            })
         }
         Order::Calls(call) => {
             let n = within(lent.image, image);
             let t = within(lent.torn, torn);
             let told = calls::call(state, nand, &mut image[..n], &torn[..t], out, at, call);
             let after = told.state;
-            Probe {
+            Ok(Probe {
                 state: after,
                 bed: lent,
                 at: told.at,
-            }
+            })
         }
         Order::Sets(setting) => {
             let made = bed::make(lent, image, torn, out, at, setting);
             let bed = made.bed;
             let at = made.at;
-            Probe { state, bed, at }
+            Ok(Probe { state, bed, at })
         }
     }
 }
 
 // A line that has ended.
-fn answer_line(probe: Probe, image: &mut [u8], torn: &mut [u8], out: &mut [u8], l: Line) -> Probe
+fn answer_line<W: Write>(
+    writer: &mut W,
+    probe: Probe,
+    image: &mut [u8],
+    torn: &mut [u8],
+    out: &mut [u8],
+    l: Line,
+) -> io::Result<Probe>
     requires { length out.old ≡ 65536 }
-    ensures { CarriesLine l (rig probe.bed torn.old probe.state image.old)
-        (rig result.bed torn.new result.state image.new) }
+    ensures ok { IfOk result (λ p. CarriesLine l (rig probe.bed torn.old probe.state image.old)
+        (rig p.bed torn.new p.state image.new)) }
+    ensures err { OnErr result (image.new ≡ image.old) }
+    ensures err_torn { OnErr result (torn.new ≡ torn.old) }
 {
     let given = order::order_of(l);
-    carry_out(probe, image, torn, out, given)
+    carry_out(writer, probe, image, torn, out, given)
 }
 
-// The bytes of one read: a line feed ends a line.
-fn take_bytes(
+// The bytes of one read: a line feed ends a line. Where a write fails, that line and the bytes behind it are left.
+fn take_bytes<W: Write>(
+    writer: &mut W,
     reading: Reading,
     image: &mut [u8],
     torn: &mut [u8],
     out: &mut [u8],
     bytes: &[u8],
-) -> Reading
+) -> io::Result<Reading>
     requires { length out.old ≡ 65536 }
-    ensures { CarriesIn bytes.now reading.line (rig reading.probe.bed torn.old reading.probe.state image.old)
-        result.line (rig result.probe.bed torn.new result.probe.state image.new) }
+    ensures ok { IfOk result (λ r. CarriesIn bytes.now reading.line (rig reading.probe.bed torn.old reading.probe.state image.old)
+        r.line (rig r.probe.bed torn.new r.probe.state image.new)) }
+    ensures err { OnErr result (CarriesFirst bytes.now reading.line (rig reading.probe.bed torn.old reading.probe.state image.old)
+        torn.new image.new) }
 {
     let mut probe = reading.probe;
     let mut l = reading.line;
-    let mut i = 0;
-    while i < bytes.len() {
-        let byte = bytes[i];
-        i += 1;
-        if byte == 10 {
-            probe = answer_line(probe, image, torn, out, l);
+    for byte in bytes {
+        if *byte == 10 {
+            probe = answer_line(writer, probe, image, torn, out, l)?;
             l = line::no_line();
         } else {
-            l = line::with_byte(l, byte);
+            l = line::with_byte(l, *byte);
         }
     }
-    Reading {
+    Ok(Reading {
         probe,
         line: l,
-        more: i > 0,
-    }
+        more: !bytes.is_empty(),
+    })
 }
 
-// One read of standard input into a buffer.
-fn read_into(
+// One read into a buffer.
+fn read_into<R: Read, W: Write>(
+    reader: &mut R,
+    writer: &mut W,
     reading: Reading,
     image: &mut [u8],
     torn: &mut [u8],
     out: &mut [u8],
     buffer: &mut [u8],
-) -> Reading
+) -> io::Result<Reading>
     requires { length out.old ≡ 65536 }
-    ensures { CarriesSome reading.line (rig reading.probe.bed torn.old reading.probe.state image.old)
-        result.line (rig result.probe.bed torn.new result.probe.state image.new) }
+    ensures ok { IfOk result (λ r. CarriesSome reading.line (rig reading.probe.bed torn.old reading.probe.state image.old)
+        r.line (rig r.probe.bed torn.new r.probe.state image.new)) }
+    ensures err { OnErr result (CarriesPart reading.line (rig reading.probe.bed torn.old reading.probe.state image.old)
+        torn.new image.new) }
 {
-    let got = libc::read(0, buffer);
-    let n = io::count(got, buffer);
-    take_bytes(reading, image, torn, out, &buffer[..n])
+    let n = reader.read(buffer)?;
+    take_bytes(writer, reading, image, torn, out, &buffer[..n])
 }
 
-// One read of standard input, as much as a buffer holds.
-fn turn(reading: Reading, image: &mut [u8], torn: &mut [u8], out: &mut [u8]) -> Reading
+// One read, as much as a buffer holds.
+fn turn<R: Read, W: Write>(
+    reader: &mut R,
+    writer: &mut W,
+    reading: Reading,
+    image: &mut [u8],
+    torn: &mut [u8],
+    out: &mut [u8],
+) -> io::Result<Reading>
     requires { length out.old ≡ 65536 }
-    ensures { CarriesSome reading.line (rig reading.probe.bed torn.old reading.probe.state image.old)
-        result.line (rig result.probe.bed torn.new result.probe.state image.new) }
+    ensures ok { IfOk result (λ r. CarriesSome reading.line (rig reading.probe.bed torn.old reading.probe.state image.old)
+        r.line (rig r.probe.bed torn.new r.probe.state image.new)) }
+    ensures err { OnErr result (CarriesPart reading.line (rig reading.probe.bed torn.old reading.probe.state image.old)
+        torn.new image.new) }
 {
     let mut buffer = [0u8; 4096];
-    read_into(reading, image, torn, out, &mut buffer)
+    read_into(reader, writer, reading, image, torn, out, &mut buffer)
 }
 
 // The probe before the first line.
@@ -158,48 +190,68 @@ fn begun() -> Reading {
     }
 }
 
-// The end of standard input: a last line without a line feed is a line too, and what is gathered is written.
-fn finish(reading: Reading, image: &mut [u8], torn: &mut [u8], out: &mut [u8])
+// The end of the input: a last line without a line feed is a line too, and what is gathered is written.
+fn finish<W: Write>(
+    writer: &mut W,
+    reading: Reading,
+    image: &mut [u8],
+    torn: &mut [u8],
+    out: &mut [u8],
+) -> io::Result<()>
     requires { length out.old ≡ 65536 }
 {
     let before = reading.probe;
     let last = reading.line;
     if line::is_empty(last) {
-        output::flush(out, before.at);
-        return;
+        return output::flush(writer, out, before.at);
     }
-    let after = answer_line(before, image, torn, out, last);
-    output::flush(out, after.at);
+    let after = answer_line(writer, before, image, torn, out, last)?;
+    output::flush(writer, out, after.at)
 }
 
-// Standard input read in turns, to its end.
-fn take_all(reading: Reading, image: &mut [u8], torn: &mut [u8], out: &mut [u8]) -> Reading
+// The input read in turns, to its end.
+fn take_all<R: Read, W: Write>(
+    reader: &mut R,
+    writer: &mut W,
+    reading: Reading,
+    image: &mut [u8],
+    torn: &mut [u8],
+    out: &mut [u8],
+) -> io::Result<Reading>
     requires { length out.old ≡ 65536 }
-    ensures { CarriesSome reading.line (rig reading.probe.bed torn.old reading.probe.state image.old)
-        result.line (rig result.probe.bed torn.new result.probe.state image.new) }
+    ensures ok { IfOk result (λ r. CarriesSome reading.line (rig reading.probe.bed torn.old reading.probe.state image.old)
+        r.line (rig r.probe.bed torn.new r.probe.state image.new)) }
+    ensures err { OnErr result (CarriesPart reading.line (rig reading.probe.bed torn.old reading.probe.state image.old)
+        torn.new image.new) }
 {
     let mut r = reading;
-    let mut turns = u64::MAX;
-    while turns > 0 {
-        turns -= 1;
-        r = turn(r, image, torn, out);
+    for _ in 0..u64::MAX {
+        r = turn(reader, writer, r, image, torn, out)?;
         if !r.more {
-            turns = 0;
+            break;
         }
     }
-    r
+    Ok(r)
 }
 
-// All of standard input.
-fn run(image: &mut [u8; 4460544], torn: &mut [u8; 2200], out: &mut [u8; 65536]) {
-    let r = take_all(begun(), image, torn, out);
-    finish(r, image, torn, out);
+// All of the input.
+fn run<R: Read, W: Write>(
+    reader: &mut R,
+    writer: &mut W,
+    image: &mut [u8; 4460544],
+    torn: &mut [u8; 2200],
+    out: &mut [u8; 65536],
+) -> io::Result<()> {
+    let r = take_all(reader, writer, begun(), image, torn, out)?;
+    finish(writer, r, image, torn, out)
 }
 
 // The buffers: an image of 33 large blocks, torn bytes of a little more than a large page, and the output.
-fn main() {
+fn main(rt: HostRuntime) -> io::Result<()> {
     let mut image = [255u8; 4460544];
     let mut torn = [90u8; 2200];
     let mut out = [0u8; 65536];
-    run(&mut image, &mut torn, &mut out);
+    let mut reader = rt.stdin();
+    let mut writer = rt.stdout();
+    run(&mut reader, &mut writer, &mut image, &mut torn, &mut out)
 }

@@ -1,10 +1,14 @@
 // The output, gathered in a buffer and written when the buffer is nearly full.
-ghost use Rattle.std.specs.Prelude.{◌≡◌, ◌≤◌, min, length};
-ghost use Rattle.io.specs.Counts.{IsPrefixLen};
+ghost use Rattle.std.specs.Prelude.{◌≡◌, ◌≤◌, min, length, take, IfOk};
+
+use std::io;
+use std::io::Write;
 
 // A number of bytes that a slice has: n, or its length where that is less.
 pub fn within(n: usize, bytes: &[u8]) -> usize
-    ensures { IsPrefixLen result bytes.now × (result ≡ min n (length bytes.now)) }
+    ensures most { result ≤ length bytes.now }
+    ensures taken { result ≡ length (take result bytes.now) }
+    ensures value { result ≡ min n (length bytes.now) }
 {
     let most = bytes.len();
     if n < most {
@@ -13,19 +17,19 @@ pub fn within(n: usize, bytes: &[u8]) -> usize
     most
 }
 
-// The first `at` bytes of the buffer, written to standard output.
-pub fn flush(out: &[u8], at: usize) {
+// The first `at` bytes of the buffer, written.
+pub fn flush<W: Write>(writer: &mut W, out: &[u8], at: usize) -> io::Result<()> {
     let n = within(at, out);
-    io::write_all(1, &out[..n]);
+    writer.write_all(&out[..n])
 }
 
 // The number of bytes gathered, with room for a line behind them: the buffer is written where it has not.
-pub fn room(out: &[u8], at: usize) -> usize
-    ensures { result ≤ 60000 }
+pub fn room<W: Write>(writer: &mut W, out: &[u8], at: usize) -> io::Result<usize>
+    ensures { IfOk result (λ n. n ≤ 60000) }
 {
     if at <= 60000 {
-        return at;
+        return Ok(at);
     }
-    flush(out, at);
-    0
+    flush(writer, out, at)?;
+    Ok(0)
 }
