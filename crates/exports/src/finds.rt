@@ -3,7 +3,7 @@ ghost use Rattle.std.specs.Prelude.{◌≡◌};
 ghost use Rattle.exports.specs.Told.{look_told, report_told};
 ghost use Rattle.exports.specs.Calls.{LooksTold, ReportsTold};
 
-use crate::numbers;
+use crate::words;
 use store::answer::{Look, Report};
 use store::{find, report};
 
@@ -94,7 +94,7 @@ pub extern "C" fn vehinoke_look_up<'a>(
 ) -> u32
     ensures { LooksTold key numbers.now buffer.now lens.now slots.now image.now result told.new }
 {
-    let n = numbers::load(numbers);
+    let n = words::load(numbers);
     let t = look_told(find::look_up_lent(n, lens, slots, buffer, image, key));
     *told = [t.first, t.second];
     t.refusal
@@ -111,7 +111,7 @@ pub extern "C" fn vehinoke_block_report(
 ) -> u32
     ensures { ReportsTold block numbers.now erases.now image.now result told.new }
 {
-    let n = numbers::load(numbers);
+    let n = words::load(numbers);
     let t = report_told(report::block_report_lent(n, erases, image, block));
     *told = [t.free, t.first, t.erases];
     t.refusal

@@ -1,7 +1,7 @@
 // Forecast.
 ghost use Rattle.exports.specs.Calls.{ForecastsTold};
 
-use crate::numbers;
+use crate::words;
 use store::{answer, forecast};
 
 // Forecast: the refusal, and in `ops` the operations that a commit made now would tell: data programs, marks set, erases; zeros with a refusal.
@@ -16,7 +16,7 @@ pub extern "C" fn vehinoke_forecast<'a>(
 ) -> u32
     ensures { ForecastsTold numbers.now buffer.now lens.now slots.now image.now result ops.new }
 {
-    let n = numbers::load(numbers);
+    let n = words::load(numbers);
     let f = forecast::forecast_lent(n, lens, slots, buffer, image);
     let a = f.answer;
     let foretold = f.ops;

@@ -3,7 +3,7 @@ ghost use Rattle.std.specs.Prelude.{◌≡◌};
 ghost use Rattle.chip.specs.Page.{is_free};
 ghost use Rattle.exports.specs.Words.{bit};
 
-use crate::numbers;
+use crate::words;
 use chip::page;
 
 // Are all bytes of the page 255: 1, else 0. It ends at the first byte that is not.
@@ -11,5 +11,5 @@ use chip::page;
 pub extern "C" fn vehinoke_is_free(page: &[u8]) -> u32
     ensures { result ≡ bit (is_free page.now) }
 {
-    numbers::word(page::is_free(page))
+    words::word(page::is_free(page))
 }

@@ -6,6 +6,6 @@
 pub mod finds;
 pub mod forecast;
 pub mod free;
-mod numbers;
 pub mod updates;
+mod words;
 pub mod writes;

@@ -1,7 +1,7 @@
 // Insert and delete.
 ghost use Rattle.exports.specs.Calls.{InsertsTold, DeletesTold};
 
-use crate::numbers;
+use crate::words;
 use store::{answer, update};
 
 // Insert: the refusal; accepted, the numbers, the free node numbers and the buffer have the update.
@@ -19,13 +19,13 @@ pub extern "C" fn vehinoke_insert<'a>(
     ensures { InsertsTold key value numbers.old free.old buffer.old lens.now slots.now image.now
         result numbers.new free.new buffer.new }
 {
-    let n = numbers::load_free(numbers, free);
+    let n = words::load_free(numbers, free);
     let u = update::insert_lent(n, lens, slots, buffer, image, key, value);
     let a = u.answer;
     let after = u.numbers;
     let left = after.free;
     *free = left;
-    numbers::save(after, numbers);
+    words::save(after, numbers);
     answer::number(a)
 }
 
@@ -43,12 +43,12 @@ pub extern "C" fn vehinoke_delete<'a>(
     ensures { DeletesTold key numbers.old free.old buffer.old lens.now slots.now image.now
         result numbers.new free.new buffer.new }
 {
-    let n = numbers::load_free(numbers, free);
+    let n = words::load_free(numbers, free);
     let u = update::delete_lent(n, lens, slots, buffer, image, key);
     let a = u.answer;
     let after = u.numbers;
     let left = after.free;
     *free = left;
-    numbers::save(after, numbers);
+    words::save(after, numbers);
     answer::number(a)
 }

@@ -2,7 +2,7 @@
 ghost use Rattle.std.specs.Prelude.{◌≡◌, [], ◌∷◌};
 ghost use Rattle.exports.specs.Calls.{Tells, FormatsTold, MountsTold, RebuildsTold, CommitsTold};
 
-use crate::numbers;
+use crate::words;
 use store::state::WroteParts;
 use store::{answer, commit, format, mount, rebuild};
 
@@ -12,7 +12,7 @@ fn give(wrote: WroteParts, numbers: &mut [u32; 6], ops: &mut [u32; 3]) -> u32
 {
     let a = wrote.answer;
     let after = wrote.numbers;
-    numbers::save(after, numbers);
+    words::save(after, numbers);
     let done = wrote.ops;
     *ops = [done.programs, done.marks, done.erases];
     answer::number(a)
@@ -47,8 +47,8 @@ pub extern "C" fn vehinoke_format(
     if 1 < part {
         return no_part(ops);
     }
-    let nand = numbers::part_in(part);
-    let n = numbers::load_free(numbers, free);
+    let nand = words::part_in(part);
+    let n = words::load_free(numbers, free);
     let w = format::format_lent(n, nand, lens, slots, erases, image, torn, allowance);
     let after = w.numbers;
     let left = after.free;
@@ -76,8 +76,8 @@ pub extern "C" fn vehinoke_mount(
     if 1 < part {
         return no_part(ops);
     }
-    let nand = numbers::part_in(part);
-    let n = numbers::load_free(numbers, free);
+    let nand = words::part_in(part);
+    let n = words::load_free(numbers, free);
     let w = mount::mount_lent(n, nand, lens, slots, erases, image, torn, allowance);
     let after = w.numbers;
     let left = after.free;
@@ -105,8 +105,8 @@ pub extern "C" fn vehinoke_rebuild(
     if 1 < part {
         return no_part(ops);
     }
-    let nand = numbers::part_in(part);
-    let n = numbers::load_free(numbers, free);
+    let nand = words::part_in(part);
+    let n = words::load_free(numbers, free);
     let w = rebuild::rebuild_lent(n, nand, lens, slots, erases, image, torn, allowance);
     let after = w.numbers;
     let left = after.free;
@@ -130,7 +130,7 @@ pub extern "C" fn vehinoke_commit(
     ensures { CommitsTold allowance torn.now numbers.old buffer.now lens.old slots.old erases.old image.old
         result ops.new numbers.new lens.new slots.new erases.new image.new }
 {
-    let n = numbers::load(numbers);
+    let n = words::load(numbers);
     let w = commit::commit_lent(n, lens, slots, erases, buffer, image, torn, allowance);
     give(w, numbers, ops)
 }

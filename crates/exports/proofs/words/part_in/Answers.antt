@@ -1,6 +1,6 @@
 use mathlib.Core.Path.{refl}
 use borrow.Author.Tests.{eq-eqb, ne_eqb}
-use Rattle.exports.proofs.numbers.part_in.Goals as goal
+use Rattle.exports.proofs.words.part_in.Goals as goal
 
 pub returns-then-word-eq1 : goal.returns-then-word-eq1
 returns-then-word-eq1 c = rw (eq-eqb _ 1 c.if-word-eq1.true) refl
