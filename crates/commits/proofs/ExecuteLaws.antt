@@ -34,7 +34,7 @@ use Rattle.journal.proofs.ContentsLaws.{page_same}
 use Rattle.journal.proofs.AssignedChoice.{Chip, Committable}
 use Rattle.journal.proofs.PlanKept.{chip_of, wide, ready}
 use Rattle.journal.proofs.AdmissibleLaws.{Safe}
-use Rattle.journal.proofs.PolicyLaws.{foreign}
+use Rattle.journal.proofs.PolicyCommits.{foreign}
 use Rattle.contents.specs.ContentsCode.{contents_in}
 use Rattle.plan.specs.declared.make.Plan as M
 use Rattle.plan.specs.MakeCode.{HoldsAssignment, LaysPlan, Makes, decision_of, page_count, unused_of}

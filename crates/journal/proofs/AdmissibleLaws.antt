@@ -36,7 +36,8 @@ use Rattle.journal.specs.Plan.{Plan, erases, count_from, head_block, is_used, ne
 use Rattle.journal.specs.Admissible.{Admissible, Target, Assigned, Assignment, Contents, contents_of, unwritten, stays_unused, page_packs, all_packs, candidate_places, plan_from, in_page, unused_blocks, written_of}
 use Rattle.journal.proofs.PlanBlocks.{Room, head_below, head_used, unused_all, unused_diff, unused_many}
 use Rattle.journal.proofs.PlanBound.{erases_few, commit_sized}
-use Rattle.journal.proofs.PlanNodes.{Fair, Suits, bare_node, nil_short, reset_first, rewrite_none, some_own, suits_anew, suits_own}
+use Rattle.journal.proofs.PlanNodes.{Fair, bare_node, nil_short, reset_first, rewrite_none, some_own}
+use Rattle.journal.proofs.PlanSuits.{Suits, suits_anew, suits_own}
 use Rattle.journal.proofs.PlanPacks.{length_sheets}
 use Rattle.journal.proofs.AssignedChoice.{Chip, Choice, Committable, cost_is, cut_safe, distinct, holds_ts, kept_after, left_unlisted, legal, ops_few, plan, room_new, room_old, views, written_few}
 use Rattle.journal.proofs.AssignedPages.{pages_apart, pages_lack, pages_of_lem}

@@ -38,7 +38,8 @@ use Rattle.journal.proofs.KindLaws.{length_ops}
 use Rattle.journal.proofs.PlanBlocks.{Room, room_moved, is_unused, unused_outside, unused_unlisted}
 use Rattle.journal.proofs.PlanLegal.{commit_legal}
 use Rattle.journal.proofs.PlanLive.{run_lives}
-use Rattle.journal.proofs.PlanNodes.{Fair, Suits, fair_whole}
+use Rattle.journal.proofs.PlanNodes.{Fair, fair_whole}
+use Rattle.journal.proofs.PlanSuits.{Suits}
 use Rattle.journal.proofs.PlanPacks.{ApartPacks, Full, Lacks, Of, distinct_groups, length_sheets, sheets_groups, sheets_packs, ungroup}
 use Rattle.journal.proofs.PlanPlaces.{In, places_blank, places_diff}
 

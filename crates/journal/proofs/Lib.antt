@@ -10,6 +10,7 @@ pub mod CommitLaws
 pub mod KindLaws
 pub mod EraseLaws
 pub mod PlanNodes
+pub mod PlanSuits
 pub mod PlanFair
 pub mod PlanPacks
 pub mod PlanPlaces
@@ -27,6 +28,7 @@ pub mod AssignedChoice
 pub mod AssignedRest
 pub mod AdmissibleLaws
 pub mod PolicyLaws
+pub mod PolicyCommits
 pub mod PolicyExamples
 pub mod RebuildBuffer
 pub mod RebuildBlocks

@@ -1,6 +1,5 @@
--- The policy's plans are admissible, and with room there is one: so all laws of a commit hold of the policy. Assumes nothing.
+-- The policy's plans are admissible, and with room there is one. Assumes nothing.
 use mathlib.Core.Path.{◌≡◌, refl, sym, ap, ap₂, ◌∙◌, subst}
-use mathlib.Core.Logic.{◌⊎◌, inl, inr}
 use mathlib.Core.Bool.{Bool, true, false, cond, ◌&&◌, ◌||◌, not}
 use mathlib.Core.List.{List, [], ◌∷◌, ◌++◌, map, foldl, append_assoc}
 use Prim.Native.Nat.{ℕ, zero, suc, ◌+◌, ◌-◌, ◌*◌, ◌/◌, ◌≤◌, ◌<◌}
@@ -10,16 +9,15 @@ use lib.Dec.{eqb, leb, ltb}
 use lib.ListN.{drop, length, length-append, length-drop, take, take-append-drop}
 use lib.Seq.{length-take-le, take-append-le}
 use borrow.Author.Tests.{ltb-true, eqb-false, le-leb, leb-false, leb-true, lt-ltb, ltb-false, not-true}
-use Rattle.lists.specs.Lists.{All, any, filter, flat, more, none, tab, Diff}
+use Rattle.lists.specs.Lists.{All, any, filter, flat, more, none, Diff}
 use Rattle.lists.proofs.Alls.{All-drop, All-filter, All-head, All-map, All-tail, All-take, All-zip, any_false, false_any}
 use Rattle.lists.proofs.Filters.{filter_is, filter_parts}
 use Rattle.lists.proofs.Flats.{flat_append, length_tab}
 use Rattle.lists.proofs.Tests.{and_intro, cases, clash}
-use Rattle.lists.proofs.Sets.{Mem, at_most, diff_drop, diff_filter, diff_split, eqb_mem, length_take_n, mem_all, mem_at, mem_filter, tab_at, tab_diff, tab_mem, tab_range}
+use Rattle.lists.proofs.Sets.{at_most, diff_drop, diff_filter, diff_split, eqb_mem, length_take_n, mem_at, mem_filter, tab_at, tab_diff, tab_mem, tab_range}
 use Rattle.chip.specs.Geometry.{Geometry}
 use Rattle.chip.specs.Page.{Page}
 use Rattle.chip.specs.Chip.{in_block}
-use Rattle.chip.specs.Erases.{erases_in}
 use Rattle.chip.proofs.Sizes.{pages_pos}
 use Rattle.pages.specs.declared.unit.Unit as U
 use Rattle.pages.specs.declared.unit.Update.{Update}
@@ -28,19 +26,18 @@ use Rattle.views.specs.Table.{Node, fresh}
 use Rattle.views.specs.Groups.{is_reset, own, present, unit_for}
 use Rattle.views.proofs.Meanings.{kept_node, node_in, opened}
 use Rattle.journal.specs.Commit.{Pack, units_of_packs}
-use Rattle.journal.specs.Plan.{Plan, free_at, count_from, head_block, is_used, keep, news_of, node_at, ops_of, pages_in, places, rewrite, spare_blocks, stuck}
+use Rattle.journal.specs.Plan.{free_at, count_from, head_block, is_used, keep, node_at, pages_in, places, rewrite, spare_blocks}
 use Rattle.journal.specs.Admissible.{Admissible, Target, Assigned, Assignment, Contents, contents_of, unwritten, stays_unused, page_packs, candidate_places, in_page, goes_to, unused_blocks, written_of}
 use Rattle.journal.specs.Packing.{Packing, Sizes, delta_packing, fill_node, filled, is_unwritten, pack_node, packed, size_of, snapshot_packing, unpacked, widen_node, widened}
-use Rattle.journal.specs.Policy.{Decision, assignment_of, decide, plan_of, follow, has_places, in_first, is_forced, nothing, plan_by, sizes_of, used_blocks}
+use Rattle.journal.specs.Policy.{Decision, assignment_of, decide, follow, has_places, in_first, is_forced, nothing, sizes_of, used_blocks}
 use Rattle.journal.proofs.PlanBlocks.{Room, head_below, head_used, unused_all, unused_diff, unused_many, unused_unlisted}
-use Rattle.journal.proofs.PlanNodes.{Fair, Suits, length_rewrite, suits_anew}
+use Rattle.journal.proofs.PlanNodes.{Fair, length_rewrite}
+use Rattle.journal.proofs.PlanSuits.{Suits, suits_anew}
 use Rattle.journal.proofs.PlanPacks.{size_units}
 use Rattle.journal.proofs.PlanPlaces.{Origin, length_places, new, old, out_block, places_from}
 use Rattle.journal.proofs.PackingLaws.{Below, Done, Fine, Good, Half, empty, fill_count, fill_good, fill_still, filled_length, load, pack_done, pack_good, pack_half, pack_still, with_page, share, sum, sum_most, widen_count, widen_good, widen_still}
 use Rattle.journal.proofs.ContentsLaws.{below_all}
-use Rattle.journal.proofs.AdmissibleLaws.{Safe, image_after, node_after, safe}
 use Rattle.journal.proofs.AssignedChoice.{Chip, Committable}
-use Rattle.journal.proofs.EraseLaws.{commit_erases, erased_others}
 
 -- ---- folds
 fold_keeps : (P : Packing → Type 0) (limit : ℕ) (step : Packing → ℕ → Packing) → ((S : Packing) (n : ℕ) → n < limit → P S → P (step S n))
@@ -441,58 +438,9 @@ module _ {g : Geometry} {limit B : ℕ} {torn : List ℕ} (ch : Chip g limit B t
       (λ v. by_plan (assignment_of Z) (rw (t, v)) (snapshot_admissible wide (leb-true (suc (length Z.rooms)) (length (places g ps hd (take h un))) v)))
       (λ v. no_plan (rw (t, v))))
 
-  decided_by : (d : Decision) → Decided d → (q : Plan) → q ≡ plan_by g limit B ps tb G (contents_of T us) d → 0 < length us → (q ≡ stuck) ⊎ Safe g limit B h torn ps tb G us q
-  decided_by d (no_plan e) q i pending = inl (i ∙ ap (plan_by g limit B ps tb G (contents_of T us)) e)
-  decided_by d (by_plan A e a) q i pending =
-      inr (subst (Safe g limit B h torn ps tb G us) (sym (i ∙ ap (plan_by g limit B ps tb G (contents_of T us)) e)) (safe g limit B torn ch ps tb G us rd pending A a))
-
   -- with room: there is a plan
-  room_plan : Room g B h tb G (live_from g 0 ps) → (A : Assignment) × (decide g limit B ps tb G (contents_of T us) ≡ follow A)
+  pub room_plan : Room g B h tb G (live_from g 0 ps) → (A : Assignment) × (decide g limit B ps tb G (contents_of T us) ≡ follow A)
   room_plan room =
       cases (has_places g ps hd (take kd un) (assignment_of D))
       (λ t. (assignment_of D, rw t))
       (λ t. let v = le-leb (suc (length Z.rooms)) (length (places g ps hd (take h un))) (snap_enough room) in (assignment_of Z, rw (t, v)))
-
-  not_both : (A : Assignment) (d : Decision) → d ≡ follow A → d ≡ nothing → ⊥
-  not_both A d e f = let y : ◌≡◌ {A = ℕ} 0 1 = cc in omega arith
-
-  room_by : (d : Decision) → Decided d → (A : Assignment) → d ≡ follow A → 0 < length us → Safe g limit B h torn ps tb G us (plan_by g limit B ps tb G (contents_of T us) d)
-  room_by d (no_plan f) A e pending = absurd (not_both A d e f)
-  room_by d (by_plan C e a) A f pending =
-      subst (Safe g limit B h torn ps tb G us) (sym (ap (plan_by g limit B ps tb G (contents_of T us)) e)) (safe g limit B torn ch ps tb G us rd pending C a)
-
--- ---- the laws of a commit, of the plan that the policy decides on
-module _ (g : Geometry) (limit B : ℕ) (torn : List ℕ) (ch : Chip g limit B torn)
-    (ps : List Page) (tb : List Node) (G : ℕ) (us : List U.Unit) (rd : Committable g limit B ps tb G us)
-    (pending : 0 < length us) (wide : 2 * spare_blocks g B + 1 ≤ B) where
-  -- any chip: nothing is done, or all is well
-  pub foreign : (plan_of g limit B ps tb G us ≡ stuck) ⊎ Safe g limit B (spare_blocks g B) torn ps tb G us (plan_of g limit B ps tb G us)
-  foreign = decided_by ch rd (decide g limit B ps tb G (contents_of (node_at tb) us)) (decided ch rd wide) (plan_of g limit B ps tb G us) refl pending
-
-  -- with room: all is well
-  pub committed : Room g B (spare_blocks g B) tb G (live_from g 0 ps) → Safe g limit B (spare_blocks g B) torn ps tb G us (plan_of g limit B ps tb G us)
-  committed room =
-      let p = room_plan ch rd room in
-      room_by ch rd (decide g limit B ps tb G (contents_of (node_at tb) us)) (decided ch rd wide) p.0 p.1 pending
-
--- after a finished commit of any safe plan, the policy's next plan erases no block that it erased
-pub rests_next : (g : Geometry) (limit B h : ℕ) (torn : List ℕ) (ps : List Page) (tb : List Node) (G : ℕ) (us : List U.Unit) (q : Plan)
-    → Safe g limit B h torn ps tb G us q → (n : ℕ) → length (ops_of g G q) ≤ n → (vs : List U.Unit)
-    → (b : ℕ) → 0 < erases_in b (ops_of g G q)
-    → erases_in b (ops_of g (suc G) (plan_of g limit B (image_after g torn ps G q n) (tab 0 limit (node_after g limit ps G q)) (suc G) vs)) ≡ 0
-rests_next g limit B h torn ps tb G us q s n l vs b e =
-    commit_erases b next.erased (news_of g (suc G) next)
-    ∙ erased_others b q.erased next.erased (go (decide g limit B qs qt (suc G) (contents_of (node_at qt) vs))) (omega (arith, commit_erases b q.erased (news_of g G q)))
-  where
-    qs : List Page
-    qs = image_after g torn ps G q n
-
-    qt : List Node
-    qt = tab 0 limit (node_after g limit ps G q)
-
-    next : Plan
-    next = plan_of g limit B qs qt (suc G) vs
-
-    go : (d : Decision) → All (λ b. Mem b (plan_by g limit B qs qt (suc G) (contents_of (node_at qt) vs) d).erased → ⊥) q.erased
-    go nothing = mem_all q.erased (λ b m k. let z : Mem b [] = k in mem_at {P = λ x. ⊥} z none)
-    go (follow A) = s.rests n l (contents_of (node_at qt) vs) A

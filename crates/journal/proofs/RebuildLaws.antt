@@ -36,7 +36,8 @@ use Rattle.journal.proofs.PackingLaws.{load}
 use Rattle.journal.proofs.PlanBlocks.{Room}
 use Rattle.journal.proofs.PlanBound.{commit_sized}
 use Rattle.journal.proofs.PlanKept.{spare_few}
-use Rattle.journal.proofs.PlanNodes.{Fair, bare_node, length_rewrite, nil_short, reset_first, rewrite_none, suits_anew}
+use Rattle.journal.proofs.PlanNodes.{Fair, bare_node, length_rewrite, nil_short, reset_first, rewrite_none}
+use Rattle.journal.proofs.PlanSuits.{suits_anew}
 use Rattle.journal.proofs.PlanPacks.{length_sheets}
 use Rattle.journal.proofs.PlanPlaces.{Origin, new, old, out_block, places_from}
 use Rattle.journal.proofs.PolicyLaws.{Result, is_assigned, page_load, snapshot_few, updates_size}

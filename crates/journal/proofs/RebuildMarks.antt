@@ -2,10 +2,10 @@
 use mathlib.Core.Path.{◌≡◌, refl, sym, ap, ◌∙◌, subst}
 use mathlib.Core.Bool.{Bool, true, false}
 use mathlib.Core.List.{List, [], ◌∷◌, ◌++◌, append-nil, map}
-use Prim.Native.Nat.{ℕ, zero, suc, ◌-◌, ◌≤◌, ◌<◌}
+use Prim.Native.Nat.{ℕ, zero, suc, ◌+◌, ◌-◌, ◌≤◌, ◌<◌}
 use native.Mathlib.Omega.{arith}
 use lib.Dec.{eqb, leb}
-use lib.ListN.{length, take}
+use lib.ListN.{length, length-append, take}
 use borrow.Author.Tests.{eqb-false, eqb-true}
 use Rattle.lists.specs.Lists.{All, all, flat, modify, more, none}
 use Rattle.lists.proofs.Alls.{All-head, All-map, All-right, All-tail}
@@ -24,10 +24,10 @@ use Rattle.views.specs.Nodes.{View}
 use Rattle.views.proofs.Meanings.{in_order}
 use Rattle.views.proofs.ViewLaws.{Apart}
 use Rattle.journal.specs.Mount.{lower_place, mount_ops, retire, void_pages}
-use Rattle.journal.specs.Plan.{count_from, free_at, pages_in, sheets, wholly_free}
+use Rattle.journal.specs.Plan.{count_from, free_at, ops_of, pages_in, sheets, wholly_free}
 use Rattle.journal.specs.Admissible.{all_packs}
 use Rattle.journal.specs.Policy.{snapshot_assignment}
-use Rattle.journal.specs.Rebuild.{contents_anew, eighth, free_blocks, has_free_blocks, rebuild_plan}
+use Rattle.journal.specs.Rebuild.{contents_anew, eighth, free_blocks, has_free_blocks, rebuild_ops, rebuild_plan}
 use Rattle.journal.proofs.ContentsLaws.{below_all}
 use Rattle.journal.proofs.MountLaws.{void_apart}
 use Rattle.journal.proofs.PackingLaws.{get_d_modify_other}
@@ -150,3 +150,7 @@ module _ (g : Geometry) (ps : List Page) where
   rebuild_same limit B w =
       ap (λ (bs : List ℕ). record { erased = []; written = sheets (flat (pages_in g) (take (eighth B) bs)) (all_packs (contents_anew w) (snapshot_assignment g limit (contents_anew w)) limit) })
       (blocks_same B)
+
+  -- as many operations as marks and those of the commit
+  pub rebuild_length : (limit B G : ℕ) (w : ℕ → View) → length (rebuild_ops g limit B ps G w) ≡ length (mount_ops g ps) + length (ops_of g G (rebuild_plan g limit B ps w))
+  rebuild_length limit B G w = length-append (mount_ops g ps) (ops_of g G (rebuild_plan g limit B ps w))

@@ -5,7 +5,7 @@ use mathlib.Core.List.{List, foldl}
 use Prim.Native.Nat.{ℕ, suc, ◌+◌, ◌-◌, ◌*◌, ◌≤◌, ◌<◌}
 use native.Mathlib.Omega.{arith}
 use lib.Dec.{eqb, leb, ltb}
-use lib.ListN.{get_or, length, length-append}
+use lib.ListN.{get_or, length}
 use borrow.Author.Tests.{eq-eqb, eqb-true, le-leb, leb-true, lt-leb, ltb-false, ltb-true, ne_eqb}
 use Rattle.lists.specs.Lists.{All, tab}
 use Rattle.lists.proofs.Tests.{cases, clash, same_test}
@@ -29,7 +29,7 @@ use Rattle.journal.proofs.MountLaws.{mount_clean, mount_erases, mount_keeps, mou
 use Rattle.journal.proofs.PlanBlocks.{Room}
 use Rattle.journal.proofs.PlanRoom.{room_marks}
 use Rattle.journal.proofs.RebuildLaws.{Renewable, Renews, renews}
-use Rattle.journal.proofs.RebuildMarks.{has_same, legal_append, marks_sized, rebuild_same, run_all, run_past, run_within, unvoided, void_differ, void_live}
+use Rattle.journal.proofs.RebuildMarks.{has_same, legal_append, marks_sized, rebuild_length, rebuild_same, run_all, run_past, run_within, unvoided, void_differ, void_live}
 
 -- ---- the image after n operations, and node m as the new commit has it
 abbrev pub image_rebuilt : Geometry → ℕ → ℕ → List ℕ → List Page → ℕ → (ℕ → View) → ℕ → List Page
@@ -97,7 +97,7 @@ module _ {g : Geometry} {limit B : ℕ} {torn : List ℕ} (ch : Chip g limit B t
   I n = image_rebuilt g limit B torn ps G w n
 
   ops_are : all_ops ≡ m + k
-  ops_are = length-append (mount_ops g ps) (ops_of g G Q)
+  ops_are = rebuild_length g ps limit B G w
 
   -- ---- after the marks
   unvoids_by : (n : ℕ) → m ≤ n → (mounted_by g torn n ps).pages ≡ unvoided g ps

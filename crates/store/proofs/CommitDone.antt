@@ -34,7 +34,7 @@ use Rattle.journal.specs.Plan.{Plan, is_empty, news_of, node_at, ops_of, spare_b
 use Rattle.journal.specs.Policy.{plan_of}
 use Rattle.journal.proofs.EraseLaws.{commit_erases, erased_none, erased_on}
 use Rattle.journal.proofs.AdmissibleLaws.{Safe, image_after, node_after}
-use Rattle.journal.proofs.PolicyLaws.{rests_next}
+use Rattle.journal.proofs.PolicyCommits.{rests_next}
 use Rattle.promise.specs.Image.{views_of, by_six, image_meaning}
 use Rattle.promise.specs.Calls as P
 use Rattle.store.specs.declared.state.State.{State}

@@ -39,7 +39,7 @@ use Rattle.store.specs.AdmitCode.{ChipOf}
 use Rattle.store.specs.State.{contents_at, limit_of, node_from, nodes_of, paged, plan_at, units_of, present_of, Good, RoomIn, Room, commit_ops}
 use Rattle.store.specs.Ensured.{the_ops}
 use Rattle.store.proofs.SettledViews.{image_bytes}
-use Rattle.store.proofs.UpdateLaws.{units_many}
+use Rattle.store.proofs.PushedState.{units_many}
 use Rattle.store.proofs.CommitPlan.{plan_some}
 use Rattle.store.proofs.PlanRead.{paged_is}
 

@@ -10,7 +10,7 @@ use Rattle.chip.specs.Chip.{pages_of}
 use Rattle.journal.specs.Plan.{Plan, is_empty, spare_blocks, stuck}
 use Rattle.journal.proofs.PlanKept.{chip_of, wide}
 use Rattle.journal.proofs.AdmissibleLaws.{Safe}
-use Rattle.journal.proofs.PolicyLaws.{committed, foreign}
+use Rattle.journal.proofs.PolicyCommits.{committed, foreign}
 use Rattle.store.specs.declared.state.State.{State}
 use Rattle.store.specs.State.{limit_of, nodes_of, units_of, Good, Room, plan_at}
 use Rattle.store.proofs.CommitPlan.{safe_some}

@@ -16,6 +16,7 @@ pub mod StartTree
 pub mod LookLaws
 pub mod Wholes
 pub mod UpdateTests
+pub mod PushedState
 pub mod UpdateLaws
 pub mod CommitTests
 pub mod CommitPlan

@@ -1,74 +1,45 @@
 -- A good state after an insert or a delete. Assumes nothing.
-use mathlib.Core.Path.{◌≡◌, refl, sym, ap, ap₂, subst, ◌∙◌}
+use mathlib.Core.Path.{◌≡◌, refl, sym, ap, subst, ◌∙◌}
 use mathlib.Core.Bool.{Bool, true, false}
-use mathlib.Core.List.{List, [], ◌∷◌, ◌++◌, map}
+use mathlib.Core.List.{List}
 use Prim.Native.Nat.{ℕ, suc, ◌*◌, ◌<◌, ◌≤◌}
-use native.Mathlib.Numerals.{add-one}
 use native.Mathlib.Omega.{arith}
-use lib.ListN.{length, length-append, length-map}
 use Rattle.lists.specs.Lists.{All}
 use Rattle.lists.proofs.Tests.{clash}
-use Rattle.lists.proofs.Alls.{All-zip, All-append}
+use Rattle.lists.proofs.Alls.{All-zip}
 use Rattle.chip.specs.Geometry.{Geometry}
 use Rattle.pages.specs.declared.unit.Unit as U
-use Rattle.pages.specs.declared.unit.Decoded.TheVariants as D
-use Rattle.pages.specs.Units.{decodes, ValidUpdate, Valid}
-use Rattle.views.specs.Nodes.{Entry}
-use Rattle.views.proofs.TableLaws.{length_decodes}
+use Rattle.pages.specs.Units.{ValidUpdate, Valid}
 use Rattle.tree.specs.declared.insert.Inserted.{Inserted}
 use Rattle.tree.specs.declared.delete.Deleted.{Deleted}
-use Rattle.tree.specs.Tree.{Table, entries_at, next, find, is_absent}
+use Rattle.tree.specs.Tree.{Table, next, find, is_absent}
 use Rattle.tree.specs.Insert.{inserted, TreeStep, refusal, done, insert}
 use Rattle.tree.specs.Delete.{delete}
-use Rattle.tree.specs.Step6.{top, Tree}
+use Rattle.tree.specs.Step6.{top}
 use Rattle.tree.specs.InsertUnits.{insert_units}
 use Rattle.tree.specs.DeleteUnits.{delete_units}
-use Rattle.tree.specs.Thick.{thin}
-use Rattle.tree.specs.Free.{free_numbers}
 use Rattle.tree.specs.UpdateCode.{Ready, Stepped, Inserts, Deletes}
 use Rattle.tree.proofs.Laws.{thin_thick, thick_thin, inserted_keeps, inserted_thick, insert_done, insert_units_lem, delete_keeps, delete_thick, delete_units_lem}
 use Rattle.promise.specs.Plain as P
 use Rattle.promise.specs.Plain.{refuses, accepted, when, is_refused, table_after, insertion, deletion, updated}
-use Rattle.promise.specs.Calls.{tree_in, state_of}
-use Rattle.promise.specs.Image.{image_meaning}
+use Rattle.promise.specs.Calls.{state_of}
 use Rattle.store.specs.declared.answer.Answer.{Answer}
 use Rattle.store.specs.declared.answer.Answer.TheVariants.{Accepted, Absent, Nodes}
 use Rattle.store.specs.declared.state.State.{State}
 use Rattle.store.specs.declared.state.Updated.{Updated}
 use Rattle.store.specs.Answers.{answer_of}
-use Rattle.store.specs.State.{limit_of, nodes_of, goods, units_of, present_of, Good, geometry_in}
+use Rattle.store.specs.State.{limit_of, units_of, present_of, Good, geometry_in}
 use Rattle.store.specs.Ensured.{index, KeepsBounds}
 use Rattle.store.specs.UpdateCode.{Stays, with_units, InsertsIn, DeletesIn}
 use Rattle.store.proofs.StartTree.{present_next, good_low}
-use Rattle.store.proofs.Wholes.{Whole, whole_inserted, whole_deleted, some_inserted, some_deleted}
-
--- keys and values of 32 bits
-abbrev Words : Table → Type 0
-Words t = (n : ℕ) → All (λ (e : Entry). (e.key < top) × (e.value < top)) (entries_at t n)
-
--- ---- the units of a buffer
-goods_good : (us : List U.Unit) → goods (map D.Good us) ≡ us
-goods_good [] = refl
-goods_good (u ∷ us) = rw (goods_good us)
-
-pub units_many : (limit n : ℕ) (b : List ℕ) (us : List U.Unit) → decodes limit n b ≡ map D.Good us → n ≡ length us
-units_many limit n b us e = sym (length_decodes limit n b) ∙ ap length e ∙ length-map us D.Good
+use Rattle.store.proofs.Wholes.{whole_inserted, whole_deleted, some_inserted, some_deleted}
+use Rattle.store.proofs.PushedState.{Pushed, stays}
 
 -- units of nodes below the limit, whose updates the layout allows
 valid_units : (limit m : ℕ) → m ≤ limit → {us : List U.Unit} → All (λ (x : U.Unit). x.node < m) us → All (λ (x : U.Unit). ValidUpdate x.update) us → All (Valid limit) us
 valid_units limit m h a b = All-zip (λ x p q. record { node = omega arith; update = q }) a b
 
--- ---- the state after an update
--- us behind the units of the buffer make the table t
-pub record Pushed (g : Geometry) (s : State) (i new : List ℕ) (used : ℕ) (free : List ℕ) (us : List U.Unit) (t : Table) : Type 0 where
-  pub stepped : Stepped g i s.lens s.slots (limit_of s) s.count (units_of s) us t new free used
-  pub valid : All (Valid (limit_of s)) us
-  pub some : 0 < length us
-  pub tree : Tree t
-  pub words : Words t
-  pub whole : Whole t
-  pub thick : thin t ≡ false
-
+-- ---- a good state is ready for an update
 module _ (s : State) (i : List ℕ) (G : Good (geometry_in s) s i) (low : s.pending < 16) where
   abbrev g : Geometry
   g = geometry_in s
@@ -83,55 +54,6 @@ module _ (s : State) (i : List ℕ) (G : Good (geometry_in s) s i) (low : s.pend
         units = G.units;
         room = omega (arith, G.few);
       }
-
-  module _ (new : List ℕ) (used : ℕ) (free : List ℕ) (us : List U.Unit) (t : Table) (p : Pushed g s i new used free us t) where
-    table_after_lem : present_of g (with_units s new used free) i ≡ t
-    unfolding present_of
-    table_after_lem = p.stepped.table
-
-    units_after : units_of (with_units s new used free) ≡ units_of s ++ us
-    unfolding units_of
-    units_after = ap goods p.stepped.units ∙ goods_good (goods (decodes (limit_of s) s.count s.buffer) ++ us)
-
-    good_after : Good g (with_units s new used free) i
-    unfolding nodes_of
-    good_after =
-        record {
-          blocks = G.blocks;
-          chip = G.chip;
-          short = G.short;
-          means = G.means;
-          clean = G.clean;
-          kept = G.kept;
-          units = p.stepped.units ∙ ap (map D.Good) (sym units_after);
-          valid = subst (All (Valid (limit_of s))) (sym units_after) (All-append G.valid p.valid);
-          few = omega (arith, G.few, p.stepped.few);
-          some = λ _. omega (arith, units_many (limit_of s) used new (units_of s ++ us) p.stepped.units, length-append (units_of s) us, p.some);
-          pending = omega (arith, low);
-          tree = subst Tree (sym table_after_lem) p.tree;
-          words = subst Words (sym table_after_lem) p.words;
-          whole = subst Whole (sym table_after_lem) p.whole;
-          thick = ap thin table_after_lem ∙ p.thick;
-          free = p.stepped.numbers ∙ ap free_numbers (sym table_after_lem);
-          past = G.past;
-        }
-
-    means_after : state_of index (with_units s new used free) i ≡ updated t (state_of index s i)
-    unfolding state_of updated
-    means_after =
-        ap₂ (λ (q : Table) (n : ℕ). record {
-          kept = tree_in (image_meaning g i);
-          present = q;
-          pending = n;
-          number = s.commit;
-          on = s.on;
-          nand = s.nand;
-          blocks = s.blocks;
-        })
-        table_after_lem (add-one s.pending)
-
-    pub stays : Stays (with_units s new used free) i (updated t (state_of index s i))
-    stays = record { is = means_after; good = good_after }
 
 -- ---- an insert and a delete of the tree, pushed
 module _ (g : Geometry) (k : ℕ) (s : State) (i new : List ℕ) (used : ℕ) (free : List ℕ) (G : Good g s i) (hk : k < top) where
