@@ -133,7 +133,9 @@ module _ (torn : List ℕ) where
       → k < length bytes → get_or bytes k 0 ≡ 10 → TakesIn torn (take k bytes) l₀ s₀ i₀ l s i → EndsUntold torn l s i j → TakesFirst torn bytes l₀ s₀ i₀ j
   first_feed bytes l₀ s₀ i₀ k l s i j m q a u =
       record {
-        count = k + 1;
+        feed = k;
+        within = m;
+        is = q;
         state = u.state;
         calls =
             subst (λ (cs : List ℕ). CallsIn torn cs l₀ s₀ i₀ u.state j) (sym (ap (λ (n : ℕ). take n bytes) (add-one k) ∙ take-suc bytes k 0 m))

@@ -1,5 +1,5 @@
 -- What the bytes of standard input do to the store: each line that ends is taken as a frame, and the call of a frame is one step.
-use Rattle.std.specs.Prelude.{List, [], ◌∷◌, ℕ, take}
+use Rattle.std.specs.Prelude.{◌≡◌, List, [], ◌∷◌, ℕ, ◌+◌, ◌<◌, length, take, slice_index}
 use Rattle.lists.specs.Lists.{flat}
 use Rattle.store.specs.declared.state.State.{State}
 use Rattle.store.specs.declared.step.Call.{Call}
@@ -47,11 +47,13 @@ pub record EndsUntold (torn : List ℕ) (l : Line) (s : State) (i i' : List ℕ)
 unfoldable pub CallsIn : (torn bytes : List ℕ) (l : Line) (s : State) (i : List ℕ) (s' : State) (i' : List ℕ) → Type 0
 CallsIn torn bytes l s i s' i' = (begun : List ℕ) → LineHolds l begun → RunsTo torn (calls_in (lines_in begun bytes)) s i s' i'
 
--- of the bytes read the first `count` were taken
+-- of the bytes read those up to the line feed at `feed` were taken, and the line that it ends was not answered
 pub record TakesFirst (torn bytes : List ℕ) (l : Line) (s : State) (i i' : List ℕ) : Type 0 where
-  pub count : ℕ
+  pub feed : ℕ
+  pub within : feed < length bytes
+  pub is : slice_index bytes feed ≡ 10
   pub state : State
-  pub calls : CallsIn torn (take count bytes) l s i state i'
+  pub calls : CallsIn torn (take (feed + 1) bytes) l s i state i'
 
 -- some bytes were taken
 pub record TakesPart (torn : List ℕ) (l : Line) (s : State) (i i' : List ℕ) : Type 0 where

@@ -4,7 +4,7 @@ use lib.ListN.{replicate-append-replicate, get_or-map, get_or-eq_default}
 use lib.Seq.{take-set-le}
 use Rattle.lists.specs.Lists.{At, map_from}
 use Rattle.lists.proofs.Tests.{cases, and_left}
-use Rattle.lists.proofs.Places.{At-mapFrom, get_d_same}
+use Rattle.lists.proofs.Places.{At-map_from, get_d_same}
 use Rattle.chip.specs.declared.page.Mark.{Mark}
 use Rattle.chip.specs.declared.page.Mark.TheVariants.{Used, Valid, Obsolete}
 use Rattle.chip.specs.Geometry.{Geometry}
@@ -148,7 +148,7 @@ module _ (g : Geometry) (u : ℕ) (d : List ℕ) (ld : length d ≡ g.area) wher
 fill_quiet : (g : Geometry) (b n : ℕ) (y x : Page) (ps : List Page) → is_live g y ≡ false → in_block g b n ≡ true → At n x ps
     → At n y (map_from 0 (filled g b y) ps)
 fill_quiet g b n y x ps q h a =
-    let r = At-mapFrom (filled g b y) 0 n x ps a in
+    let r = At-map_from (filled g b y) 0 n x ps a in
     let e : 0 + n ≡ n = omega arith in
     let k : At n (filled g b y n x) (map_from 0 (filled g b y) ps) = (rw e at r) in
     rw h at k

@@ -6,9 +6,9 @@ use lib.ListN.{length-map}
 use borrow.Author.Tests.{eqb-false}
 use Rattle.lists.specs.Lists.{All, none, more, At, map_from}
 use Rattle.lists.proofs.Tests.{cases}
-use Rattle.lists.proofs.Alls.{All-head, All-tail, All-modify, All-mapFrom}
-use Rattle.lists.proofs.Flats.{map-append}
-use Rattle.lists.proofs.Places.{length_modify, length_map_from, At-other, At-mapFrom}
+use Rattle.lists.proofs.Alls.{All-head, All-tail, All-modify, All-map_from}
+use Rattle.lists.proofs.Flats.{map_append}
+use Rattle.lists.proofs.Places.{length_modify, length_map_from, At-other, At-map_from}
 use Rattle.chip.specs.declared.power.Power.{Power}
 use Rattle.chip.specs.declared.power.Power.TheVariants.{Left, Gone}
 use Rattle.chip.specs.declared.operation.Kind.{Kind}
@@ -108,7 +108,7 @@ module _ (g : Geometry) (torn : List ℕ) where
   -- ---- an operation on a page leaves every other page
   fill_other : (b n : ℕ) (y x : Page) (ps : List Page) → in_block g b n ≡ false → At n x ps → At n x (map_from 0 (filled g b y) ps)
   fill_other b n y x ps h a =
-      let r = At-mapFrom (filled g b y) 0 n x ps a in
+      let r = At-map_from (filled g b y) 0 n x ps a in
       let e : 0 + n ≡ n = omega arith in
       let q : At n (filled g b y n x) (map_from 0 (filled g b y) ps) = (rw e at r) in
       rw h at q
@@ -163,7 +163,7 @@ module _ (g : Geometry) (torn : List ℕ) where
   ran_append os qs p q r xs ys zs a b =
       let between : q.left ≡ (run g torn (machine g p.left xs) os).power = ap (λ (m : Machine). m.power) a.is in
       let kinds : wholes p.left (kinds_of (os ++ qs)) ≡ wholes p.left (kinds_of os) ++ wholes q.left (kinds_of qs) =
-      ap (wholes p.left) (map-append kind_of os qs) ∙ run_wholes g torn (machine g p.left xs) os (kinds_of qs)
+      ap (wholes p.left) (map_append kind_of os qs) ∙ run_wholes g torn (machine g p.left xs) os (kinds_of qs)
       ∙ ap (λ (l : Power). wholes p.left (kinds_of os) ++ wholes l (kinds_of qs)) (sym between) in
       record {
         is = b.is ∙ ap (λ (m : Machine). run g torn m qs) a.is ∙ sym (run_append g torn (machine g p.left xs) os qs);
@@ -205,7 +205,7 @@ module _ (g : Geometry) (torn : List ℕ) (lt : length torn ≡ page_size g) whe
   pub whole_sized : (o : Op) (ps : List Page) → DataSized g o → All (Sized g) ps → All (Sized g) (whole g o ps)
   whole_sized (program p bytes) ps f h = All-modify p (programmed g bytes) (programmed_sized bytes f) ps h
   whole_sized (mark p m) ps f h = All-modify p (marked g m 0) (λ x e. length_marked g m 0 x ∙ e) ps h
-  whole_sized (erase b) ps f h = All-mapFrom 0 (filled g b (blank g)) (filled_sized b (blank g) (length_blank g)) ps h
+  whole_sized (erase b) ps f h = All-map_from 0 (filled g b (blank g)) (filled_sized b (blank g) (length_blank g)) ps h
 
   pub tear_sized : (o : Op) (ps : List Page) → All (Sized g) ps → All (Sized g) (tear g torn o ps)
   tear_sized (program p bytes) ps h =
@@ -213,7 +213,7 @@ module _ (g : Geometry) (torn : List ℕ) (lt : length torn ≡ page_size g) whe
   tear_sized (mark p m) ps h = All-modify p (marked g m (get_or torn 0 0)) (λ x e. length_marked g m (get_or torn 0 0) x ∙ e) ps h
   tear_sized (erase b) ps h =
       cases (eqb (get_or torn 0 0) 0) (λ t. rw t h)
-      (λ t. rw t (All-mapFrom 0 (filled g b (torn_page g torn)) (filled_sized b (torn_page g torn) (length_torn g torn lt)) ps h))
+      (λ t. rw t (All-map_from 0 (filled g b (torn_page g torn)) (filled_sized b (torn_page g torn) (length_torn g torn lt)) ps h))
 
   pub run_sized : (m : Machine) (os : List Op) → All (DataSized g) os → All (Sized g) m.pages → All (Sized g) (run g torn m os).pages
   run_sized m os f h = run_keeps g torn (All (Sized g)) os (keeps f) m h

@@ -61,10 +61,10 @@ pub fn execute(
         blocks: basis.blocks,
         number: basis.commit,
     };
-    figures::count_erases(new_erases, &plan.erased, plan.erases);
     let reached = carry::execute(
         image, plan, commit, &targets, &sizes, &units, torn, progress, new_lens, new_slots,
     );
+    figures::count_erases(new_erases, &plan.erased, plan.erases);
     let stuck = false;
     Ended { stuck, reached }
 }

@@ -6,7 +6,7 @@ use native.Mathlib.Omega.{arith}
 use lib.ListN.{drop, length, length-append, length-map, length-take, take}
 use lib.Seq.{take-nil}
 use Rattle.lists.specs.Lists.{patch}
-use Rattle.lists.proofs.Flats.{map-append}
+use Rattle.lists.proofs.Flats.{map_append}
 use Rattle.pages.specs.declared.unit.Update.{Update}
 use Rattle.pages.specs.declared.unit.Unit as U
 use Rattle.pages.specs.declared.unit.Decoded.{Decoded}
@@ -94,7 +94,7 @@ module _ (limit n count : ℕ) (p : List ℕ) (b₀ : List ℕ) where
         size = ap length a.is ∙ length_pushed b (17 * n + k) (map (unit_for n) us) fits ∙ l.size;
         is = ap₂ (λ (x : List ℕ) (m : ℕ). pushed x m (map (unit_for n) vs)) a.is at
             ∙ pushed_append b (17 * n + k) (map (unit_for n) us) (map (unit_for n) vs) fits
-            ∙ ap (pushed b (17 * n + k)) (sym (ap (map (unit_for n)) next ∙ map-append (unit_for n) us vs))
+            ∙ ap (pushed b (17 * n + k)) (sym (ap (map (unit_for n)) next ∙ map_append (unit_for n) us vs))
             ∙ l.is;
         number = omega (arith, a.count, l.number, ap length next ∙ length-append us vs);
       }

@@ -1,7 +1,7 @@
 -- The turns of the loops that erase the blocks of a plan and count the erases. Assumes nothing.
 use Rattle.std.proofs.Common.{◌≡◌, ℕ, zero, suc, ◌+◌, ◌%◌, ◌^◌, ◌<◌, List, [], ◌∷◌, ◌++◌, map, length, get_or, take, set, sym, ap, ◌∙◌, add-one, arith, take-suc}
 use Rattle.lists.specs.Lists.{All, more}
-use Rattle.lists.proofs.Flats.{map-append}
+use Rattle.lists.proofs.Flats.{map_append}
 use Rattle.chip.specs.declared.progress.Progress.{Progress}
 use Rattle.chip.specs.Geometry.{Geometry}
 use Rattle.chip.specs.Chip.{Op, erase}
@@ -19,7 +19,7 @@ first_at (suc n) (suc i) (x ∷ xs) (more h hs) l k = first_at n i xs hs (omega 
 
 -- one block more
 first_more : (bs : List ℕ) (i : ℕ) → i < length bs → map erase (take (i + 1) bs) ≡ map erase (take i bs) ++ (erase (get_or bs i 0) ∷ [])
-first_more bs i h = ap (λ (n : ℕ). map erase (take n bs)) (add-one i) ∙ ap (map erase) (take-suc bs i 0 h) ∙ map-append erase (take i bs) (get_or bs i 0 ∷ [])
+first_more bs i h = ap (λ (n : ℕ). map erase (take n bs)) (add-one i) ∙ ap (map erase) (take-suc bs i 0 h) ∙ map_append erase (take i bs) (get_or bs i 0 ∷ [])
 
 -- it is erased
 pub erased_more : (g : Geometry) (torn bs : List ℕ) (i : ℕ) (p q r : Progress) (xs ys zs : List ℕ) → i < length bs

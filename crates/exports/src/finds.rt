@@ -8,7 +8,7 @@ use store::answer::{Look, Report};
 use store::{find, report};
 
 // What a look up tells: its refusal, 0 for none, and two numbers, 0 where there are none.
-#[derive(Drop)]
+#[derive(Clone, Copy)]
 struct Told {
     refusal: u32,
     first: u32,

@@ -87,16 +87,16 @@ pub record Safe (g : Geometry) (limit B h : ℕ) (torn : List ℕ) (ps : List Pa
       → All (λ b. Mem b (plan_from g limit B (image_after g torn ps G q n) (tab 0 limit (node_after g limit ps G q)) (suc G) N A).erased → ⊥) q.erased
 
 -- ---- no plan erases a block that is used or wholly free
-no-erase : (g : Geometry) (ps : List Page) (ws bs : List ℕ) (tb : List Node) (G b : ℕ) → All (λ c. is_used g tb G (live_from g 0 ps) c ≡ false) bs
+no_erase : (g : Geometry) (ps : List Page) (ws bs : List ℕ) (tb : List Node) (G b : ℕ) → All (λ c. is_used g tb G (live_from g 0 ps) c ≡ false) bs
     → (is_used g tb G (live_from g 0 ps) b ≡ true) ⊎ (wholly_free g ps b ≡ true) → Mem b (erases g ps ws bs) → ⊥
-no-erase g ps ws bs tb G b a s m =
+no_erase g ps ws bs tb G b a s m =
     ⊎_elim {C = ⊥} (λ u. clash u (mem_at m (All-filter (is_reclaimed g ps ws) a)))
     (λ w. clash (and_right (any (in_block g b) ws) (not (wholly_free g ps b)) (mem_at m (filter_is (is_reclaimed g ps ws) bs))) (ap not w)) s
 
 pub no_plan : (g : Geometry) (limit B : ℕ) (ps : List Page) (tb : List Node) (G : ℕ) (N : Contents) (A : Assignment) (b : ℕ) → head_block g ps < B
     → (is_used g tb G (live_from g 0 ps) b ≡ true) ⊎ (wholly_free g ps b ≡ true) → Mem b (plan_from g limit B ps tb G N A).erased → ⊥
 no_plan g limit B ps tb G N A b l s m =
-    no-erase g ps (take (suc (length (all_packs N A limit))) (candidate_places g B ps tb G)) (unused_blocks g B ps tb G) tb G b
+    no_erase g ps (take (suc (length (all_packs N A limit))) (candidate_places g B ps tb G)) (unused_blocks g B ps tb G) tb G b
     (All-map (λ c h. h.2) (unused_all g B tb G (live_from g 0 ps) (head_block g ps) l)) s m
 
 -- a node without buffered units of which something is written begins with its reset

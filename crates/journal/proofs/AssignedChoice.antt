@@ -275,10 +275,10 @@ module _ {g : Geometry} {limit B : ℕ} {torn : List ℕ} (ch : Chip g limit B t
   pub legal : Legal g ps (commit_ops es news)
   legal =
       commit_legal g es news ps
-      (All-filter (is_reclaimed g ps ws) (All-map (λ b h. on-chip b h.0) C.are)) plan.sizes free apart
+      (All-filter (is_reclaimed g ps ws) (All-map (λ b h. on_chip b h.0) C.are)) plan.sizes free apart
     where
-      on-chip : (b : ℕ) → b < B → b * g.pages + g.pages ≤ length ps
-      on-chip b l = let m : suc b * g.pages ≤ B * g.pages = mul-le-mul_right g.pages l in omega (arith, rd.length_is)
+      on_chip : (b : ℕ) → b < B → b * g.pages + g.pages ≤ length ps
+      on_chip b l = let m : suc b * g.pages ≤ B * g.pages = mul-le-mul_right g.pages l in omega (arith, rd.length_is)
 
   -- ---- room
   no_new : (b : ℕ) → All (λ p. in_block g b p ≡ false) ws → All (λ x. in_block g b x.place ≡ false) news

@@ -7,7 +7,7 @@ use native.Mathlib.Omega.{arith}
 use lib.ListN.{length}
 use Rattle.lists.specs.Lists.{flat, all, All, none, more, tab}
 use Rattle.lists.proofs.Alls.{All-append, all_All}
-use Rattle.lists.proofs.Flats.{flat_append, map-append}
+use Rattle.lists.proofs.Flats.{flat_append, map_append}
 use Rattle.chip.specs.Geometry.{Geometry}
 use Rattle.pages.specs.declared.header.Head.{Head}
 use Rattle.pages.specs.declared.unit.Decoded.TheVariants.{Good}
@@ -69,7 +69,7 @@ packs_events : (p : ℕ) (ks : List Pack) → map (event_at p) (map Good (units_
 packs_events p [] = refl
 packs_events p (k ∷ ks) =
     let us : List U.Unit = map (unit_for k.node) k.updates in
-    ap (map (event_at p)) (map-append Good us (units_of_packs ks)) ∙ map-append (event_at p) (map Good us) (map Good (units_of_packs ks))
+    ap (map (event_at p)) (map_append Good us (units_of_packs ks)) ∙ map_append (event_at p) (map Good us) (map Good (units_of_packs ks))
     ∙ ap₂ ◌++◌ (one k.updates) (packs_events p ks)
   where
     one : (us : List Update) → map (event_at p) (map Good (map (unit_for k.node) us)) ≡ map (event_in (group_at p k)) us

@@ -13,8 +13,8 @@ use Rattle.lists.specs.Lists.{filter, All, none, more, At}
 use Rattle.lists.proofs.Tests.{cases}
 use Rattle.lists.proofs.Alls.{All-map, All-filter}
 use Rattle.lists.proofs.Filters.{filter_append}
-use Rattle.lists.proofs.Flats.{map-append}
-use Rattle.lists.proofs.Places.{At-getD, At-is}
+use Rattle.lists.proofs.Flats.{map_append}
+use Rattle.lists.proofs.Places.{At-get_or, At-is}
 use Rattle.chip.specs.declared.page.Mark.TheVariants.{Obsolete}
 use Rattle.chip.specs.declared.progress.Progress.{Progress}
 use Rattle.chip.specs.Geometry.{Geometry}
@@ -66,7 +66,7 @@ ops_more g c n ps h =
     ∙ ap (retire_ops g c) (take-suc ps n [] h)
     ∙ ap (λ (xs : List Live). map retire (filter (of_commit c) xs)) (live_last g 0 (take n ps) x)
     ∙ ap (map retire) (filter_append (of_commit c) (live_from g 0 (take n ps)) (cond (is_live g x) (live g (0 + length (take n ps)) x ∷ []) []))
-    ∙ map-append retire (filter (of_commit c) (live_from g 0 (take n ps))) (filter (of_commit c) (cond (is_live g x) (live g (0 + length (take n ps)) x ∷ []) []))
+    ∙ map_append retire (filter (of_commit c) (live_from g 0 (take n ps))) (filter (of_commit c) (cond (is_live g x) (live g (0 + length (take n ps)) x ∷ []) []))
     ∙ ap (λ (os : List Op). retire_ops g c (take n ps) ++ os) (ap (λ (m : ℕ). map retire (filter (of_commit c) (cond (is_live g x) (live g m x ∷ []) []))) z ∙ one_op g c n x)
 
 -- they touch no page from n on
@@ -79,7 +79,7 @@ pub untouched_page : (g : Geometry) (torn : List ℕ) (c n : ℕ) (m : Machine) 
 untouched_page g torn c n m ps e h =
     let l : length (take n ps) ≡ n = length-take-le n ps (omega arith) in
     let b : All (λ (x : Live). x.place < n) (live_from g 0 (take n ps)) = All-map (λ x q. omega (arith, l)) (places_below g 0 (take n ps)) in
-    run_other g torn m (retire_ops g c (take n ps)) n (get_or ps n []) (low_marks g c n n (omega arith) (All-filter (of_commit c) b)) (rw e (At-getD n ps [] h))
+    run_other g torn m (retire_ops g c (take n ps)) n (get_or ps n []) (low_marks g c n n (omega arith) (All-filter (of_commit c) b)) (rw e (At-get_or n ps [] h))
 
 -- a turn of the loop
 pub retire_more : (g : Geometry) (torn : List ℕ) (c n : ℕ) (p q r : Progress) (xs ys zs : List ℕ) → n < length (pages_of g xs)

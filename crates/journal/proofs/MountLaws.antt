@@ -12,7 +12,7 @@ use Rattle.lists.proofs.Tests.{cases}
 use Rattle.lists.proofs.Alls.{All-head, All-tail, All-map, All-zip, All-left, All-right}
 use Rattle.lists.proofs.Sorts.{All-sort, sort_All, length_sort, sort_filter}
 use Rattle.lists.proofs.Parts.{cut_sizes}
-use Rattle.lists.proofs.Places.{length_modify, At-other, At-getD, at_seam}
+use Rattle.lists.proofs.Places.{length_modify, At-other, At-get_or, at_seam}
 use Rattle.chip.specs.declared.page.Mark.TheVariants.{Obsolete}
 use Rattle.chip.specs.declared.power.Power.TheVariants.{Left}
 use Rattle.chip.specs.Geometry.{Geometry, most_pages, page_size, block_size}
@@ -306,7 +306,7 @@ mount_erases g ps b = retire_none b (void_pages g ps)
 retire_legal : (g : Geometry) (w : List Live) (ps : List Page) → All (λ (x : Live). x.place < length ps) w → Legal g ps (map retire w)
 retire_legal g [] ps h = tt
 retire_legal g (x ∷ w) ps h = (
-  record { page = get_or ps x.place []; stands = At-getD x.place ps [] (All-head h) },
+  record { page = get_or ps x.place []; stands = At-get_or x.place ps [] (All-head h) },
   retire_legal g w (modify x.place (marked g Obsolete 0) ps)
       (All-map (λ y k. omega (arith, length_modify x.place (marked g Obsolete 0) ps)) (All-tail h)),
 )

@@ -8,7 +8,7 @@ use lib.Dec.{eqb, leb, ltb}
 use lib.ListN.{get_or, length}
 use borrow.Author.Tests.{eq-eqb, eqb-false, eqb-true, le-leb, leb-true, ltb-false, ltb-true, ne_eqb}
 use Rattle.lists.specs.Lists.{any, first, modify}
-use Rattle.lists.proofs.Places.{At-getD, At-is, At-same, get_d_default, length_modify}
+use Rattle.lists.proofs.Places.{At-get_or, At-is, At-same, get_d_default, length_modify}
 use Rattle.lists.proofs.Tests.{and_left, and_right, cases, clash}
 use Rattle.journal.specs.Admissible.{Target, unwritten, in_page, goes_to}
 use Rattle.journal.specs.Packing.{Packing, Sizes, fill_node, fit, is_unwritten, pack_node, assign, size_of, changed_at, widen_node, widen_in}
@@ -16,7 +16,7 @@ use Rattle.journal.specs.Packing.{Packing, Sizes, fill_node, fit, is_unwritten, 
 -- ---- an element altered
 module _ {A : Type 0} where
   get_d_modify : (n : ℕ) (f : A → A) (xs : List A) (d : A) → n < length xs → get_or (modify n f xs) n d ≡ f (get_or xs n d)
-  get_d_modify n f xs d h = At-is n (f (get_or xs n d)) (modify n f xs) d (At-same f n (get_or xs n d) xs (At-getD n xs d h))
+  get_d_modify n f xs d h = At-is n (f (get_or xs n d)) (modify n f xs) d (At-same f n (get_or xs n d) xs (At-get_or n xs d h))
 
   pub get_d_modify_other : (m n : ℕ) (f : A → A) (xs : List A) (d : A) → (m ≡ n → ⊥) → get_or (modify m f xs) n d ≡ get_or xs n d
   get_d_modify_other m n f [] d h = refl

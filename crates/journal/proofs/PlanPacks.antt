@@ -6,7 +6,7 @@ use native.Mathlib.Omega.{arith}
 use lib.ListN.{length, length-append, length-map}
 use Rattle.lists.specs.Lists.{All, flat, more, none}
 use Rattle.lists.proofs.Alls.{All-head, All-tail}
-use Rattle.lists.proofs.Flats.{map-append}
+use Rattle.lists.proofs.Flats.{map_append}
 use Rattle.lists.proofs.Sets.{All-pull}
 use Rattle.pages.specs.declared.unit.Update.{Update}
 use Rattle.views.specs.Groups.{Group, unit_for, Distinct}
@@ -60,7 +60,7 @@ sheets_groups [] [] l = refl
 sheets_groups [] (k ∷ ks) l = absurd (omega arith)
 sheets_groups (p ∷ ws) [] l = refl
 sheets_groups (p ∷ ws) (k ∷ ks) l =
-    map-append ungroup (map (group_at p) k) (groups_of (sheets ws ks)) ∙ ap₂ ◌++◌ (map_ungroup p k) (sheets_groups ws ks (omega arith))
+    map_append ungroup (map (group_at p) k) (groups_of (sheets ws ks)) ∙ ap₂ ◌++◌ (map_ungroup p k) (sheets_groups ws ks (omega arith))
 
 pub length_sheets : (ws : List ℕ) (ks : List (List Pack)) → length ks ≤ length ws → length (sheets ws ks) ≡ length ks
 length_sheets [] [] l = refl

@@ -294,12 +294,12 @@ module _ {g : Geometry} {limit B : ℕ} {torn : List ℕ} (ch : Chip g limit B t
     all_enough : suc A.count ≤ length (candidate_places g B ps tb G)
     all_enough = omega (arith, ap length all_places, length-append (places g ps hd (take k un)) (flat (pages_in g) (drop k un)))
 
-    W-is : W ≡ take (suc A.count) (places g ps hd (take k un))
-    W-is = ap (take (suc A.count)) all_places ∙ take-append-le (suc A.count) (places g ps hd (take k un)) (flat (pages_in g) (drop k un)) en
+    W_is : W ≡ take (suc A.count) (places g ps hd (take k un))
+    W_is = ap (take (suc A.count)) all_places ∙ take-append-le (suc A.count) (places g ps hd (take k un)) (flat (pages_in g) (drop k un)) en
 
     -- they reach no other block
-    W-misses : (b : ℕ) → (b ≡ hd → ⊥) → All (λ c. c ≡ b → ⊥) (take k un) → any (in_block g b) W ≡ false
-    W-misses b d a = ap (any (in_block g b)) W-is ∙ false_any (in_block g b) (All-map (λ p o. go p o) (All-take (suc A.count) (places_from g ps hd (take k un))))
+    W_misses : (b : ℕ) → (b ≡ hd → ⊥) → All (λ c. c ≡ b → ⊥) (take k un) → any (in_block g b) W ≡ false
+    W_misses b d a = ap (any (in_block g b)) W_is ∙ false_any (in_block g b) (All-map (λ p o. go p o) (All-take (suc A.count) (places_from g ps hd (take k un))))
       where
         go : (p : ℕ) → Origin g ps hd (take k un) p → in_block g b p ≡ false
         go p (old i f) = out_block g hd b p i (λ e. d (sym e))
@@ -346,13 +346,13 @@ module _ {g : Geometry} {limit B : ℕ} {torn : List ℕ} (ch : Chip g limit B t
         at_most (drop kd un) (filter q (count_from 0 B)) (diff_drop kd un un_diff)
             (All-zip
             (λ b a s. mem_filter q (tab_mem 0 B b (omega arith) (omega (arith, a.0)))
-            (left_by kd (assignment_of S) en b (W-misses kd (assignment_of S) en b a.1 s) (λ n l. rw (unnamed b a.2 n l) (and-false (not (S.is_anew n))))))
+            (left_by kd (assignment_of S) en b (W_misses kd (assignment_of S) en b a.1 s) (λ n l. rw (unnamed b a.2 n l) (and_false (not (S.is_anew n))))))
             (All-drop kd un_all) (diff_split kd un un_diff)),
       )
     where
-      and-false : (b : Bool) → (b && false) ≡ false
-      and-false true = refl
-      and-false false = refl
+      and_false : (b : Bool) → (b && false) ≡ false
+      and_false true = refl
+      and_false false = refl
 
   delta_must : (n : ℕ) → n < limit → 0 < length (own n us) → (any is_reset (own n us) || leb 4 (length (T n).pages)) ≡ true → is_forced (contents_of T us) n ≡ true
   delta_must n l s e =
@@ -408,7 +408,7 @@ module _ {g : Geometry} {limit B : ℕ} {torn : List ℕ} (ch : Chip g limit B t
         at_most others (filter q (count_from 0 B)) (diff_filter (λ (b : ℕ). not (taken b)) (count_from 0 B) (tab_diff 0 B))
             (All-map
             (λ b a. mem_filter q (tab_mem 0 B b (omega arith) (omega (arith, a.0)))
-            (left_by h (assignment_of Z) en b (W-misses h (assignment_of Z) en b a.1 a.2) (λ n l. rw (snap_result.good.kept n refl))))
+            (left_by h (assignment_of Z) en b (W_misses h (assignment_of Z) en b a.1 a.2) (λ n l. rw (snap_result.good.kept n refl))))
             others_out),
       )
 

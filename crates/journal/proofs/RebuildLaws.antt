@@ -62,7 +62,7 @@ pub record Renews (g : Geometry) (limit B : ℕ) (torn : List ℕ) (ps : List Pa
   pub cost : length (ops_of g G q) ≡ 3 * length q.written
   pub some : 0 < length q.written
   pub pages_few : length q.written ≤ 4 * B
-  pub no-erase : (b : ℕ) → erases_in b (ops_of g G q) ≡ 0
+  pub no_erase : (b : ℕ) → erases_in b (ops_of g G q) ≡ 0
   -- each page has units that fit it and obey the layout; each node's units stand in one page
   pub pages_hold : All (ValidSheet g limit) q.written
   pub once : Distinct (groups_of q.written)
@@ -150,8 +150,8 @@ module _ {g : Geometry} {limit B : ℕ} {torn : List ℕ} (ch : Chip g limit B t
       assigned_some (length S.rooms) (S.target 0)
       (has_page 0 l (nil_short (f 0) (λ z. rn.root (rewrite_none (rn.fair 0 l) (sym (f_is 0) ∙ z)))))
 
-  few-pages : length S.rooms ≤ 4 * B
-  few-pages = omega (arith, result.few, ch.lim)
+  few_pages : length S.rooms ≤ 4 * B
+  few_pages = omega (arith, result.few, ch.lim)
 
   -- ---- the places: all pages of the first wholly free blocks, b and bs
   module _ (b : ℕ) (bs : List ℕ) (e : take (eighth B) (free_blocks g B ps) ≡ b ∷ bs) where
@@ -176,12 +176,12 @@ module _ {g : Geometry} {limit B : ℕ} {torn : List ℕ} (ch : Chip g limit B t
           full = All-tab _ (page_packs f S.target limit) 0 (length S.rooms)
               (λ p l. (omega (arith, page_is p, result.good.some p (omega (arith, l))), omega (arith, page_is p, result.good.free p)));
           some = omega (arith, pp_count, some_page);
-          few = omega (arith, pp_count, few-pages);
+          few = omega (arith, pp_count, few_pages);
           head = b;
           blocks = bs;
           diff = are_diff.1;
           are = All-zip (λ c m d. (m.0, λ z. d (sym z), free_unused g limit ps tb G k c m.1)) (All-tail are_free) are_diff.0;
-          enough = omega (arith, pp_count, few-pages, ap length places_are, places_many g B ps ch.part rn.blocks);
+          enough = omega (arith, pp_count, few_pages, ap length places_are, places_many g B ps ch.part rn.blocks);
         }
 
     -- the plan of the choice is that of the rebuild
@@ -245,7 +245,7 @@ module _ {g : Geometry} {limit B : ℕ} {torn : List ℕ} (ch : Chip g limit B t
           cost = omega (arith, cost_is ch ready choice, ap length nothing_erased);
           some = omega (arith, length_sheets (ws ch ready choice) pp (ws_many ch ready choice), pp_count, some_page);
           pages_few = written_few ch ready choice;
-          no-erase = λ c. commit_erases c Q.erased (news_of g G Q) ∙ ap (count (eqb c)) nothing_erased;
+          no_erase = λ c. commit_erases c Q.erased (news_of g G Q) ∙ ap (count (eqb c)) nothing_erased;
           pages_hold = holds_ts ch ready choice;
           once = distinct ch ready choice;
           legal = legal ch ready choice;

@@ -54,7 +54,7 @@ pub record RebuildSafe (g : Geometry) (limit B : ℕ) (torn : List ℕ) (ps : Li
   -- a mark for each void page, three operations a page, no erase
   pub cost : length (rebuild_ops g limit B ps G w) ≡ length (mount_ops g ps) + 3 * length (rebuild_plan g limit B ps w).written
   pub few : length (rebuild_ops g limit B ps G w) ≤ length (mount_ops g ps) + 12 * B
-  pub no-erase : (b : ℕ) → erases_in b (rebuild_ops g limit B ps G w) ≡ 0
+  pub no_erase : (b : ℕ) → erases_in b (rebuild_ops g limit B ps G w) ≡ 0
   pub legal : Legal g ps (rebuild_ops g limit B ps G w)
   -- the image keeps its size
   pub sizes : (n : ℕ) → All (Sized g) (image_rebuilt g limit B torn ps G w n)
@@ -201,7 +201,7 @@ module _ {g : Geometry} {limit B : ℕ} {torn : List ℕ} (ch : Chip g limit B t
         node = λ j l. ap (λ (s : Node). foldl (turn j) s (events limit (news_of g G Q))) (sym (kept_node g limit (unvoided g ps) tb G is_clean j fresh l));
         cost = omega (arith, ops_are, renewed.cost);
         few = omega (arith, ops_are, renewed.cost, renewed.pages_few);
-        no-erase = λ b. erases_append b (mount_ops g ps) (ops_of g G Q) ∙ omega (arith, mount_erases g ps b, renewed.no-erase b);
+        no_erase = λ b. erases_append b (mount_ops g ps) (ops_of g G Q) ∙ omega (arith, mount_erases g ps b, renewed.no_erase b);
         legal = is_legal;
         sizes = is_sized;
         long = λ n. run_length g torn (with_power n ps) (rebuild_ops g limit B ps G w);

@@ -189,14 +189,14 @@ page_is g image n h =
 module _ (g : Geometry) (c : ℕ) (image : List ℕ) (m₀ : List ℕ) (n at : ℕ) (e : at ≡ suc n) (h : n < length image / page_size g) (z : Newest) (m : List ℕ)
     (ez : z ≡ last_in (ordered (live_at g (pages_of g image) at))) (em : m ≡ mark_held g c (live_at g (pages_of g image) at) m₀)
     (r : Newest) (m' : List ℕ) (k : LooksAtPage g c n (part (n * page_size g) (n * page_size g + page_size g - n * page_size g) image) z m r m') where
-  on-chip : n < length (pages_of g image)
-  on-chip = omega (arith, length_pages g image)
+  on_chip : n < length (pages_of g image)
+  on_chip = omega (arith, length_pages g image)
 
   looked : LooksAtPage g c n (get_or (pages_of g image) n []) z m r m'
   looked = rw (← page_is g image n h) k
 
   pub turn_newest : r ≡ last_in (ordered (live_at g (pages_of g image) n))
-  turn_newest = look_newest g c (pages_of g image) m₀ n at e on-chip z m ez em r m' looked
+  turn_newest = look_newest g c (pages_of g image) m₀ n at e on_chip z m ez em r m' looked
 
   pub turn_marks : m' ≡ mark_held g c (live_at g (pages_of g image) n) m₀
-  turn_marks = look_marks g c (pages_of g image) m₀ n at e on-chip z m ez em r m' looked
+  turn_marks = look_marks g c (pages_of g image) m₀ n at e on_chip z m ez em r m' looked

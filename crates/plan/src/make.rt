@@ -24,7 +24,7 @@ pub struct Basis {
 
 // How many pages a commit writes and the place of each, how many blocks it erases first and which. No page: nothing is to be done.
 // Whatever the part, a commit writes at most 128 pages, and one place more is laid.
-#[derive(Drop)]
+#[derive(Clone, Copy)]
 pub struct Plan {
     pub pages: usize,
     pub erases: usize,

@@ -84,10 +84,10 @@ lines_behind bs cs l h m k torn image a b begun y =
     }
 
 -- a line that is not begun, behind the bytes before index k
-pub first_before : (bytes : List ℕ) (l₀ : Line) (h₀ : Rig) (k : ℕ) (l : Line) (h : Rig) (torn image : List ℕ) → CarriesIn (take k bytes) l₀ h₀ l h
-    → torn ≡ h.torn → image ≡ h.image → CarriesFirst bytes l₀ h₀ torn image
-first_before bytes l₀ h₀ k l h torn image a e f =
-    record { count = k; lines = rw (e, f) (lines_of (take k bytes) l₀ h₀ l h a) }
+pub first_before : (bytes : List ℕ) (l₀ : Line) (h₀ : Rig) (k : ℕ) (l : Line) (h : Rig) (torn image : List ℕ) → k < length bytes → get_or bytes k 0 ≡ 10
+    → CarriesIn (take k bytes) l₀ h₀ l h → torn ≡ h.torn → image ≡ h.image → CarriesFirst bytes l₀ h₀ torn image
+first_before bytes l₀ h₀ k l h torn image m q a e f =
+    record { feed = k; within = m; is = q; lines = rw (e, f) (lines_of (take k bytes) l₀ h₀ l h a) }
 
 pub part_none : (l : Line) (h : Rig) → CarriesPart l h h.torn h.image
 part_none l h = record { bytes = []; lines = lines_of [] l h l h (carry_none l h) }

@@ -1,5 +1,5 @@
 -- What an order does to the store: a call is one step on the part of the image that is lent, with the torn bytes that are lent.
-use Rattle.std.specs.Prelude.{◌≡◌, List, [], ◌∷◌, ℕ, min, length, take, drop}
+use Rattle.std.specs.Prelude.{◌≡◌, List, [], ◌∷◌, ℕ, ◌<◌, min, length, take, drop, slice_index}
 use Rattle.chip.specs.Geometry.{Nand}
 use Rattle.store.specs.declared.state.State.{State}
 use Rattle.store.specs.declared.state.Wrote.{Wrote}
@@ -106,10 +106,12 @@ pub record LinesDone (ls : List (List ℕ)) (h : Rig) (torn image : List ℕ) : 
 unfoldable pub LinesIn : (bytes : List ℕ) (l : Line) (h : Rig) (torn image : List ℕ) → Type 0
 LinesIn bytes l h torn image = (begun : List ℕ) → LineHolds l begun → LinesDone (lines_in begun bytes) h torn image
 
--- of the bytes read, the lines that end in the first `count` were carried out
+-- of the bytes read, the lines that end before the line feed at `feed` were carried out, and the line that it ends was not
 pub record CarriesFirst (bytes : List ℕ) (l : Line) (h : Rig) (torn image : List ℕ) : Type 0 where
-  pub count : ℕ
-  pub lines : LinesIn (take count bytes) l h torn image
+  pub feed : ℕ
+  pub within : feed < length bytes
+  pub is : slice_index bytes feed ≡ 10
+  pub lines : LinesIn (take feed bytes) l h torn image
 
 -- some bytes were taken
 pub record CarriesPart (l : Line) (h : Rig) (torn image : List ℕ) : Type 0 where

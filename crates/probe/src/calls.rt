@@ -10,7 +10,7 @@ use store::state::{State, Updated, Wrote};
 use store::{answer, commit, find, forecast, format, mount, rebuild, report, show, update};
 
 // The state after a call, and the bytes of output gathered.
-#[derive(Drop)]
+#[derive(Clone, Copy)]
 pub struct Told {
     pub state: State,
     pub at: usize,

@@ -2,7 +2,7 @@
 // frames of hexadecimal from standard input, one a line, and answers each by a line.
 #![tactic(auto)]
 
-ghost use Rattle.std.specs.Prelude.{◌≡◌, length, IfOk, OnErr};
+ghost use Rattle.std.specs.Prelude.{◌≡◌, ◌<◌, length, IfOk, OnErr};
 ghost use Rattle.probe.specs.Makes.{rig, CarriesOut, CarriesLine, CarriesIn, CarriesFirst, CarriesSome, CarriesPart};
 
 mod bed;
@@ -50,6 +50,7 @@ fn carry_out<W: Write>(
         (rig p.bed torn.new p.state image.new)) }
     ensures err { OnErr result (image.new ≡ image.old) }
     ensures err_torn { OnErr result (torn.new ≡ torn.old) }
+    ensures err_full { OnErr result (60000 < probe.at) }
 {
     let state = probe.state;
     let lent = probe.bed;
@@ -98,6 +99,7 @@ fn answer_line<W: Write>(
         (rig p.bed torn.new p.state image.new)) }
     ensures err { OnErr result (image.new ≡ image.old) }
     ensures err_torn { OnErr result (torn.new ≡ torn.old) }
+    ensures err_full { OnErr result (60000 < probe.at) }
 {
     let given = order::order_of(l);
     carry_out(writer, probe, image, torn, out, given)

@@ -1,5 +1,5 @@
 // The output, gathered in a buffer and written when the buffer is nearly full.
-ghost use Rattle.std.specs.Prelude.{◌≡◌, ◌≤◌, min, length, take, IfOk};
+ghost use Rattle.std.specs.Prelude.{◌≡◌, ◌<◌, ◌≤◌, min, length, take, IfOk, OnErr};
 
 use std::io;
 use std::io::Write;
@@ -23,9 +23,10 @@ pub fn flush<W: Write>(writer: &mut W, out: &[u8], at: usize) -> io::Result<()> 
     writer.write_all(&out[..n])
 }
 
-// The number of bytes gathered, with room for a line behind them: the buffer is written where it has not.
+// The number of bytes gathered, with room for a line behind them: the buffer is written where it has not. Only that write can fail.
 pub fn room<W: Write>(writer: &mut W, out: &[u8], at: usize) -> io::Result<usize>
-    ensures { IfOk result (λ n. n ≤ 60000) }
+    ensures ok { IfOk result (λ n. n ≤ 60000) }
+    ensures err { OnErr result (60000 < at) }
 {
     if at <= 60000 {
         return Ok(at);

@@ -15,7 +15,7 @@ use Rattle.promise.specs.Calls.{Store, Committing, Commit}
 use Rattle.promise.specs.Steps.{Act, commit, fed, is_ten, boots, Step, Lends, one, other, last_image, Only, starts, counts, nand_after, Named, next, answer_to, Agrees, feed, feeds, choices, seen, expected, Allowed, promised}
 use Rattle.promise.specs.Promise as P
 use Rattle.promise.specs.Promise.{FormatRefusal, format1, format10, MountRefusal, mount1, mount10, CommitRefusal, commit2, commit1, commit6, commit10, CommitPower}
-use Rattle.promise.proofs.Promise.{apart, accepted_not, and-false, when_is, first_most, on_of, nand_next, Invariant, own_nand, begins, started, agrees, agrees_any}
+use Rattle.promise.proofs.Promise.{apart, accepted_not, and_false, when_is, first_most, on_of, nand_next, Invariant, own_nand, begins, started, agrees, agrees_any}
 use Rattle.promise.proofs.Lists as L
 use Rattle.promise.proofs.Lists.{place, answer_at}
 
@@ -40,7 +40,7 @@ uncut_by (suc n) c p w u = refl
 
 no_choice : (c : Call) (ten : Bool) (p : Plain) (w u : Bool) → is_commit c && ten ≡ false → after w p c ten ≡ after u p c ten
 unfolding verdict
-no_choice c false p w u e = rw (and-false (may_cut p c)) (uncut_by (refusal_of p c) c p w u)
+no_choice c false p w u e = rw (and_false (may_cut p c)) (uncut_by (refusal_of p c) c p w u)
 no_choice c true p w u e = cases (is_commit c) (λ t. let z : ◌≡◌ {A = Bool} true false = (rw t at e) in clash refl z) (λ t. same_by (verdict p c true) c p w u t)
 
 -- ---- the refusals of the plain store

@@ -20,7 +20,7 @@ use Rattle.promise.specs.Calls.{Meaning, invalid, means, Store, state_of, Same, 
 use Rattle.promise.specs.Steps.{Act, read, update, forecast, format, commit, mount, fed, is_ten, is_accepted, is_format, boots, strays, Step, Lends, one, other, Only, Hands, feed, Allowed, Takes}
 use Rattle.promise.specs.Erases.{begins, operations_of, done_by, Unworn}
 use Rattle.promise.specs.Wear.{is_finished_commit}
-use Rattle.promise.proofs.Promise.{and-false, when_is, one_boots, first_most, on_of, names_is, step_is, first_of_lem, image_kept}
+use Rattle.promise.proofs.Promise.{and_false, when_is, one_boots, first_most, on_of, names_is, step_is, first_of_lem, image_kept}
 
 -- the first operations erase no more than all
 pub erases_first : (b n : ℕ) (os : List Op) → erases_in b (take n os) ≤ erases_in b os
@@ -197,7 +197,7 @@ module _ (S : Store) where
           (λ y. refused_idle 6 (c.stuck q.proceeds y) (λ z. omega arith)))
           (λ z. let y = ltb-false 0 (S.pending s) z in
           let d = c.idle t (omega arith) in
-          commit_idle (ap (λ (b : Bool). is_accepted a && b) z ∙ and-false (is_accepted a)) (d.1, d.2))
+          commit_idle (ap (λ (b : Bool). is_accepted a && b) z ∙ and_false (is_accepted a)) (d.1, d.2))
 
     -- a mount, by what the image means
     mount_finished : (nand : Nand) (n : ℕ) (torn : List ℕ) (m : Meaning) → S.meaning nand i ≡ m
@@ -276,8 +276,8 @@ module _ (S : Store) where
       idle (record {
         done = none_done x.act x.given x.lent x.answer x.ops x.state x.left (suc m) k.allowed r.0 (λ z. omega arith);
         image = image_kept S true i x k.lends r.1.image;
-        begins = ap (λ (a : Answer). boots x.act && is_accepted a) r.0 ∙ and-false (boots x.act);
-        finished = ap (λ (a : Answer). is_commit (fed x.act (S.size x.lent)) && (is_accepted a && ltb 0 (S.pending x.given))) r.0 ∙ and-false (is_commit (fed x.act (S.size x.lent)));
+        begins = ap (λ (a : Answer). boots x.act && is_accepted a) r.0 ∙ and_false (boots x.act);
+        finished = ap (λ (a : Answer). is_commit (fed x.act (S.size x.lent)) && (is_accepted a && ltb 0 (S.pending x.given))) r.0 ∙ and_false (is_commit (fed x.act (S.size x.lent)));
         states = λ t y o. same_from H i x.given t v (y.returned ∙ r.1.state)
             (cases (boots x.act)
             (λ z. y.known (r.0 ∙ ap refuses (one_boots (S.nand x.given) x.act (S.size x.lent) (S.on x.given) (S.blocks x.given) m z e))) (λ z. k.handed z)) o;

@@ -14,7 +14,7 @@ use Rattle.promise.specs.History.{TreeOf}
 use Rattle.promise.specs.Thickness.{ThickPlain, ThickIn, last_mode}
 use Rattle.promise.specs.Height.{LowPlain, LowIn, StaysLow, FormattedLow, RebuiltLow, ForeignLow, AnyLow}
 use Rattle.promise.proofs.Promise.{format_starts, rebuild_starts}
-use Rattle.promise.proofs.Trees.{blocks-most, tree_low, rebuild_keeps}
+use Rattle.promise.proofs.Trees.{blocks_most, tree_low, rebuild_keeps}
 use Rattle.promise.proofs.Thickness.{formatted_tree, stays_thick, any_thick, foreign_thick}
 
 -- thick trees are low
@@ -30,7 +30,7 @@ module _ (S : Store) where
   mounted_tree : (nand : Nand) (K : Table) (G : ℕ) (s : S.State) (i : S.Image) → Mounted S nand K G s i → Tree K
       → length K ≡ 8 * blocks_of (geometry_of nand) (S.size i) → TreeOf 0 (blocks_of (geometry_of nand) (S.size i)) K
   mounted_tree nand K G s i m t l =
-      record { tree = t; size = l; blocks = blocks-most nand (S.size i); thick = thin_thick K m.thick }
+      record { tree = t; size = l; blocks = blocks_most nand (S.size i); thick = thin_thick K m.thick }
 
   -- ---- the statements
   pub stays_low : StaysLow S

@@ -47,9 +47,9 @@ accepted_is accepted e = refl
 accepted_is (tells v) e = let u : ◌≡◌ {A = ℕ} 0 1 = cc in absurd (omega arith)
 
 -- ---- the tests
-pub and-false : (b : Bool) → b && false ≡ false
-and-false true = refl
-and-false false = refl
+pub and_false : (b : Bool) → b && false ≡ false
+and_false true = refl
+and_false false = refl
 
 and_true : (b : Bool) → b && true ≡ b
 and_true true = refl
@@ -245,7 +245,7 @@ module _ (S : Store) (rooms : Bool) where
       record { same = e ∙ sym (ap (λ d. answer_by d p c) k); inv = rw k v }
 
   not_cut : (p : Plain) (c : Call) (a : Answer) → a ≡ accepted → may_cut p c && is_ten a ≡ false
-  not_cut p c a e = rw e (and-false (may_cut p c))
+  not_cut p c a e = rw e (and_false (may_cut p c))
 
   out_cut : (p : Plain) (c : Call) (w : Bool) (a : Answer) (s' : S.State) (i' : S.Image)
       → refusal_of p c ≡ 0 → may_cut p c ≡ true → a ≡ refuses 10 → Invariant (cut_off w p c) s' i' → Conforms p c w a s' i'

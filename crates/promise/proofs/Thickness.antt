@@ -17,7 +17,7 @@ use Rattle.promise.specs.Thickness.{ThickPlain, ThickAt, ThickIn, last_mode, Sta
 use Rattle.promise.proofs.Promise.{accepted_not, accepted_is, format_starts, format_again, rebuild_starts}
 use Rattle.promise.proofs.Claims.{promise, promise_any, promise_foreign}
 use Rattle.promise.proofs.Values.{or_zero, chip_blocks}
-use Rattle.promise.proofs.Trees.{blocks-most, leaf_tree, rebuild_thick}
+use Rattle.promise.proofs.Trees.{blocks_most, leaf_tree, rebuild_thick}
 
 -- ---- one call of the plain store
 module _ (c : ℕ) where
@@ -48,7 +48,7 @@ module _ (c : ℕ) where
   thick_finished p (format nand n torn) image e k h =
       let g = geometry_of nand in
       let B = blocks_of g image in
-      thick_resting nand (leaf B) 1 B (leaf_tree c B (chip_blocks g image (length torn) (or_zero (start_refusal g image (length torn)) 0 e).0) (blocks-most nand image))
+      thick_resting nand (leaf B) 1 B (leaf_tree c B (chip_blocks g image (length torn) (or_zero (start_refusal g image (length torn)) 0 e).0) (blocks_most nand image))
   thick_finished p (commit n torn) image e k h = cases (ltb 0 p.pending) (λ t. rw t (thick_committed p h)) (λ t. rw t h)
   thick_finished p (mount nand n torn) image e k h = thick_resting nand p.kept p.number p.blocks h.kept
 
@@ -91,7 +91,7 @@ module _ (S : Store) where
   formatted_tree c nand s i f =
       leaf_tree c (blocks_of (geometry_of nand) (S.size i))
       (blocks_by nand f.allowance f.torn f.before f.was f.ops s i (start_refusal (geometry_of nand) (S.size f.was) (length f.torn)) refl f.says)
-      (blocks-most nand (S.size i))
+      (blocks_most nand (S.size i))
 
   -- ---- a list that agrees with the plain store
   thick_next : (c : ℕ) (p : Plain) (i : S.Image) (x : Step S) → OfUpdate (KeepsThick c) x.act → ThickPlain c p → ThickPlain c (next S p i x)

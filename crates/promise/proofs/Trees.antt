@@ -23,8 +23,8 @@ use Rattle.promise.specs.Promise.{RebuildKeeps}
 use Rattle.promise.specs.Height.{Low}
 
 -- a chip has 32 blocks at most
-pub blocks-most : (nand : Nand) (size : ℕ) → blocks_of (geometry_of nand) size ≤ 32
-blocks-most nand size =
+pub blocks_most : (nand : Nand) (size : ℕ) → blocks_of (geometry_of nand) size ≤ 32
+blocks_most nand size =
     let B = blocks_of (geometry_of nand) size in
     ⊎_elim (λ (z : B ≡ 0). omega arith) (λ (z : B ≡ 0 → ⊥). (chip_size (geometry_of nand) size B refl z).most) (same_or_not B 0)
 
@@ -114,10 +114,10 @@ delete_lawful k h = record { tree = delete_keeps_thick 0 k (omega arith) h; valu
 -- ---- a tree rebuilt
 pub rebuild_thick : (nand : Nand) (size : ℕ) (K : Table) → Tree K → length K ≡ 8 * blocks_of (geometry_of nand) size → TreeOf 8 (blocks_of (geometry_of nand) size) (rebuild K)
 rebuild_thick nand size K T l =
-    let R = rebuild_tree (blocks_of (geometry_of nand) size) K (blocks-most nand size) T l in
-    record { tree = R.tree; size = R.size; blocks = blocks-most nand size; thick = R.eights }
+    let R = rebuild_tree (blocks_of (geometry_of nand) size) K (blocks_most nand size) T l in
+    record { tree = R.tree; size = R.size; blocks = blocks_most nand size; thick = R.eights }
 
 pub rebuild_keeps : RebuildKeeps
 rebuild_keeps nand size K T l =
-    let R = rebuild_tree (blocks_of (geometry_of nand) size) K (blocks-most nand size) T l in
-    (record { tree = R.tree; size = R.size; blocks = blocks-most nand size; thick = thick_zero 8 (rebuild K) R.eights }, λ k h. find_is k (rebuild K) R.tree h ∙ ap (lookup k) R.records ∙ sym (find_is k K T h))
+    let R = rebuild_tree (blocks_of (geometry_of nand) size) K (blocks_most nand size) T l in
+    (record { tree = R.tree; size = R.size; blocks = blocks_most nand size; thick = thick_zero 8 (rebuild K) R.eights }, λ k h. find_is k (rebuild K) R.tree h ∙ ap (lookup k) R.records ∙ sym (find_is k K T h))

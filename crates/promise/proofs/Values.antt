@@ -16,7 +16,7 @@ use Rattle.promise.specs.Calls.{Store}
 use Rattle.promise.specs.Steps.{Act, read, update, forecast, format, commit, mount, fed, is_ten, Step, counts, starts, next, last_plain}
 use Rattle.promise.specs.History.{TreeOf, after_said, Lawful, LawfulAct, value_of, Silent, History, begun, flushed, dropped, history_after, next_history, last_history, AllLawful}
 use Rattle.promise.proofs.Promise.{on_of}
-use Rattle.promise.proofs.Trees.{blocks-most, leaf_tree}
+use Rattle.promise.proofs.Trees.{blocks_most, leaf_tree}
 
 pub or_zero : (a b : ℕ) → or_else a b ≡ 0 → (a ≡ 0) × (b ≡ 0)
 or_zero zero b e = (refl, e)
@@ -115,7 +115,7 @@ tells_finished w p (forecasts image) l e k h = h
 tells_finished w p (formats nand a image torn) l e k h =
     let b = or_zero (first_refusal p.nand p.on p.blocks (formats nand a image torn)) 0 e in
     let B = blocks_of (geometry_of nand) image in
-    tells_resting nand (leaf B) 1 B (leaf_tree 0 B (chip_blocks (geometry_of nand) image torn b.0) (blocks-most nand image))
+    tells_resting nand (leaf B) 1 B (leaf_tree 0 B (chip_blocks (geometry_of nand) image torn b.0) (blocks_most nand image))
 tells_finished w p (commits a image torn) l e k h =
     let b = or_zero (first_refusal p.nand p.on p.blocks (commits a image torn)) (later_refusal p (commits a image torn)) e in
     let o = on_of p.on _ b.0 in

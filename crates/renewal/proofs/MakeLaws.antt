@@ -216,17 +216,17 @@ module _ {g : Geometry} {B : ℕ} {t : Table} {ps : List Page} {lens slots ring 
 
   module _ {sizes units : List ℕ} {n : ℕ} (anew : LaysAnew (8 * B) t sizes units n) {rooms targets : List ℕ} {r : ℕ}
       (p : Packs (packed (sizes_in g.units sizes (replicate 256 0)) (is_marked (replicate 256 1)) (8 * B)) (2 * (8 * B)) r rooms targets (replicate 256 1)) where
-    few-pages : r ≤ 4 * B
-    few-pages = go (pages_few g f.nodes (8 * B) limit_most (at (rebuild t)) sizes units (replicate 256 0) (replicate 256 1) rooms targets r anew.holds.kept none ones p)
+    few_pages : r ≤ 4 * B
+    few_pages = go (pages_few g f.nodes (8 * B) limit_most (at (rebuild t)) sizes units (replicate 256 0) (replicate 256 1) rooms targets r anew.holds.kept none ones p)
       where
         go : 2 * r ≤ suc (8 * B) → r ≤ 4 * B
         go h = omega arith
 
     pub pages_low : r ≤ 128
-    pages_low = omega (arith, few-pages, rb.most)
+    pages_low = omega (arith, few_pages, rb.most)
 
     pub pages_room : r ≤ eighth B * g.pages
-    pages_room = free_room g B ps f rb.enough r few-pages
+    pages_room = free_room g B ps f rb.enough r few_pages
 
     pub makes : (free : List ℕ) → free ≡ words_of (numbers_from n (8 * B)) → (q : Plan) → LaysPages g (take (eighth B) ring) r q
         → MakesRebuild g B t ps targets sizes units free q

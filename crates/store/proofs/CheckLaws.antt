@@ -12,7 +12,7 @@ use Rattle.lists.specs.Lists.{All, all, filter, part, sort}
 use Rattle.lists.proofs.Tests.{cases, and_left, and_right}
 use Rattle.lists.proofs.Alls.{All-head, All-left, All-right}
 use Rattle.lists.proofs.Ends.{End, nil, snoc, end_of}
-use Rattle.lists.proofs.Flats.{map-append, tab_same, tab_all, get_d_tab, length_tab}
+use Rattle.lists.proofs.Flats.{map_append, tab_same, tab_all, get_d_tab, length_tab}
 use Rattle.lists.proofs.Sorts.{All-sort}
 use Rattle.chip.specs.Geometry.{Geometry, Fits, blocks_of, most_pages, page_size}
 use Rattle.chip.specs.Page.{Page}
@@ -150,14 +150,14 @@ module _ (order : List ℕ) (first voids : ℕ) (v xs : List Live) (k : Shown (S
   pub keys_part : part first (most_pages - voids - first) order ≡ map key_of xs
   keys_part =
       let n : most_pages - voids - first ≡ length xs = omega (arith, voids_is, first_is) in
-      rw (n, keys_from, map-append key_of xs v) (take_at (map key_of xs) (map key_of v) (length xs) (length-map xs key_of))
+      rw (n, keys_from, map_append key_of xs v) (take_at (map key_of xs) (map key_of v) (length xs) (length-map xs key_of))
 
   -- the key of a page
   key_at : (a : List Live) (y : Live) (b : List Live) (j : ℕ) → xs ++ v ≡ a ++ y ∷ b → j ≡ first + length a → get_or order j 0 ≡ key_of y
   key_at a y b j e q =
       ap (λ (i : ℕ). get_or order i 0) q
       ∙ sym (get_or-drop first order (length a) 0)
-      ∙ ap (λ (l : List ℕ). get_or l (length a) 0) (keys_from ∙ ap (map key_of) e ∙ map-append key_of a (y ∷ b))
+      ∙ ap (λ (l : List ℕ). get_or l (length a) 0) (keys_from ∙ ap (map key_of) e ∙ map_append key_of a (y ∷ b))
       ∙ get_or_at (map key_of a) (key_of y) (map key_of b) 0 (length a) (length-map a key_of)
 
 module _ (g : Geometry) (image order : List ℕ) (first voids : ℕ) (bytes : (i : ℕ) → get_or image i 0 < 256) (size : length image / page_size g ≤ most_pages)

@@ -104,9 +104,9 @@ module _ (nand : Nand) (allowance : ℕ) (torn : List ℕ) (s : State) (i : List
       let z : erases_in b (ops_of g G q) ≡ 0 = commit_erases b [] (news_of g G q) ∙ erased_none b [] none in
       erases_append b (mount_ops g (pages_of g i)) (ops_of g G q) ∙ omega (arith, mount_erases g (pages_of g i) b, z)
 
-  no-erase : (b : ℕ) → erases_in b (rebuild_ops g i) ≡ 0
+  no_erase : (b : ℕ) → erases_in b (rebuild_ops g i) ≡ 0
   unfolding rebuild_ops
-  no-erase b = erases_none b (image_meaning g i)
+  no_erase b = erases_none b (image_meaning g i)
 
   -- ---- refused before any operation
   module _ (a : Answer) (n : ℕ) (t : State) (is : answer_of a ≡ refuses n) (kind : is_one_of n (1 ∷ 7 ∷ 8 ∷ 9 ∷ 6 ∷ 5 ∷ 10 ∷ []) ≡ true) (low : n < 10)
@@ -135,7 +135,7 @@ module _ (nand : Nand) (allowance : ℕ) (torn : List ℕ) (s : State) (i : List
             cut = λ K G b l. absurd (never K G b);
             room = λ K G b h. absurd (never K G b);
             zeros = λ e. absurd (accepted_not n (sym e ∙ is));
-            no_erase = no-erase;
+            no_erase = no_erase;
           };
           kinds = λ K G b. absurd (never K G b);
           bytes = λ K G b. absurd (never K G b);
@@ -353,7 +353,7 @@ module _ (nand : Nand) (allowance : ℕ) (torn : List ℕ) (s : State) (i : List
               cut = λ K' G' r l. refl;
               room = λ K' G' r h. any_room h;
               zeros = λ e. absurd (accepted_not 10 (sym e));
-              no_erase = no-erase;
+              no_erase = no_erase;
             };
             kinds = λ K' G' r. kinds_are;
             bytes = λ K' G' r. pages_are;
@@ -424,7 +424,7 @@ module _ (nand : Nand) (allowance : ℕ) (torn : List ℕ) (s : State) (i : List
                 cut = λ K' G' r l. absurd (omega arith);
                 room = λ K' G' r h. any_room h;
                 zeros = λ e b. get_d_same 32 b 0;
-                no_erase = no-erase;
+                no_erase = no_erase;
               };
               kinds = λ K' G' r. kinds_are;
               bytes = λ K' G' r. pages_are;

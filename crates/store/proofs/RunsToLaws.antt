@@ -33,9 +33,9 @@ image_append : (xs ys : Steps) (i : List ℕ) → last_image index i (xs ++ ys) 
 image_append [] ys i = refl
 image_append (x ∷ xs) ys i = image_append xs ys x.image
 
-map-append : {A B : Type 0} (f : A → B) (xs ys : List A) → map f (xs ++ ys) ≡ map f xs ++ map f ys
-map-append f [] ys = refl
-map-append f (x ∷ xs) ys = ap (λ zs. f x ∷ zs) (map-append f xs ys)
+map_append : {A B : Type 0} (f : A → B) (xs ys : List A) → map f (xs ++ ys) ≡ map f xs ++ map f ys
+map_append f [] ys = refl
+map_append f (x ∷ xs) ys = ap (λ zs. f x ∷ zs) (map_append f xs ys)
 
 module _ (torn : List ℕ) where
   -- no call
@@ -63,10 +63,10 @@ module _ (torn : List ℕ) where
       record {
         steps = a.steps ++ b.steps;
         acts =
-            map-append (λ (x : Step index). x.act) a.steps b.steps
+            map_append (λ (x : Step index). x.act) a.steps b.steps
             ∙ ap (λ (us : List Act). us ++ map (λ (x : Step index). x.act) b.steps) a.acts
             ∙ ap (λ (us : List Act). map (λ (c : Call). act_of c torn) cs ++ us) b.acts
-            ∙ sym (map-append (λ (c : Call). act_of c torn) cs ds);
+            ∙ sym (map_append (λ (c : Call). act_of c torn) cs ds);
         runs =
             runs_append a.steps b.steps (Only index s) i a.runs
             (subst (λ (k : List ℕ). Runs index H k b.steps) (sym a.image) (wider_runs index b.steps (Only index t) H f j b.runs));

@@ -25,8 +25,8 @@ pub chip_pages : (g : Geometry) (fit : Fits g) (b len : ℕ) → ChipOf g b len 
 chip_pages g fit b len c = rw (blocks_pages g fit len b c.size) (pages_most_lem g fit b c.most)
 
 -- whole pages, as the code that reads them asks
-pub on-chip : (g : Geometry) (fit : Fits g) (b len : ℕ) → ChipOf g b len → (len % page_size g ≡ 0) × (len / page_size g ≤ most_pages)
-on-chip g fit b len c = (blocks_whole g len b c.size, chip_pages g fit b len c)
+pub on_chip : (g : Geometry) (fit : Fits g) (b len : ℕ) → ChipOf g b len → (len % page_size g ≡ 0) × (len / page_size g ≤ most_pages)
+on_chip g fit b len c = (blocks_whole g len b c.size, chip_pages g fit b len c)
 
 -- a torn slice of another length
 pub sized_none : (g : Geometry) (len slice : ℕ) → (slice ≡ page_size g → ⊥) → Sized g len slice 0

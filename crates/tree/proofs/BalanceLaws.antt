@@ -11,7 +11,7 @@ use lib.Seq.{length-take-le, get_or-take, take-suc, drop-cons}
 use borrow.Author.Tests.{lt-ltb, le-ltb, ltb-true, ltb-false, lt-leb, le-leb}
 use Rattle.lists.specs.Lists.{patch}
 use Rattle.lists.proofs.Tests.{clash}
-use Rattle.lists.proofs.Flats.{map-append}
+use Rattle.lists.proofs.Flats.{map_append}
 use Rattle.pages.specs.declared.unit.Unit as U
 use Rattle.pages.specs.declared.unit.Update.TheVariants.{Insert, Delete, Reset}
 use Rattle.pages.specs.Units.{encode}
@@ -241,7 +241,7 @@ merge_pushes p x y d g count used b₀ b₁ b₂ b₃ b₄ e₁ q l₀ e₂ e₃
     let l₁ : length b₁ ≡ 11520 = (front_pushed (node_units 0 x) count used b₀ b₁ first (omega arith)).same ∙ l₀ in
     let both : map (unit_for 0) (anew x.level (entries_of x ++ entries_of y)) ≡ node_units 0 x ++ entry_units 0 (entries_of y) =
     ap (λ (us : List U.Unit). unit_for 0 (Reset x.level) ∷ us)
-    (ap (map (unit_for 0)) (map-append inserted (entries_of x) (entries_of y)) ∙ map-append (unit_for 0) (map inserted (entries_of x)) (map inserted (entries_of y))) in
+    (ap (map (unit_for 0)) (map_append inserted (entries_of x) (entries_of y)) ∙ map_append (unit_for 0) (map inserted (entries_of x)) (map inserted (entries_of y))) in
     subst (λ (us : List U.Unit). UnitsPushed (us ++ (unit_for p.left (Reset 255) ∷ unit_for p.right (Reset 255) ∷ [])) count b₀ b₄ (used + y.len + 2)) (sym both)
     (written_more (node_units 0 x ++ entry_units 0 (entries_of y)) (unit_for p.left (Reset 255)) (unit_for p.right (Reset 255))
     count (used + y.len) (used + y.len + 1) (used + y.len + 2) b₀ b₂ b₃ b₄

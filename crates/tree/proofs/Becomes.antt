@@ -4,7 +4,7 @@ use mathlib.Core.List.{List, [], ◌∷◌, ◌++◌, map}
 use Prim.Native.Nat.{ℕ, suc, ◌+◌, ◌<◌, ◌≤◌}
 use native.Mathlib.Omega.{arith}
 use lib.ListN.{length}
-use Rattle.lists.proofs.Flats.{map-append}
+use Rattle.lists.proofs.Flats.{map_append}
 use Rattle.views.specs.Nodes.{Entry, view}
 use Rattle.tree.specs.Tree.{there, Table, at, first_key}
 use Rattle.tree.specs.Step6.{times}
@@ -59,7 +59,7 @@ module _ (f : List Entry → List Entry) (t u : Table) (l lo hi n y : ℕ) (bs o
 
   -- the keys of the node before
   old_keys : Between lo hi (map (entry_of l) bs ++ map (entry_of l) (olds ++ ds))
-  old_keys = rw map-append at h.0.keys
+  old_keys = rw map_append at h.0.keys
 
   first_old : first_key hi (map (entry_of l) (olds ++ ds)) ≡ y
   first_old = start_first l hi (olds ++ ds) ∙ starts_start y hi olds ds so
@@ -67,12 +67,12 @@ module _ (f : List Entry → List Entry) (t u : Table) (l lo hi n y : ℕ) (bs o
   ds_keys : Between (start_of hi ds) hi (map (entry_of l) ds)
   ds_keys =
       let a : Between y hi (map (entry_of l) (olds ++ ds)) = rw first_old at (between_right lo hi (map (entry_of l) bs) (map (entry_of l) (olds ++ ds)) old_keys) in
-      let b : Between y hi (map (entry_of l) olds ++ map (entry_of l) ds) = rw map-append at a in
+      let b : Between y hi (map (entry_of l) olds ++ map (entry_of l) ds) = rw map_append at a in
       rw start_first at (between_right y hi (map (entry_of l) olds) (map (entry_of l) ds) b)
 
   new_keys : Between lo hi (map (entry_of l) (bs ++ (mids ++ ds)))
   new_keys =
-      rw (map-append (entry_of l) bs (mids ++ ds), map-append (entry_of l) mids ds)
+      rw (map_append (entry_of l) bs (mids ++ ds), map_append (entry_of l) mids ds)
       (between_append lo y hi (map (entry_of l) bs) (map (entry_of l) mids ++ map (entry_of l) ds)
       (rw first_old at (between_left lo hi (map (entry_of l) bs) (map (entry_of l) (olds ++ ds)) old_keys))
       (between_append y (start_of hi ds) hi (map (entry_of l) mids) (map (entry_of l) ds) order ds_keys))

@@ -5,7 +5,7 @@ use mathlib.Core.List.{List, [], ◌∷◌, ◌++◌, map, append_assoc, append-
 use Prim.Native.Nat.{ℕ, suc, ◌+◌, ◌<◌, ◌≤◌}
 use native.Mathlib.Omega.{arith}
 use lib.ListN.{length}
-use Rattle.lists.proofs.Flats.{flat_append, map-append}
+use Rattle.lists.proofs.Flats.{flat_append, map_append}
 use Rattle.views.specs.Nodes.{Entry, entry, view, insert_entry}
 use Rattle.tree.specs.Tree.{there, Table, at, put, entries_at, child, first_key}
 use Rattle.tree.specs.Step6.{times}
@@ -43,7 +43,7 @@ pub kid_range : (l lo hi : ℕ) (before : List (Kid (Shape l))) (kid : Kid (Shap
 kid_range l lo hi before kid after h =
     let mb = map (entry_of l) before in
     let ma = map (entry_of l) after in
-    let b : Between lo hi (mb ++ (entry_of l kid ∷ ma)) = rw map-append at h in (
+    let b : Between lo hi (mb ++ (entry_of l kid ∷ ma)) = rw map_append at h in (
       between_le lo kid.key mb (between_left lo hi mb (entry_of l kid ∷ ma) b),
       rw (← start_first l hi after) (between_le (first_key hi ma) hi ma (between_right (suc kid.key) hi [] ma (between_right lo hi mb (entry_of l kid ∷ ma) b).1)),
     )
@@ -94,7 +94,7 @@ insert_after lo hi k m a e d h g₁ g₂ =
     (between_down (suc k) (first_key hi d) hi d g₂ (between_right (suc e.key) hi [] d (between_right lo hi a (e ∷ d) h).1)))
 
 map_three : {A B : Type 0} (f : A → B) (a b d : List A) → map f (a ++ (b ++ d)) ≡ map f a ++ (map f b ++ map f d)
-map_three f a b d = rw (map-append f a (b ++ d), map-append f b d)
+map_three f a b d = rw (map_append f a (b ++ d), map_append f b d)
 
 module _ (k : ℕ) (f : List Entry → List Entry) (st : LeafStep k f) (t : Table) (l lo hi n : ℕ) (before : List (Kid (Shape l))) (kid : Kid (Shape l))
     (after : List (Kid (Shape l))) (h : Sub 16 t (suc l) lo hi (record { number = n; kids = before ++ (kid ∷ after) }))
@@ -145,7 +145,7 @@ module _ (k : ℕ) (f : List Entry → List Entry) (st : LeafStep k f) (t : Tabl
       (kids_between t l (sub_between 16 t l) (suc k) hi after high (kids_right (Sub 16 t l) hi before (kid ∷ after) h.1.1).1))))
 
   old_tops : Between lo hi (map (entry_of l) before ++ (entry_of l kid ∷ map (entry_of l) after))
-  old_tops = rw map-append at h.0.keys
+  old_tops = rw map_append at h.0.keys
 
   joined_keys : Between lo hi (map (entry_of l) (before ++ (g.mids ++ after)))
   joined_keys =
@@ -173,13 +173,13 @@ module _ (k : ℕ) (f : List Entry → List Entry) (st : LeafStep k f) (t : Tabl
   pub stopped_sub : map (entry_of l) g.mids ≡ entry_of l kid ∷ [] → Sub 16 (table_of r) (suc l) lo hi (record { number = n; kids = before ++ (g.mids ++ after) })
   stopped_sub e =
       let e' : map (entry_of l) (before ++ (g.mids ++ after)) ≡ map (entry_of l) (before ++ (kid ∷ after))
-      = rw (map_three (entry_of l) before g.mids after, e, map-append (entry_of l) before (kid ∷ after)) in
+      = rw (map_three (entry_of l) before g.mids after, e, map_append (entry_of l) before (kid ∷ after)) in
       (record { is = kept ∙ rw e'; keys = joined_keys; size = rw e' h.0.size }, joined_inner)
 
   module _ (k' m : ℕ) (e : map (entry_of l) g.mids ≡ entry_of l kid ∷ entry k' m ∷ []) (g₁ : kid.key < k') (g₂ : k' < start_of hi after) where
     new_tops : map (entry_of l) (before ++ (g.mids ++ after)) ≡ insert_entry k' m (map (entry_of l) (before ++ (kid ∷ after)))
     new_tops =
-        rw (map_three (entry_of l) before g.mids after, e, map-append (entry_of l) before (kid ∷ after))
+        rw (map_three (entry_of l) before g.mids after, e, map_append (entry_of l) before (kid ∷ after))
         (sym (insert_after lo hi k' m (map (entry_of l) before) (entry_of l kid) (map (entry_of l) after) old_tops g₁ (rw start_first g₂)))
 
     pub gained_tops : insert_entry k' m (entries_at (table_of r) n) ≡ map (entry_of l) (before ++ (g.mids ++ after))

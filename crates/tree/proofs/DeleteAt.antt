@@ -8,7 +8,7 @@ use lib.ListN.{length, length-append, length-map}
 use borrow.Author.Tests.{lt-ltb, le-ltb}
 use Rattle.lists.specs.Lists.{All, none, more}
 use Rattle.lists.proofs.Alls.{All-map, All-append, All-left, All-right, All-head, All-tail}
-use Rattle.lists.proofs.Flats.{map-append}
+use Rattle.lists.proofs.Flats.{map_append}
 use Rattle.lists.proofs.Tests.{below_or_not}
 use Rattle.pages.specs.declared.unit.Update.TheVariants.{Delete}
 use Rattle.pages.specs.declared.unit.Unit as U
@@ -90,7 +90,7 @@ module _ (k : ℕ) (t : Table) (l lo hi n : ℕ) (before : List (Kid (Shape l)))
     new = record { key = kid.key; sub = s }
 
     map_same : map (entry_of l) (before ++ (new ∷ after)) ≡ map (entry_of l) (before ++ (kid ∷ after))
-    map_same = rw (map-append (entry_of l) before (new ∷ after), map-append (entry_of l) before (kid ∷ after), g.same)
+    map_same = rw (map_append (entry_of l) before (new ∷ after), map_append (entry_of l) before (kid ∷ after), g.same)
 
     pub node_kept : at u n ≡ view (suc l) (map (entry_of l) (before ++ (new ∷ after)))
     node_kept =

@@ -126,12 +126,12 @@ top_kept l c k (lost t) r p e f =
     let q : (ltb (length (entries_at t c)) 8 && merging (neighbours k (entries_at t 0)) t) ≡ false
     = cases (merging (neighbours k (entries_at t 0)) t)
     (λ m. let y : ltb (length (entries_at t c)) 8 ≡ false = (rw (p, e) at (f (merging_two k (entries_at t 0) t m))) in rw (y) refl)
-    (λ m. rw m (and-false (ltb (length (entries_at t c)) 8))) in
+    (λ m. rw m (and_false (ltb (length (entries_at t c)) 8))) in
     rw q refl
   where
-    and-false : (b : Bool) → (b && false) ≡ false
-    and-false true = refl
-    and-false false = refl
+    and_false : (b : Bool) → (b && false) ≡ false
+    and_false true = refl
+    and_false false = refl
 
 -- two entries are neighbours
 two_near : (k : ℕ) (es : List Entry) → length es ≡ 2 → neighbours k es ≡ two [] (get_or es 0 (entry 0 0)) (get_or es 1 (entry 0 0)) []

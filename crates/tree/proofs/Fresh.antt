@@ -4,7 +4,7 @@ use mathlib.Core.List.{List, ◌∷◌, ◌++◌, map}
 use Prim.Native.Nat.{ℕ, zero, suc, ◌<◌, ◌≤◌}
 use native.Mathlib.Omega.{arith}
 use lib.ListN.{length, length-append}
-use Rattle.lists.proofs.Flats.{map-append}
+use Rattle.lists.proofs.Flats.{map_append}
 use Rattle.views.specs.Nodes.{Entry, entry, insert_entry}
 use Rattle.tree.specs.Tree.{Table, at, entries_of, entries_at, root_level}
 use Rattle.tree.specs.Step6.{top, times, Tree}
@@ -22,7 +22,7 @@ one_more a e x d = omega (arith, length-append a (e ∷ x ∷ d), length-append 
 
 module _ (k : ℕ) (f : List Entry → List Entry) (t : Table) (l lo hi n : ℕ) (ks : List (Kid (Shape l))) (w : Under t l lo hi n k ks) where
   tops_are : entries_at t n ≡ map (entry_of l) w.before ++ (entry_of l w.kid ∷ map (entry_of l) w.after)
-  tops_are = ap entries_of w.whole.0.is ∙ map-append (entry_of l) w.before (w.kid ∷ w.after)
+  tops_are = ap entries_of w.whole.0.is ∙ map_append (entry_of l) w.before (w.kid ∷ w.after)
 
   -- the node has one entry more with what its kid gives up
   gains_one : (j m : ℕ) (u : Table) → Grown f t (gains j m u) l w.kid.key (start_of hi w.after) w.kid.sub
@@ -32,7 +32,7 @@ module _ (k : ℕ) (f : List Entry → List Entry) (t : Table) (l lo hi n : ℕ)
       let e = entry_of l w.kid in
       let d = map (entry_of l) w.after in
       ap (λ (es : List Entry). length (insert_entry j m es)) tops_are
-      ∙ ap length (insert_after lo hi j m a e d (rw map-append at w.whole.0.keys) g.order.1.0 (rw start_first g.order.1.1))
+      ∙ ap length (insert_after lo hi j m a e d (rw map_append at w.whole.0.keys) g.order.1.0 (rw start_first g.order.1.1))
       ∙ one_more a e (entry j m) d ∙ ap (λ (es : List Entry). suc (length es)) (sym tops_are)
 
 module _ (k v : ℕ) (t : Table) where

@@ -100,14 +100,14 @@ module _ (t : Table) (g : Tree t) (p : Thick 0 t) (few : nodes t ≤ 256) where
       (root_few T.level T.shape (sym (level_at t T) ∙ e) (filled_full 0 t T p.nodes) (omega (arith, nodes_shape t T)))
 
 -- ---- an insert
-and-false : (a b : Bool) → b ≡ false → (a && b) ≡ false
-and-false true b e = e
-and-false false b e = refl
+and_false : (a b : Bool) → b ≡ false → (a && b) ≡ false
+and_false true b e = e
+and_false false b e = refl
 
 spills_not : (l k v : ℕ) (t : Table) → l ≡ 3 → length (entries_at t 0) ≤ 3 → spills l 0 k v t ≡ false
 spills_not zero k v t e h = absurd (omega arith)
 spills_not (suc l) k v t e h =
-    and-false (spills l (child t 0 k) k v t) (ltb 16 (suc (length (entries_at t 0)))) (le-ltb 16 (suc (length (entries_at t 0))) (omega arith))
+    and_false (spills l (child t 0 k) k v t) (ltb 16 (suc (length (entries_at t 0)))) (le-ltb 16 (suc (length (entries_at t 0))) (omega arith))
 
 bit_most : (b : Bool) → bit b ≤ 1
 bit_most true = omega arith

@@ -8,7 +8,7 @@ use lib.ListN.{length}
 use borrow.Author.Tests.{lt-ltb, le-ltb}
 use Rattle.lists.specs.Lists.{All}
 use Rattle.lists.proofs.Alls.{All-map, All-zip, All-right}
-use Rattle.lists.proofs.Flats.{map-append}
+use Rattle.lists.proofs.Flats.{map_append}
 use Rattle.lists.proofs.Tests.{below_or_not}
 use Rattle.pages.specs.declared.unit.Unit as U
 use Rattle.pages.specs.Units.{Valid}
@@ -106,7 +106,7 @@ module _ (limit k : ℕ) (t : Table) (ht : length t ≤ limit) (hk : k < top) (t
 
     picked : Pick l k before (record { key = kid.key; sub = g.shape }) after
     picked =
-        let b : Between lo hi (map (entry_of l) before ++ (entry_of l x ∷ map (entry_of l) after)) = rw map-append at changed.sub.0.keys in
+        let b : Between lo hi (map (entry_of l) before ++ (entry_of l x ∷ map (entry_of l) after)) = rw map_append at changed.sub.0.keys in
         pick l k lo hi before x after (between_left lo hi (map (entry_of l) before) (entry_of l x ∷ map (entry_of l) after) b) low high
 
     small_u : Smalls (leaves (delete_at l (number l kid.sub) k t))
@@ -132,7 +132,7 @@ module _ (limit k : ℕ) (t : Table) (ht : length t ≤ limit) (hk : k < top) (t
     joint : Joint limit l n (number l kid.sub) k t (leaves (delete_at l (number l kid.sub) k t))
     joint =
         let back : map (entry_of l) (before ++ (x ∷ after)) ≡ map (entry_of l) (before ++ (kid ∷ after))
-        = rw (map-append (entry_of l) before (x ∷ after), map-append (entry_of l) before (kid ∷ after), g.becomes.same) in
+        = rw (map_append (entry_of l) before (x ∷ after), map_append (entry_of l) before (kid ∷ after), g.becomes.same) in
         record { same = tops_u ∙ back ∙ sym (ap entries_of h.0.is); settling = settling }
 
   way_sub : (l lo hi : ℕ) (s : Shape l) → Sub 16 t l lo hi s → ((j : ℕ) → times j (nums l s) ≤ 1) → lo ≤ k → k < hi → DeleteWay limit l (number l s) k t

@@ -25,7 +25,7 @@ use Rattle.tree.proofs.Tables.{at_same, at_other}
 use Rattle.tree.proofs.Shape.{Kid, Shape, number, entry_of, tops, nums, Sub, there_le}
 use Rattle.tree.proofs.Parts.{join_s, join_number, join_tops}
 use Rattle.tree.proofs.Full.{Wide, wide_join}
-use Rattle.tree.proofs.Settle.{sub-a, sub_b, there_a, there_b, there_n, apart_n_a, apart_n_b, apart_a_b, joined_keys, joins}
+use Rattle.tree.proofs.Settle.{sub_a, sub_b, there_a, there_b, there_n, apart_n_a, apart_n_b, apart_a_b, joined_keys, joins}
 use Rattle.tree.proofs.PairUnits.{frees_append, frees_inserts}
 use Rattle.tree.proofs.UnitLaws.{touches, then, anew_view}
 use Rattle.tree.proofs.Validity.{Small, Smalls, ValidUpdates, valid_map, valid_inserted}
@@ -114,7 +114,7 @@ module _ (u : Table) (l : ℕ) (a b : Kid (Shape l)) (g : Rooting u (suc l) (rec
         record { root = refl; sub = C.sub; once = λ j. omega (arith, C.counts j, g.once j) }
 
     j_wide : Wide l J.sub
-    j_wide = wide_join u l a.key b.key top a.sub b.sub (sub-a u l 0 top 0 [] a b [] h once).1 (sub_b u l 0 top 0 [] a b [] h once).1
+    j_wide = wide_join u l a.key b.key top a.sub b.sub (sub_a u l 0 top 0 [] a b [] h once).1 (sub_b u l 0 top 0 [] a b [] h once).1
 
     -- what the delete leaves
     left_is : l < 255 → collapsed (suc l) j_table ≡ put A freed (put 0 (view l es) j_table)
@@ -176,7 +176,7 @@ module _ (u : Table) (l : ℕ) (a b : Kid (Shape l)) (g : Rooting u (suc l) (rec
     pub merged : Merged u (collapsed (suc l) (leaves (settle l 0 (two [] (entry_of l a) (entry_of l b) []) u))) (merge_units l (two [] (entry_of l a) (entry_of l b) []) u) l
     unfolding settle
     merged =
-        let ia = (sub-a u l 0 top 0 [] a b [] h once).0.is in
+        let ia = (sub_a u l 0 top 0 [] a b [] h once).0.is in
         let ib = (sub_b u l 0 top 0 [] a b [] h once).0.is in
         let ea : entries_at u (number l a.sub) ≡ tops l a.sub = ap entries_of ia in
         let eb : entries_at u (number l b.sub) ≡ tops l b.sub = ap entries_of ib in

@@ -8,7 +8,7 @@ use lib.ListN.{length, length-append, length-map}
 use borrow.Author.Tests.{lt-ltb, le-ltb}
 use Rattle.lists.specs.Lists.{All, none}
 use Rattle.lists.proofs.Alls.{All-left, All-right, All-head, All-tail}
-use Rattle.lists.proofs.Flats.{map-append}
+use Rattle.lists.proofs.Flats.{map_append}
 use Rattle.views.specs.Nodes.{Entry}
 use Rattle.tree.specs.Tree.{Table, nodes}
 use Rattle.tree.specs.Step6.{times}
@@ -167,5 +167,5 @@ module _ (u : Table) (l lo hi n k : ℕ) (kid : Kid (Shape l)) (thin : length_of
 
   pub repaired : (before after : List (Kid (Shape l))) → kid.key ≤ k → k < start_of hi after → Case before after
   repaired before after low high h once =
-      let b : Between lo hi (map (entry_of l) before ++ (entry_of l kid ∷ map (entry_of l) after)) = rw map-append at h.0.keys in
+      let b : Between lo hi (map (entry_of l) before ++ (entry_of l kid ∷ map (entry_of l) after)) = rw map_append at h.0.keys in
       by_pick before after (pick l k lo hi before kid after (between_left lo hi (map (entry_of l) before) (entry_of l kid ∷ map (entry_of l) after) b) low high) h once

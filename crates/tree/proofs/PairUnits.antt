@@ -8,7 +8,7 @@ use lib.ListN.{length, take, drop, length-append, length-map, length-take, lengt
 use borrow.Author.Tests.{le-leb, lt-ltb, le-ltb}
 use lib.Dec.{ltb}
 use Rattle.lists.proofs.Tests.{cases}
-use Rattle.lists.proofs.Flats.{map-append}
+use Rattle.lists.proofs.Flats.{map_append}
 use Rattle.pages.specs.declared.unit.Update.{Update}
 use Rattle.pages.specs.declared.unit.Update.TheVariants.{Insert, Delete, Reset}
 use Rattle.views.specs.Nodes.{Entry, entry, View, freed, view, apply, within, inserted, insert_entry, delete_entry}
@@ -23,7 +23,7 @@ use Rattle.tree.proofs.Shape.{Kid, Shape, number, entry_of, tops, nums, start_of
 use Rattle.lists.proofs.Filters.{count_append}
 use Rattle.pages.specs.declared.unit.Unit as U
 use Rattle.tree.proofs.Parts.{join_tops}
-use Rattle.tree.proofs.Settle.{sub-a, sub_b, there_a, there_b, there_n, apart_n_a, apart_n_b, apart_a_b, joined_keys, old_size, is_cut_lem}
+use Rattle.tree.proofs.Settle.{sub_a, sub_b, there_a, there_b, there_n, apart_n_a, apart_n_b, apart_a_b, joined_keys, old_size, is_cut_lem}
 use Rattle.tree.proofs.UnitLaws.{three, inserts_behind, delete_second, renew_second, first_over, last_over}
 
 module _ (t : Table) (l lo hi n : ℕ) (bs : List (Kid (Shape l))) (a b : Kid (Shape l)) (ds : List (Kid (Shape l)))
@@ -48,16 +48,16 @@ module _ (t : Table) (l lo hi n : ℕ) (bs : List (Kid (Shape l))) (a b : Kid (S
   md = map (entry_of l) ds
 
   is_a : at t A ≡ view l xs
-  is_a = (sub-a t l lo hi n bs a b ds h once).0.is
+  is_a = (sub_a t l lo hi n bs a b ds h once).0.is
 
   is_b : at t B ≡ view l ys
   is_b = (sub_b t l lo hi n bs a b ds h once).0.is
 
   is_n : at t n ≡ view (suc l) (mb ++ (entry_of l a ∷ entry_of l b ∷ md))
-  is_n = h.0.is ∙ ap (view (suc l)) (map-append (entry_of l) bs (a ∷ b ∷ ds))
+  is_n = h.0.is ∙ ap (view (suc l)) (map_append (entry_of l) bs (a ∷ b ∷ ds))
 
   keys_n : Between lo hi (mb ++ (entry_of l a ∷ entry_of l b ∷ md))
-  keys_n = rw map-append at h.0.keys
+  keys_n = rw map_append at h.0.keys
 
   keys_ab : Between a.key (start_of hi ds) (xs ++ ys)
   keys_ab = rw join_tops at (joined_keys t l lo hi n bs a b ds h once)
@@ -126,7 +126,7 @@ module _ (t : Table) (l lo hi n : ℕ) (bs : List (Kid (Shape l))) (a b : Kid (S
       let e = first_of (drop (length xs - 1) xs) in
       let el = length-append xs ys in
       let dr : length (drop m (xs ++ ys)) ≤ 16 = rw length-drop (omega arith) in
-      move m e.key (Delete e.key) (inserted e) (omega arith) (omega arith) (omega (arith, (sub-a t l lo hi n bs a b ds h once).0.size)) (omega arith)
+      move m e.key (Delete e.key) (inserted e) (omega arith) (omega arith) (omega (arith, (sub_a t l lo hi n bs a b ds h once).0.size)) (omega arith)
       F.2
       (ap (λ (w : View). apply w (Delete e.key)) is_a ∙ ap (view l) F.0)
       (ap (λ (w : View). apply w (inserted e)) is_b ∙ ap (within l) F.1 ∙ rw (le-leb (length (drop m (xs ++ ys))) 16 dr))

@@ -8,7 +8,7 @@ use lib.ListN.{length, drop, length-append, length-map, length-take, length-drop
 use borrow.Author.Tests.{le-leb, lt-leb, lt-ltb, le-ltb}
 use Rattle.lists.specs.Lists.{All, none, more}
 use Rattle.lists.proofs.Alls.{All-append, All-right, All-head, All-tail}
-use Rattle.lists.proofs.Flats.{map-append}
+use Rattle.lists.proofs.Flats.{map_append}
 use Rattle.lists.proofs.Tests.{cases, below_or_not}
 use Rattle.pages.specs.declared.unit.Update.{Update}
 use Rattle.pages.specs.declared.unit.Update.TheVariants.{Insert, Delete, Reset}
@@ -26,7 +26,7 @@ use Rattle.tree.proofs.Validity.{Small, Smalls, ValidUpdates, valid_join, valid_
 use Rattle.tree.proofs.Shape.{Kid, Shape, number, entry_of, tops, nums, start_of, Inner, Sub}
 use Rattle.tree.proofs.Parts.{join_s, join_tops, lower_s, upper_s, lower_tops, upper_tops, starts_some}
 use Rattle.tree.proofs.Becomes.{Becomes}
-use Rattle.tree.proofs.Settle.{sub-a, sub_b, there_a, there_b, there_n, join_nodes, share_nodes, joins, shares}
+use Rattle.tree.proofs.Settle.{sub_a, sub_b, there_a, there_b, there_n, join_nodes, share_nodes, joins, shares}
 use Rattle.tree.proofs.PairUnits.{join_units_lem, share_units_lem, join_length, share_length, join_frees, share_frees}
 use Rattle.tree.proofs.Full.{Full, Strong, Wide, wide_join, least_most, full_join, full_lower, full_upper}
 
@@ -118,7 +118,7 @@ module _ (t : Table) (l lo hi n : ℕ) (bs : List (Kid (Shape l))) (a b : Kid (S
   es_length = length-append (tops l a.sub) (tops l b.sub)
 
   few_a : length_of l a ≤ 16
-  few_a = (sub-a t l lo hi n bs a b ds h once).0.size
+  few_a = (sub_a t l lo hi n bs a b ds h once).0.size
 
   few_b : length_of l b ≤ 16
   few_b = (sub_b t l lo hi n bs a b ds h once).0.size
@@ -133,14 +133,14 @@ module _ (t : Table) (l lo hi n : ℕ) (bs : List (Kid (Shape l))) (a b : Kid (S
   on_n = there_n t l lo hi n bs a b ds h once
 
   small_a : Smalls t → Small (tops l a.sub)
-  small_a ts = subst (λ (w : View). Small (entries_of w)) (sub-a t l lo hi n bs a b ds h once).0.is (ts (number l a.sub))
+  small_a ts = subst (λ (w : View). Small (entries_of w)) (sub_a t l lo hi n bs a b ds h once).0.is (ts (number l a.sub))
 
   small_b : Smalls t → Small (tops l b.sub)
   small_b ts = subst (λ (w : View). Small (entries_of w)) (sub_b t l lo hi n bs a b ds h once).0.is (ts (number l b.sub))
 
   small_entry : Smalls t → (b.key < top) × (number l b.sub < top)
   small_entry ts =
-      let e : entries_at t n ≡ map (entry_of l) bs ++ (entry_of l a ∷ entry_of l b ∷ map (entry_of l) ds) = ap entries_of h.0.is ∙ map-append (entry_of l) bs (a ∷ b ∷ ds) in
+      let e : entries_at t n ≡ map (entry_of l) bs ++ (entry_of l a ∷ entry_of l b ∷ map (entry_of l) ds) = ap entries_of h.0.is ∙ map_append (entry_of l) bs (a ∷ b ∷ ds) in
       let s : Small (map (entry_of l) bs ++ (entry_of l a ∷ entry_of l b ∷ map (entry_of l) ds)) = subst (λ (es : List Entry). Small es) e (ts n) in
       All-head (All-tail (All-right (map (entry_of l) bs) (entry_of l a ∷ entry_of l b ∷ map (entry_of l) ds) s))
 
@@ -165,9 +165,9 @@ module _ (t : Table) (l lo hi n : ℕ) (bs : List (Kid (Shape l))) (a b : Kid (S
               join_nodes t l lo hi n bs a b ds h once es (sym (join_tops l a.sub b.sub)) (omega (arith, es_length)),
             );
         valid = λ ts. valid_join n (entry_of l a) (entry_of l b) (tops l b.sub) (small_b ts) (small_entry ts).0;
-        few = omega (arith, join_length n (entry_of l a) (entry_of l b) (tops l b.sub), gap_left t l a.key b.key a.sub (sub-a t l lo hi n bs a b ds h once).1);
+        few = omega (arith, join_length n (entry_of l a) (entry_of l b) (tops l b.sub), gap_left t l a.key b.key a.sub (sub_a t l lo hi n bs a b ds h once).1);
         thick = λ q. omega (arith, join_length n (entry_of l a) (entry_of l b) (tops l b.sub));
-        heir = λ _ q. lone bs J ds (wide_join t l a.key b.key (start_of hi ds) a.sub b.sub (sub-a t l lo hi n bs a b ds h once).1 (sub_b t l lo hi n bs a b ds h once).1) q;
+        heir = λ _ q. lone bs J ds (wide_join t l a.key b.key (start_of hi ds) a.sub b.sub (sub_a t l lo hi n bs a b ds h once).1 (sub_b t l lo hi n bs a b ds h once).1) q;
       }
 
   shared : (m : ℕ) → 0 < m → m < length_of l a + length_of l b → m ≤ 16 → length_of l a + length_of l b ≤ 16 + m
@@ -233,7 +233,7 @@ module _ (t : Table) (l lo hi n : ℕ) (bs : List (Kid (Shape l))) (a b : Kid (S
       → Settled t (settle l n (two (map (entry_of l) bs) (entry_of l a) (entry_of l b) (map (entry_of l) ds)) t) (settle_units n (two (map (entry_of l) bs) (entry_of l a) (entry_of l b) (map (entry_of l) ds)) t) l lo hi n bs a b ds
   unfolding settle settle_units
   settled small =
-      let ea : entries_at t (number l a.sub) ≡ tops l a.sub = ap entries_of (sub-a t l lo hi n bs a b ds h once).0.is in
+      let ea : entries_at t (number l a.sub) ≡ tops l a.sub = ap entries_of (sub_a t l lo hi n bs a b ds h once).0.is in
       let eb : entries_at t (number l b.sub) ≡ tops l b.sub = ap entries_of (sub_b t l lo hi n bs a b ds h once).0.is in
       rw (ea, eb)
       (⊎_elim

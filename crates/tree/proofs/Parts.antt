@@ -4,7 +4,7 @@ use mathlib.Core.List.{List, [], ◌∷◌, ◌++◌, map}
 use Prim.Native.Nat.{ℕ, zero, suc, ◌+◌, ◌-◌, ◌<◌, ◌≤◌}
 use native.Mathlib.Omega.{arith}
 use lib.ListN.{length, take, drop, take-append-drop, length-take, length-drop, length-map}
-use Rattle.lists.proofs.Flats.{flat_append, map-append, map_take, map_drop}
+use Rattle.lists.proofs.Flats.{flat_append, map_append, map_take, map_drop}
 use Rattle.views.specs.Nodes.{view}
 use Rattle.tree.specs.Tree.{Table, at, first_key}
 use Rattle.tree.specs.Step6.{times}
@@ -22,7 +22,7 @@ join_number (suc l) x y = refl
 
 pub join_tops : (l : ℕ) (x y : Shape l) → tops l (join_s l x y) ≡ tops l x ++ tops l y
 join_tops zero x y = refl
-join_tops (suc l) x y = map-append (entry_of l) x.kids y.kids
+join_tops (suc l) x y = map_append (entry_of l) x.kids y.kids
 
 pub join_recs : (l : ℕ) (x y : Shape l) → recs l (join_s l x y) ≡ recs l x ++ recs l y
 join_recs zero x y = refl

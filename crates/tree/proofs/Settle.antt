@@ -6,7 +6,7 @@ use Prim.Native.Nat.{ℕ, suc, ◌+◌, ◌<◌, ◌≤◌}
 use native.Mathlib.Omega.{arith}
 use lib.ListN.{length, take, drop, length-append, length-map}
 use borrow.Author.Tests.{eq-eqb, ne_eqb}
-use Rattle.lists.proofs.Flats.{map-append}
+use Rattle.lists.proofs.Flats.{map_append}
 use Rattle.lists.proofs.Tests.{same_or_not}
 use Rattle.views.specs.Nodes.{Entry, entry, View, freed, view}
 use Rattle.tree.specs.Tree.{there, Table, at, put, first_key, nodes}
@@ -75,14 +75,14 @@ module _ (t : Table) (l lo hi n : ℕ) (bs : List (Kid (Shape l))) (a b : Kid (S
   rest_b : (j : ℕ) → 0 < times j (rest l J) → B ≡ j → ⊥
   rest_b j p e = omega (arith, tally j, join_rest l j x y, hit_same B j e)
 
-  pub sub-a : Sub 16 t l a.key b.key x
-  sub-a = (kids_right (Sub 16 t l) hi bs (a ∷ b ∷ ds) h.1.1).0
+  pub sub_a : Sub 16 t l a.key b.key x
+  sub_a = (kids_right (Sub 16 t l) hi bs (a ∷ b ∷ ds) h.1.1).0
 
   pub sub_b : Sub 16 t l b.key (start_of hi ds) y
   sub_b = (kids_right (Sub 16 t l) hi bs (a ∷ b ∷ ds) h.1.1).1.0
 
   pub there_a : there (at t A) ≡ 1
-  there_a = ap there sub-a.0.is
+  there_a = ap there sub_a.0.is
 
   pub there_b : there (at t B) ≡ 1
   there_b = ap there sub_b.0.is
@@ -91,14 +91,14 @@ module _ (t : Table) (l lo hi n : ℕ) (bs : List (Kid (Shape l))) (a b : Kid (S
   there_n = ap there h.0.is
 
   pub joined_keys : Between a.key (start_of hi ds) (tops l J)
-  joined_keys = rw join_tops (between_append a.key b.key (start_of hi ds) (tops l x) (tops l y) sub-a.0.keys sub_b.0.keys)
+  joined_keys = rw join_tops (between_append a.key b.key (start_of hi ds) (tops l x) (tops l y) sub_a.0.keys sub_b.0.keys)
 
   joined_inner : Inner t l a.key (start_of hi ds) J
-  joined_inner = join_inner t l a.key b.key (start_of hi ds) x y sub-a.1 sub_b.1
+  joined_inner = join_inner t l a.key b.key (start_of hi ds) x y sub_a.1 sub_b.1
 
   proper : a.key < start_of hi ds
   proper =
-      let k : Between lo hi (map (entry_of l) bs ++ (entry_of l a ∷ entry_of l b ∷ map (entry_of l) ds)) = rw map-append at h.0.keys in
+      let k : Between lo hi (map (entry_of l) bs ++ (entry_of l a ∷ entry_of l b ∷ map (entry_of l) ds)) = rw map_append at h.0.keys in
       let r = between_right lo hi (map (entry_of l) bs) (entry_of l a ∷ entry_of l b ∷ map (entry_of l) ds) k in
       omega (arith, r.1.0, between_le b.key (start_of hi ds) (tops l y) sub_b.0.keys)
 
@@ -114,7 +114,7 @@ module _ (t : Table) (l lo hi n : ℕ) (bs : List (Kid (Shape l))) (a b : Kid (S
     unfolding join
     joined_is =
         at_same n (view (suc l) (map (entry_of l) bs ++ (entry_of l a ∷ map (entry_of l) ds))) (put B freed (put A (view l es) t))
-        ∙ rw (map-append (entry_of l) bs (record { key = a.key; sub = J } ∷ ds), join_number)
+        ∙ rw (map_append (entry_of l) bs (record { key = a.key; sub = J } ∷ ds), join_number)
 
     joined_far : (j : ℕ) → (n ≡ j → ⊥) → (A ≡ j → ⊥) → (B ≡ j → ⊥) → at join_t j ≡ at t j
     unfolding join
@@ -202,7 +202,7 @@ module _ (t : Table) (l lo hi n : ℕ) (bs : List (Kid (Shape l))) (a b : Kid (S
     unfolding share
     shared_is =
         at_same n top (put B (view l (drop m es)) (put A (view l (take m es)) t))
-        ∙ rw (map-append (entry_of l) bs (low ∷ high ∷ ds), lower_number, upper_number)
+        ∙ rw (map_append (entry_of l) bs (low ∷ high ∷ ds), lower_number, upper_number)
 
     shared_far : (j : ℕ) → (n ≡ j → ⊥) → (A ≡ j → ⊥) → (B ≡ j → ⊥) → at share_t j ≡ at t j
     unfolding share

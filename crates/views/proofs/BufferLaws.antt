@@ -7,7 +7,7 @@ use native.Mathlib.Omega.{arith}
 use lib.ListN.{length, take, drop, get_or, length-append, length-drop, take-append-drop, drop_of_length-le, get_or-append}
 use lib.Seq.{take_at, drop_at, drop-cons, drop-drop, drop-append-le, get_or-take, length-take-le}
 use Rattle.lists.specs.Lists.{All, flat, patch}
-use Rattle.lists.proofs.Flats.{map-append}
+use Rattle.lists.proofs.Flats.{map_append}
 use Rattle.lists.proofs.Parts.{length_patch}
 use Rattle.pages.specs.declared.unit.Unit as U
 use Rattle.pages.specs.declared.unit.Update.TheVariants.{Insert, Reset}
@@ -152,4 +152,4 @@ module _ (limit c : ℕ) (bytes : List ℕ) (us : List U.Unit) (h : 12 * c ≤ l
       let rest : List ℕ = drop (12 * length vs) (drop (12 * c) bytes) in
       decodes_append limit c (length vs) (c + length vs) x (flat encode vs ++ rest) (drop (12 * c) bytes) refl (length-take-le (12 * c) bytes h)
       ∙ ap₂ ◌++◌ (ap (decodes limit c) (take-append-drop (12 * c) bytes) ∙ e) (decodes_units rest v)
-      ∙ sym (map-append Good us vs)
+      ∙ sym (map_append Good us vs)

@@ -21,7 +21,7 @@ pub struct Scope {
 }
 
 // A node's view, and its length on flash: how many pages its list has, none where they leave it freed.
-#[derive(Drop)]
+#[derive(Clone, Copy)]
 pub struct Reading {
     pub folded: Folded,
     pub pages: u32,

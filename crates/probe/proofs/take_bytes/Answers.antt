@@ -10,7 +10,7 @@ pub returns-in_err-probe-clause-err : goal.returns-in_err-probe-clause-err
 returns-in_err-probe-clause-err g c =
     let l = c.loop-byte in
     on_err c.from_residual.result
-    (first_before c.args.bytes.now _ _ l.byte-index l.l (rig l.probe.bed l.torn l.probe.state l.image) _ _ l.invariant
+    (first_before c.args.bytes.now _ _ l.byte-index l.l (rig l.probe.bed l.torn l.probe.state l.image) _ _ c.loop-byte-test.true c.if-byte-eq10.true l.invariant
     c.in_err-probe.ensures.err_torn c.in_err-probe.ensures.err)
 
 pub loop-byte-preserved : goal.loop-byte-preserved

@@ -4,12 +4,12 @@ use lib.ListN.{length}
 use Rattle.chip.specs.Geometry.{most_pages}
 use Rattle.chip.specs.Chip.{pages_of}
 use Rattle.pages.specs.Steps.{steps}
-use Rattle.store.proofs.SizeLaws.{on-chip}
+use Rattle.store.proofs.SizeLaws.{on_chip}
 use Rattle.store.proofs.CheckLaws.{refused_checks, says_refused, says_stands, StandsBy, stands_room, stands_numbered, stands_layout, stands_shape, stands_tree}
 use Rattle.store.proofs.check.check.Goals as goal
 
 pub settle-requires : goal.settle-requires
-settle-requires c = let o = on-chip c.args.geometry c.requires.1 c.args.blocks (length c.args.image.now) c.requires.0 in
+settle-requires c = let o = on_chip c.args.geometry c.requires.1 c.args.blocks (length c.args.image.now) c.requires.0 in
     (o.0, o.1, c.requires.1)
 
 pub overflow_sub-to : goal.overflow_sub-to
@@ -22,7 +22,7 @@ pub judge-requires : goal.judge-requires
 judge-requires c =
     let stood : (StandsBy (steps c.args.geometry (pages_of c.args.geometry c.args.image.now)) c.settle.new.order c.in-Stands.first c.in-Stands.voids) = says_stands _ _ _ _ (rw c.in-Stands.is at c.settle.ensures) in
     let room : (c.in-Stands.first + c.in-Stands.voids < most_pages) × (c.in-Stands.first ≤ most_pages - c.in-Stands.voids) × (c.in-Stands.voids < most_pages) = stands_room c.args.geometry c.requires.1 c.args.image.now _ _ _ c.args.blocks c.requires.0 (λ i. omega (arith, c.type_inv.image i)) stood in
-    let o = on-chip c.args.geometry c.requires.1 c.args.blocks (length c.args.image.now) c.requires.0 in
+    let o = on_chip c.args.geometry c.requires.1 c.args.blocks (length c.args.image.now) c.requires.0 in
     (o.0, o.1, room.1, omega arith, omega (arith, c.requires.0.most), c.requires.1)
 
 pub passed-requires : goal.passed-requires

@@ -21,3 +21,6 @@ returns-in-Ends c =
       says = λ free. commit_ends (with_free c.args.numbers free) c.args.buffer.now c.args.lens.now c.args.slots.now c.args.erases.now c.args.allowance c.args.torn.now c.args.image.now _ low
           (begins_free c.args.numbers free _ _ _ (subst (λ (r : Beginning). CommitBegins c.args.numbers (length c.args.image.now) (length c.args.torn.now) r) c.in-Ends.is c.commit_begins.ensures));
     })
+
+pub returns-in-Plans : goal.returns-in-Plans
+returns-in-Plans c = c.commit_pending.ensures

@@ -23,13 +23,13 @@ format-reached-requires c = let p : 0 < c.sized-blocks.result = omega (arith, c.
 
 pub overflow_mul-blocks : goal.overflow_mul-blocks
 overflow_mul-blocks c =
-    let blocks-most : c.sized-blocks.result ≤ 32 = (c.sized-blocks.ensures.chip (omega (arith, c.if-blocks-eq0.false))).most in
-    omega (arith, blocks-most)
+    let blocks_most : c.sized-blocks.result ≤ 32 = (c.sized-blocks.ensures.chip (omega (arith, c.if-blocks-eq0.false))).most in
+    omega (arith, blocks_most)
 
 pub overflow_cast-blocks : goal.overflow_cast-blocks
 overflow_cast-blocks c =
-    let blocks-most : c.sized-blocks.result ≤ 32 = (c.sized-blocks.ensures.chip (omega (arith, c.if-blocks-eq0.false))).most in
-    omega (arith, blocks-most)
+    let blocks_most : c.sized-blocks.result ≤ 32 = (c.sized-blocks.ensures.chip (omega (arith, c.if-blocks-eq0.false))).most in
+    omega (arith, blocks_most)
 
 pub returns : goal.returns
 returns c buffer =

@@ -32,23 +32,23 @@ pub overflow_mul-a : goal.overflow_mul-a
 overflow_mul-a c =
     let read : Geometry = c.geometry_of-geometry.result in
     let fit : Fits read = c.geometry_of-geometry.ensures.1 in
-    let on-chip : (ChipOf read c.args.numbers.blocks (length c.args.image.now) × (c.args.at < c.args.numbers.blocks)) = (rw c.geometry_of-geometry.ensures.0 (c.admit.ensures.chip c.in-Passes.is), omega (arith, c.if-b-numbers.false)) in
-    let low : (c.args.at * block_size read + block_size read ≤ 32 * block_size large) = let w = on-chip in let m : 32 * block_size read ≤ 32 * block_size large = mul-le-mul (let z : 32 ≤ 32 = omega arith in z) (block_most read fit) in omega (arith, block_end read c.args.at 32 (omega (arith, w.0.most, w.1)), m) in
+    let on_chip : (ChipOf read c.args.numbers.blocks (length c.args.image.now) × (c.args.at < c.args.numbers.blocks)) = (rw c.geometry_of-geometry.ensures.0 (c.admit.ensures.chip c.in-Passes.is), omega (arith, c.if-b-numbers.false)) in
+    let low : (c.args.at * block_size read + block_size read ≤ 32 * block_size large) = let w = on_chip in let m : 32 * block_size read ≤ 32 * block_size large = mul-le-mul (let z : 32 ≤ 32 = omega arith in z) (block_most read fit) in omega (arith, block_end read c.args.at 32 (omega (arith, w.0.most, w.1)), m) in
     record { fits = omega (arith, low) }
 
 pub overflow_add-e : goal.overflow_add-e
 overflow_add-e c =
     let read : Geometry = c.geometry_of-geometry.result in
     let fit : Fits read = c.geometry_of-geometry.ensures.1 in
-    let on-chip : (ChipOf read c.args.numbers.blocks (length c.args.image.now) × (c.args.at < c.args.numbers.blocks)) = (rw c.geometry_of-geometry.ensures.0 (c.admit.ensures.chip c.in-Passes.is), omega (arith, c.if-b-numbers.false)) in
-    let low : (c.args.at * block_size read + block_size read ≤ 32 * block_size large) = let w = on-chip in let m : 32 * block_size read ≤ 32 * block_size large = mul-le-mul (let z : 32 ≤ 32 = omega arith in z) (block_most read fit) in omega (arith, block_end read c.args.at 32 (omega (arith, w.0.most, w.1)), m) in
+    let on_chip : (ChipOf read c.args.numbers.blocks (length c.args.image.now) × (c.args.at < c.args.numbers.blocks)) = (rw c.geometry_of-geometry.ensures.0 (c.admit.ensures.chip c.in-Passes.is), omega (arith, c.if-b-numbers.false)) in
+    let low : (c.args.at * block_size read + block_size read ≤ 32 * block_size large) = let w = on_chip in let m : 32 * block_size read ≤ 32 * block_size large = mul-le-mul (let z : 32 ≤ 32 = omega arith in z) (block_most read fit) in omega (arith, block_end read c.args.at 32 (omega (arith, w.0.most, w.1)), m) in
     record { fits = omega (arith, low) }
 
 pub slice_bounds-free_pages-end : goal.slice_bounds-free_pages-end
 slice_bounds-free_pages-end c =
     let read : Geometry = c.geometry_of-geometry.result in
-    let on-chip : (ChipOf read c.args.numbers.blocks (length c.args.image.now) × (c.args.at < c.args.numbers.blocks)) = (rw c.geometry_of-geometry.ensures.0 (c.admit.ensures.chip c.in-Passes.is), omega (arith, c.if-b-numbers.false)) in
-    let ends : (c.args.at * block_size read + block_size read ≤ length c.args.image.now) = let w = on-chip in omega (arith, w.0.size, block_end read _ _ w.1) in
+    let on_chip : (ChipOf read c.args.numbers.blocks (length c.args.image.now) × (c.args.at < c.args.numbers.blocks)) = (rw c.geometry_of-geometry.ensures.0 (c.admit.ensures.chip c.in-Passes.is), omega (arith, c.if-b-numbers.false)) in
+    let ends : (c.args.at * block_size read + block_size read ≤ length c.args.image.now) = let w = on_chip in omega (arith, w.0.size, block_end read _ _ w.1) in
     omega (arith, ends)
 
 pub free_pages-free-requires : goal.free_pages-free-requires
@@ -60,8 +60,8 @@ free_pages-free-requires c =
 pub bounds-erases-b : goal.bounds-erases-b
 bounds-erases-b c =
     let read : Geometry = c.geometry_of-geometry.result in
-    let on-chip : (ChipOf read c.args.numbers.blocks (length c.args.image.now) × (c.args.at < c.args.numbers.blocks)) = (rw c.geometry_of-geometry.ensures.0 (c.admit.ensures.chip c.in-Passes.is), omega (arith, c.if-b-numbers.false)) in
-    let w = on-chip in omega (arith, w.0.most, w.1)
+    let on_chip : (ChipOf read c.args.numbers.blocks (length c.args.image.now) × (c.args.at < c.args.numbers.blocks)) = (rw c.geometry_of-geometry.ensures.0 (c.admit.ensures.chip c.in-Passes.is), omega (arith, c.if-b-numbers.false)) in
+    let w = on_chip in omega (arith, w.0.most, w.1)
 
 pub returns-in-Off : goal.returns-in-Off
 returns-in-Off c free buffer lens slots = let s = joined (with_free c.args.numbers free) buffer lens slots c.args.erases.now in
@@ -74,10 +74,10 @@ returns-in-Size c free buffer lens slots = let s = joined (with_free c.args.numb
 pub returns-else-b-numbers : goal.returns-else-b-numbers
 returns-else-b-numbers c free buffer lens slots =
     let read : Geometry = c.geometry_of-geometry.result in
-    let on-chip : (ChipOf read c.args.numbers.blocks (length c.args.image.now) × (c.args.at < c.args.numbers.blocks)) = (rw c.geometry_of-geometry.ensures.0 (c.admit.ensures.chip c.in-Passes.is), omega (arith, c.if-b-numbers.false)) in
+    let on_chip : (ChipOf read c.args.numbers.blocks (length c.args.image.now) × (c.args.at < c.args.numbers.blocks)) = (rw c.geometry_of-geometry.ensures.0 (c.admit.ensures.chip c.in-Passes.is), omega (arith, c.if-b-numbers.false)) in
     let g = geometry_of c.args.numbers.nand in
     let s = joined (with_free c.args.numbers free) buffer lens slots c.args.erases.now in
     let h = (rw c.geometry_of-geometry.ensures.0 at c.free_pages-free.ensures) in
     report_free c.args.at s c.args.image.now (sym (ap admit_number c.in-Passes.is) ∙ c.admit.ensures.number)
-    on-chip.1 (c.admit.ensures.chip c.in-Passes.is).size _ _ _ (c.args.at * block_size g + block_size g - c.args.at * block_size g) (add-sub_cancel_left (c.args.at * block_size g) (block_size g))
+    on_chip.1 (c.admit.ensures.chip c.in-Passes.is).size _ _ _ (c.args.at * block_size g + block_size g - c.args.at * block_size g) (add-sub_cancel_left (c.args.at * block_size g) (block_size g))
     h.0 h.1 refl

@@ -57,9 +57,9 @@ module _ {A : Type 0} {P : A → Type 0} where
   All-modify zero f k (x ∷ xs) h = more (k x (All-head h)) (All-tail h)
   All-modify (suc n) f k (x ∷ xs) h = more (All-head h) (All-modify n f k xs (All-tail h))
 
-  pub All-mapFrom : (i : ℕ) (f : ℕ → A → A) → ((n : ℕ) (x : A) → P x → P (f n x)) → (xs : List A) → All P xs → All P (map_from i f xs)
-  All-mapFrom i f k [] h = none
-  All-mapFrom i f k (x ∷ xs) h = more (k i x (All-head h)) (All-mapFrom (suc i) f k xs (All-tail h))
+  pub All-map_from : (i : ℕ) (f : ℕ → A → A) → ((n : ℕ) (x : A) → P x → P (f n x)) → (xs : List A) → All P xs → All P (map_from i f xs)
+  All-map_from i f k [] h = none
+  All-map_from i f k (x ∷ xs) h = more (k i x (All-head h)) (All-map_from (suc i) f k xs (All-tail h))
 
 module _ {A : Type 0} where
   pub all_All : (p : A → Bool) (xs : List A) → all p xs ≡ true → All (λ (x : A). p x ≡ true) xs

@@ -53,9 +53,9 @@ module _ {A B : Type 0} where
   All-flat f none = none
   All-flat f (more h hs) = All-append h (All-flat f hs)
 
-  pub map-append : (f : A → B) (xs ys : List A) → map f (xs ++ ys) ≡ map f xs ++ map f ys
-  map-append f [] ys = refl
-  map-append f (x ∷ xs) ys = ap (λ (l : List B). f x ∷ l) (map-append f xs ys)
+  pub map_append : (f : A → B) (xs ys : List A) → map f (xs ++ ys) ≡ map f xs ++ map f ys
+  map_append f [] ys = refl
+  map_append f (x ∷ xs) ys = ap (λ (l : List B). f x ∷ l) (map_append f xs ys)
 
 -- ---- every element of joined lists
 module _ {A : Type 0} where

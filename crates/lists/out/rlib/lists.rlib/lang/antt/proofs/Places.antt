@@ -57,17 +57,17 @@ module _ {A : Type 0} where
   At-other f (suc m) zero x (y ∷ ys) d h = h
   At-other f (suc m) (suc n) x (y ∷ ys) d h = At-other f m n x ys (λ e. d (ap suc e)) h
 
-  pub At-mapFrom : (f : ℕ → A → A) (i n : ℕ) (x : A) (xs : List A) → At n x xs → At n (f (i + n) x) (map_from i f xs)
-  At-mapFrom f i n x [] h = h
-  At-mapFrom f i zero x (y ∷ ys) h = let e : i + 0 ≡ i = omega arith in ap₂ f e h
-  At-mapFrom f i (suc n) x (y ∷ ys) h =
-      let e : i + suc n ≡ suc i + n = omega arith in rw e (At-mapFrom f (suc i) n x ys h)
+  pub At-map_from : (f : ℕ → A → A) (i n : ℕ) (x : A) (xs : List A) → At n x xs → At n (f (i + n) x) (map_from i f xs)
+  At-map_from f i n x [] h = h
+  At-map_from f i zero x (y ∷ ys) h = let e : i + 0 ≡ i = omega arith in ap₂ f e h
+  At-map_from f i (suc n) x (y ∷ ys) h =
+      let e : i + suc n ≡ suc i + n = omega arith in rw e (At-map_from f (suc i) n x ys h)
 
   -- an element below the length stands somewhere
-  pub At-getD : (n : ℕ) (xs : List A) (d : A) → n < length xs → At n (get_or xs n d) xs
-  At-getD n [] d h = absurd (not-suc-le-zero h)
-  At-getD zero (x ∷ xs) d h = refl
-  At-getD (suc n) (x ∷ xs) d h = At-getD n xs d (omega arith)
+  pub At-get_or : (n : ℕ) (xs : List A) (d : A) → n < length xs → At n (get_or xs n d) xs
+  At-get_or n [] d h = absurd (not-suc-le-zero h)
+  At-get_or zero (x ∷ xs) d h = refl
+  At-get_or (suc n) (x ∷ xs) d h = At-get_or n xs d (omega arith)
 
   -- and is what is found there
   pub At-is : (n : ℕ) (x : A) (xs : List A) (d : A) → At n x xs → get_or xs n d ≡ x
