@@ -20,6 +20,22 @@ IMPORTED = re.compile(r"^\s*(?:pub |ghost )*use ((?:\w|[.+'-])+)\.\{([^}]*)\}")
 # Crates and files that have a name of the kit, and what they become.
 CRATES = {"log": "journal"}
 FILES = {"crates/store/specs/Contracts.antt": "Ensured"}
+# Names that the rule leaves out, since a library or the proof of a function has them too, and one that port.py misnames.
+OTHERS = {
+    "All-mapFrom": "All-map_from",
+    "At-mapFrom": "At-map_from",
+    "At-getD": "At-get_or",
+    "W-is": "W_is",
+    "W-misses": "W_misses",
+    "and-false": "and_false",
+    "blocks-most": "blocks_most",
+    "few-pages": "few_pages",
+    "field_own": "own_at",
+    "map-append": "map_append",
+    "no-erase": "no_erase",
+    "on-chip": "on_chip",
+    "sub-a": "sub_a",
+}
 
 
 def files(root):
@@ -103,6 +119,17 @@ def turn(path, text, turned):
     return WORD.sub(one, text)
 
 
+def turn_others(text):
+    """The text with the names of OTHERS turned, but for those that the file brings in from a library."""
+    kept = set()
+    for line in text.split("\n"):
+        found = IMPORTED.match(line)
+        if found and not is_own(found.group(1)):
+            kept.update(word.split(" as ")[0].strip() for word in found.group(2).split(","))
+    names = "|".join(re.escape(n) for n in OTHERS if n not in kept)
+    return re.sub(rf"(?<![\w'₀-₉-])({names})(?![\w'₀-₉-])", lambda m: OTHERS[m.group(1)], text)
+
+
 def move(root):
     """Crates and files get their new names, in paths too."""
     for path, text in read(root).items():
@@ -141,7 +168,7 @@ def main(root):
         with open(path, encoding="utf-8") as f:
             texts[path] = f.read()
     for path, text in texts.items():
-        new = turn(path, text, turned)
+        new = turn_others(turn(path, text, turned))
         if new != text:
             with open(path, "w", encoding="utf-8") as f:
                 f.write(new)
