@@ -1,2 +1,0 @@
-pub fn same ( x : u32 ) -> u32
-    ensures { } ;
