@@ -1,11 +1,9 @@
 -- The bytes of the input one by one, and their calls. Assumes nothing.
-use mathlib.Core.Path.{◌≡◌, refl, sym, ap, subst, ◌∙◌}
-use mathlib.Core.Bool.{Bool, true, false, cond, not}
+use mathlib.Core.Path.{◌≡◌, sym, ap, subst, ◌∙◌}
 use mathlib.Core.List.{List, [], ◌∷◌, ◌++◌}
 use Prim.Native.Nat.{ℕ, ◌+◌, ◌<◌}
 use native.Mathlib.Numerals.{add-one}
-use native.Mathlib.Omega.{arith}
-use Rattle.std.specs.Prelude.{Result, Ok, Err, OnErr}
+use Rattle.std.specs.Prelude.{Result, Ok, Err, OnErr, Option, Some, None}
 use lib.ListN.{length, get_or, take}
 use lib.Seq.{take-suc}
 use borrow.Author.Tests.{ne_eqb}
@@ -14,54 +12,33 @@ use Rattle.chip.specs.Counts.{total}
 use Rattle.store.specs.declared.state.State.{State}
 use Rattle.store.specs.declared.step.Call.{Call}
 use Rattle.store.specs.declared.step.Stepped.{Stepped}
-use Rattle.store.specs.Answers.{answer_of}
+use Rattle.store.specs.Answers.{step_answer}
 use Rattle.store.specs.Step.{StepsBy}
 use Rattle.store.specs.RunsTo.{RunsTo}
 use Rattle.store.proofs.StepLaws.{step_allowed}
 use Rattle.store.proofs.RunsToLaws.{runs_none, runs_one, runs_then}
 use Rattle.frames.specs.declared.line.Line.{Line}
-use Rattle.frames.specs.declared.frame.Frame.{Frame}
-use Rattle.frames.specs.Frames.{none, frame, frame_of}
-use Rattle.frames.specs.LineCode.{LineHolds, Longer, Frames, framed}
+use Rattle.frames.specs.LineCode.{LineHolds, Longer, Frames}
 use Rattle.frames.specs.Lines.{lines_in, line_after}
 use Rattle.frames.proofs.LinesLaws.{after_append, lines_append}
 use Rattle.bench.specs.Input.{framed_calls, call_in, calls_in, CallsIn, EndsLine, EndsUntold, TakesIn, TakesFirst, TakesSome, TakesPart}
 
 module _ (torn : List ℕ) where
   -- ---- a line that ends
-  call_none : (l : List ℕ) → frame_of l ≡ none → call_in l ≡ []
-  unfolding call_in
-  call_none l e = ap framed_calls e
+  calls_are : (l : Line) (f : Option Call) (bs : List ℕ) → Frames l f → LineHolds l bs → call_in bs ≡ framed_calls f
+  unfolding call_in Frames
+  calls_are l f bs h k = ap framed_calls (sym (h bs k))
 
-  call_one : (l : List ℕ) (c : Call) → frame_of l ≡ frame c → call_in l ≡ c ∷ []
-  unfolding call_in
-  call_one l c e = ap framed_calls e
-
-  frame_is : (l : Line) (f : Frame) (bs : List ℕ) → Frames l f → LineHolds l bs → frame_of bs ≡ framed f
-  unfolding Frames
-  frame_is l f bs h k = sym (h bs k)
-
-  is_none : (b : Bool) (c : Call) → not b ≡ true → cond b (frame c) none ≡ none
-  is_none true c e = let z : ◌≡◌ {A = ℕ} 0 1 = cc in absurd (omega arith)
-  is_none false c e = refl
-
-  is_frame : (b : Bool) (c : Call) → not b ≡ false → cond b (frame c) none ≡ frame c
-  is_frame true c e = refl
-  is_frame false c e = let z : ◌≡◌ {A = ℕ} 0 1 = cc in absurd (omega arith)
-
-  pub ends_none : (l : Line) (f : Frame) (s : State) (i : List ℕ) → Frames l f → not f.good ≡ true → EndsLine torn l s i s i
+  pub ends_none : (l : Line) (s : State) (i : List ℕ) → Frames l None → EndsLine torn l s i s i
   unfolding EndsLine
-  ends_none l f s i h e bs k =
-      subst (λ (cs : List Call). RunsTo torn cs s i s i)
-      (sym (call_none bs (frame_is l f bs h k ∙ is_none f.good f.call e))) (runs_none torn s i)
+  ends_none l s i h bs k = subst (λ (cs : List Call). RunsTo torn cs s i s i) (sym (calls_are l None bs h k)) (runs_none torn s i)
 
-  pub ends_one : (l : Line) (f : Frame) (s : State) (i : List ℕ) (r : Stepped) (i' : List ℕ) → Frames l f → not f.good ≡ false
-      → StepsBy f.call torn s i r i' → EndsLine torn l s i r.state i'
+  pub ends_one : (l : Line) (c : Call) (s : State) (i : List ℕ) (r : Stepped) (i' : List ℕ) → Frames l (Some c) → StepsBy c torn s i r i'
+      → EndsLine torn l s i r.state i'
   unfolding EndsLine
-  ends_one l f s i r i' h e d bs k =
-      subst (λ (cs : List Call). RunsTo torn cs s i r.state i')
-      (sym (call_one bs f.call (frame_is l f bs h k ∙ is_frame f.good f.call e)))
-      (runs_one torn f.call s i (answer_of r.answer) (total r.ops) r.state i' (step_allowed f.call torn s i r i' d))
+  ends_one l c s i r i' h d bs k =
+      subst (λ (cs : List Call). RunsTo torn cs s i r.state i') (sym (calls_are l (Some c) bs h k))
+      (runs_one torn c s i (step_answer r.answer) (total r.ops) r.state i' (step_allowed c torn s i r i' d))
 
   -- ---- bytes behind bytes
   pub takes_none : (l : Line) (s : State) (i : List ℕ) → TakesIn torn [] l s i l s i

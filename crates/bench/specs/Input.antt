@@ -1,18 +1,18 @@
 -- What the bytes of standard input do to the store: each line that ends is taken as a frame, and the call of a frame is one step.
-use Rattle.std.specs.Prelude.{◌≡◌, List, [], ◌∷◌, ℕ, ◌+◌, ◌<◌, length, take, slice_index}
+use Rattle.std.specs.Prelude.{◌≡◌, Option, Some, None, List, [], ◌∷◌, ℕ, ◌+◌, ◌<◌, length, take, slice_index}
 use Rattle.lists.specs.Lists.{flat}
 use Rattle.store.specs.declared.state.State.{State}
 use Rattle.store.specs.declared.step.Call.{Call}
 use Rattle.store.specs.RunsTo.{RunsTo}
 use Rattle.frames.specs.declared.line.Line.{Line}
-use Rattle.frames.specs.Frames.{Framed, none, frame, frame_of}
+use Rattle.frames.specs.Frames.{frame_of}
 use Rattle.frames.specs.LineCode.{LineHolds}
 use Rattle.frames.specs.Lines.{lines_in, line_after}
 
 -- the call of a line, none where it is no frame; and the calls of lines, in order
-abbrev pub framed_calls : Framed → List Call
-framed_calls none = []
-framed_calls (frame c) = c ∷ []
+abbrev pub framed_calls : Option Call → List Call
+framed_calls None = []
+framed_calls (Some c) = c ∷ []
 
 unfoldable pub call_in : List ℕ → List Call
 call_in l = framed_calls (frame_of l)

@@ -6,8 +6,8 @@ ghost use Rattle.std.specs.Prelude.{IfOk, OnErr};
 ghost use Rattle.bench.specs.Input.{EndsLine, EndsUntold, TakesIn, TakesFirst, TakesSome, TakesPart};
 
 use frames::line::Line;
-use frames::text::Text;
-use frames::{frame, line, text};
+use frames::output::Text;
+use frames::{frame, text};
 use std::io;
 use std::io::{Read, Write};
 use store::state::State;
@@ -22,12 +22,7 @@ struct Bench {
 
 // A line written.
 fn print<W: Write>(writer: &mut W, t: Text) -> io::Result<()> {
-    let len = t.len;
-    let bytes = t.bytes;
-    if len <= 11 {
-        return writer.write_all(&bytes[0..len]);
-    }
-    Ok(())
+    writer.write_all(t.as_bytes())
 }
 
 // A line that has ended: its frame is called, and its answer written. The call is made, also where the answer cannot be written.
@@ -41,12 +36,10 @@ fn answer_line<W: Write>(
     ensures ok { IfOk result (λ s. EndsLine torn.now line state image.old s image.new) }
     ensures err { OnErr result (EndsUntold torn.now line state image.old image.new) }
 {
-    let f = frame::frame_of(line);
-    if !f.good {
+    let Some(call) = frame::frame_of(line) else {
         print(writer, text::bad_text())?;
         return Ok(state);
-    }
-    let call = f.call;
+    };
     let r = step::step(state, image, torn, call);
     let answer = r.answer;
     print(writer, text::answer_text(answer))?;
@@ -56,64 +49,52 @@ fn answer_line<W: Write>(
 // The bytes of one read: a line feed ends a line. Where a write fails, the bytes behind that line are left.
 fn take_bytes<W: Write>(
     writer: &mut W,
-    bench: Bench,
+    bench: &mut Bench,
     image: &mut [u8],
     torn: &[u8],
     bytes: &[u8],
-) -> io::Result<Bench>
-    ensures ok { IfOk result (λ b. TakesIn torn.now bytes.now bench.line bench.state image.old b.line b.state image.new) }
-    ensures err { OnErr result (TakesFirst torn.now bytes.now bench.line bench.state image.old image.new) }
+) -> io::Result<()>
+    ensures ok { IfOk result (λ _. TakesIn torn.now bytes.now bench.old.line bench.old.state image.old bench.new.line bench.new.state image.new) }
+    ensures err { OnErr result (TakesFirst torn.now bytes.now bench.old.line bench.old.state image.old image.new) }
 {
-    let mut state = bench.state;
-    let mut line = bench.line;
     for byte in bytes {
-        if *byte == 10 {
-            state = answer_line(writer, state, image, torn, line)?;
-            line = line::no_line();
+        if *byte == b'\n' {
+            bench.state = answer_line(writer, bench.state, image, torn, bench.line)?;
+            bench.line = Line::new();
         } else {
-            line = line::with_byte(line, *byte);
+            bench.line.push(*byte);
         }
     }
-    Ok(Bench { state, line })
+    Ok(())
 }
 
-// What one read gives: the bench after its bytes, and whether there were any.
-#[derive(Drop)]
-struct Took {
-    bench: Bench,
-    more: bool,
-}
-
-// One read into a buffer.
+// One read into a buffer: how many bytes it gave.
 fn read_into<R: Read, W: Write>(
     reader: &mut R,
     writer: &mut W,
-    bench: Bench,
+    bench: &mut Bench,
     image: &mut [u8],
     torn: &[u8],
     buffer: &mut [u8],
-) -> io::Result<Took>
-    ensures ok { IfOk result (λ t. TakesSome torn.now bench.line bench.state image.old t.bench.line t.bench.state image.new) }
-    ensures err { OnErr result (TakesPart torn.now bench.line bench.state image.old image.new) }
+) -> io::Result<usize>
+    ensures ok { IfOk result (λ _. TakesSome torn.now bench.old.line bench.old.state image.old bench.new.line bench.new.state image.new) }
+    ensures err { OnErr result (TakesPart torn.now bench.old.line bench.old.state image.old image.new) }
 {
     let n = reader.read(buffer)?;
-    let after = take_bytes(writer, bench, image, torn, &buffer[..n])?;
-    Ok(Took {
-        bench: after,
-        more: n > 0,
-    })
+    take_bytes(writer, bench, image, torn, &buffer[..n])?;
+    Ok(n)
 }
 
 // One read, as much as a buffer holds.
 fn turn<R: Read, W: Write>(
     reader: &mut R,
     writer: &mut W,
-    bench: Bench,
+    bench: &mut Bench,
     image: &mut [u8],
     torn: &[u8],
-) -> io::Result<Took>
-    ensures ok { IfOk result (λ t. TakesSome torn.now bench.line bench.state image.old t.bench.line t.bench.state image.new) }
-    ensures err { OnErr result (TakesPart torn.now bench.line bench.state image.old image.new) }
+) -> io::Result<usize>
+    ensures ok { IfOk result (λ _. TakesSome torn.now bench.old.line bench.old.state image.old bench.new.line bench.new.state image.new) }
+    ensures err { OnErr result (TakesPart torn.now bench.old.line bench.old.state image.old image.new) }
 {
     let mut buffer = [0u8; 4096];
     read_into(reader, writer, bench, image, torn, &mut buffer)
@@ -123,22 +104,19 @@ fn turn<R: Read, W: Write>(
 fn take_all<R: Read, W: Write>(
     reader: &mut R,
     writer: &mut W,
-    bench: Bench,
+    bench: &mut Bench,
     image: &mut [u8],
     torn: &[u8],
-) -> io::Result<Bench>
-    ensures ok { IfOk result (λ b. TakesSome torn.now bench.line bench.state image.old b.line b.state image.new) }
-    ensures err { OnErr result (TakesPart torn.now bench.line bench.state image.old image.new) }
+) -> io::Result<()>
+    ensures ok { IfOk result (λ _. TakesSome torn.now bench.old.line bench.old.state image.old bench.new.line bench.new.state image.new) }
+    ensures err { OnErr result (TakesPart torn.now bench.old.line bench.old.state image.old image.new) }
 {
-    let mut b = bench;
     for _ in 0..u64::MAX {
-        let t = turn(reader, writer, b, image, torn)?;
-        b = t.bench;
-        if !t.more {
+        if turn(reader, writer, bench, image, torn)? == 0 {
             break;
         }
     }
-    Ok(b)
+    Ok(())
 }
 
 // All of the input; a last line without a line feed is a line too.
@@ -148,15 +126,13 @@ fn run<R: Read, W: Write>(
     image: &mut [u8],
     torn: &[u8],
 ) -> io::Result<()> {
-    let bench = Bench {
+    let mut bench = Bench {
         state: state::initial(),
-        line: line::no_line(),
+        line: Line::new(),
     };
-    let b = take_all(reader, writer, bench, image, torn)?;
-    let begun = b.line;
-    let last = b.state;
-    if !line::is_empty(begun) {
-        answer_line(writer, last, image, torn, begun)?;
+    take_all(reader, writer, &mut bench, image, torn)?;
+    if !bench.line.is_empty() {
+        answer_line(writer, bench.state, image, torn, bench.line)?;
     }
     Ok(())
 }

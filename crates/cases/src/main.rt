@@ -5,8 +5,9 @@ ghost use Rattle.std.specs.Prelude.{◌≤◌};
 
 use chip::geometry::Nand;
 use chip::progress::Counts;
+use orders::noise;
 use std::io;
-use store::answer::{Look, Report};
+use store::answer::Refusal;
 use store::state::State;
 use store::{answer, find, format, mount, report, state, update};
 
@@ -26,39 +27,36 @@ fn tell_counts(rt: &impl Print, refusal: u32, ops: Counts) -> io::Result<()> {
 // A look up: the refusal, and the pages read.
 fn look(rt: &impl Print, state: State, image: &[u8], key: u32) -> io::Result<()> {
     match find::look_up(state, image, key) {
-        Look::Found(value, pages) => {
-            tell(rt, 0, pages)?;
-            tell(rt, 0, value)
-        }
-        Look::Absent(pages) => tell(rt, 4, pages),
-        Look::Off => tell(rt, 2, 0),
-        Look::Size => tell(rt, 1, 0),
+        Ok(l) => match l.value {
+            Some(value) => {
+                tell(rt, 0, l.pages)?;
+                tell(rt, 0, value)
+            }
+            None => tell(rt, u32::from(Refusal::Absent), l.pages),
+        },
+        Err(refusal) => tell(rt, u32::from(refusal), 0),
     }
 }
 
 // A block report: the refusal; the free pages, the first of them and the erases of the block.
 fn free(rt: &impl Print, state: State, image: &[u8], block: u32) -> io::Result<()> {
     match report::block_report(state, image, block) {
-        Report::Free(count, first, erases) => println!(rt; "00 {count} {first} {erases}"),
-        Report::Off => tell(rt, 2, 0),
-        Report::Size => tell(rt, 1, 0),
-        Report::Absent => tell(rt, 4, 0),
+        Ok(r) => println!(rt; "00 {} {} {}", r.free, r.first, r.erases),
+        Err(refusal) => tell(rt, u32::from(refusal), 0),
     }
 }
 
 // An insert that keeps the state it gives.
 fn insert(rt: &impl Print, state: State, image: &[u8], key: u32) -> io::Result<State> {
     let r = update::insert(state, image, key, 1000 + key % 1000);
-    let answer = r.answer;
-    tell(rt, answer::number(answer), 0)?;
+    tell(rt, answer::number(r.answer), 0)?;
     Ok(r.state)
 }
 
 // A delete that keeps the state it gives.
 fn delete(rt: &impl Print, state: State, image: &[u8], key: u32) -> io::Result<State> {
     let r = update::delete(state, image, key);
-    let answer = r.answer;
-    tell(rt, answer::number(answer), 0)?;
+    tell(rt, answer::number(r.answer), 0)?;
     Ok(r.state)
 }
 
@@ -72,9 +70,7 @@ fn format_chip(
     allowance: u32,
 ) -> io::Result<State> {
     let r = format::format(state, nand, image, torn, allowance);
-    let answer = r.answer;
-    let ops = r.ops;
-    tell_counts(rt, answer::number(answer), ops)?;
+    tell_counts(rt, answer::number(r.answer), r.ops)?;
     Ok(r.state)
 }
 
@@ -88,24 +84,8 @@ fn mount_chip(
     allowance: u32,
 ) -> io::Result<State> {
     let r = mount::mount(state, nand, image, torn, allowance);
-    let answer = r.answer;
-    let ops = r.ops;
-    tell_counts(rt, answer::number(answer), ops)?;
+    tell_counts(rt, answer::number(r.answer), r.ops)?;
     Ok(r.state)
-}
-
-// The next of a row of numbers that look like noise.
-fn next(x: u32) -> u32 {
-    ((x as u64 * 1664525 + 1013904223) % 4294967296) as u32
-}
-
-// Every byte made noise.
-fn noise(image: &mut [u8]) {
-    let mut x: u32 = 1;
-    for byte in image.iter_mut() {
-        x = next(x);
-        *byte = (x / 65536 % 256) as u8;
-    }
 }
 
 // A store that is off.
@@ -148,8 +128,8 @@ fn sizes(rt: &impl Print) -> io::Result<()> {
 
 // One byte of the image.
 fn put(image: &mut [u8], at: usize, byte: u8) {
-    if at < image.len() {
-        image[at] = byte;
+    if let Some(place) = image.get_mut(at) {
+        *place = byte;
     }
 }
 
@@ -157,7 +137,7 @@ fn put(image: &mut [u8], at: usize, byte: u8) {
 fn noises(rt: &impl Print, image: &mut [u8], torn: &[u8]) -> io::Result<()> {
     println!(rt; "noise")?;
     let s = state::initial();
-    noise(image);
+    noise::fill(image, 1);
     let a = mount_chip(rt, s, Nand::Small, image, torn, 255)?;
     put(image, 513, 0);
     put(image, 514, 255);

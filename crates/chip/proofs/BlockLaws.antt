@@ -1,5 +1,5 @@
 -- A block made blank, or filled page by page. Assumes nothing.
-use Rattle.std.proofs.Common.{◌≡◌, ℕ, zero, suc, ◌+◌, ◌-◌, ◌*◌, List, ◌++◌, length, take, drop, replicate, sym, ap, ◌∙◌, ap₂, append-nil, suc-mul, add-one, arith}
+use Rattle.std.proofs.Common.{◌≡◌, ℕ, zero, suc, ◌+◌, ◌-◌, ◌*◌, List, ◌++◌, length, drop, replicate, sym, ap, ◌∙◌, ap₂, append-nil, suc-mul, add-one, arith}
 use native.Mathlib.Nat.{add-sub_cancel_left}
 use lib.ListN.{replicate-append-replicate}
 use lib.Seq.{drop-length}
@@ -18,11 +18,9 @@ repeat_replicate (suc n) k x =
     ∙ replicate-append-replicate k (n * k) x
     ∙ ap (λ (m : ℕ). replicate m x) (let e : k + n * k ≡ suc n * k = omega (arith, suc-mul n k) in e)
 
-pub blank_block : (g : Geometry) (block : List ℕ) → length block ≡ block_size g → take 0 block ++ replicate (length block - 0) 255 ≡ whole_block g
+pub blank_block : (g : Geometry) (block : List ℕ) → length block ≡ block_size g → replicate (length block) 255 ≡ whole_block g
 blank_block g block h =
-    ap (λ (n : ℕ). replicate n 255) (let e : length block - 0 ≡ block_size g = omega (arith, h) in e)
-    ∙ sym (repeat_replicate g.pages (page_size g) 255)
-    ∙ ap (repeat g.pages) (sym (blank_bytes g))
+    ap (λ (n : ℕ). replicate n 255) h ∙ sym (repeat_replicate g.pages (page_size g) 255) ∙ ap (repeat g.pages) (sym (blank_bytes g))
 
 -- ---- a loop over the pages of a block
 -- the next page of k bytes put into a block whose first i pages are filled

@@ -1,7 +1,8 @@
-pub mod PowerLaws
 pub mod CountLaws
 pub mod EraseLaws
+pub mod FreeParts
 pub mod PageLaws
+pub mod Pieces
 pub mod SetLaws
 pub mod BlockLaws
 pub mod ImageLaws

@@ -1,73 +1,36 @@
 -- Pages, byte by byte: free pages, blank and torn pages, sizes. Assumes nothing.
-use Rattle.std.proofs.Common.{◌≡◌, ℕ, zero, suc, ◌+◌, ◌-◌, ◌<◌, ◌≤◌, Bool, true, false, not, ◌&&◌, eqb, List, ◌++◌, map, length, get_or, take, drop, set, replicate, sym, refl, ap, ◌∙◌, ap₂, append_assoc, append-nil, add-one, arith, length-append, length-drop, length-set, take-append-drop, drop_of_length-le, length-take-le, get_or-drop, take_all, drop-cons, get_or-take, drop-drop, take-suc-set, get_or-append-add, eq-eqb, ne_eqb, eqb-true}
+use Rattle.std.proofs.Common.{◌≡◌, ℕ, zero, suc, ◌+◌, ◌-◌, ◌<◌, ◌≤◌, Bool, true, ◌&&◌, eqb, List, ◌++◌, [], ◌∷◌, map, length, get_or, take, drop, replicate, sym, refl, ap, ◌∙◌, arith, length-append, length-drop, length-set, length-take-le, get_or-drop, get_or-take, drop-drop, drop_at, get_or-append-add, eqb-true}
+use Rattle.std.specs.List.{list_all}
 use lib.ListN.{length-replicate, length-map, replicate-append-replicate, get_or-map, get_or-append}
-use Rattle.lists.specs.Lists.{all, part}
+use Rattle.lists.specs.Lists.{all}
 use Rattle.lists.proofs.Alls.{all_replicate}
 use Rattle.lists.proofs.Flats.{all_append}
-use Rattle.lists.proofs.Tests.{clash}
 use Rattle.lists.proofs.Places.{get_d_default}
 use Rattle.chip.specs.declared.page.Mark.{Mark}
 use Rattle.chip.specs.Geometry.{Geometry, page_size}
 use Rattle.chip.specs.Page.{Page, is_free, is_set, blank, mend, torn_page, marked, programmed, spare_byte}
 
--- ---- free pages, from a byte on: another byte than 255 decides, a 255 leaves it to the rest
-pub free_stop : (xs : List ℕ) (i : ℕ) → i < length xs → (get_or xs i 0 ≡ 255 → ⊥) → is_free (drop i xs) ≡ false
+-- std's word for the same test of every element
+pub list_all_same : {A : Type 0} (p : A → Bool) (xs : List A) → list_all p xs ≡ all p xs
+list_all_same p [] = refl
+list_all_same p (x ∷ xs) = ap (λ (b : Bool). p x && b) (list_all_same p xs)
+
+-- ---- free pages, part by part
+-- of what is left a part, whose answer is b, and then the rest
+pub free_first : (rest front more : List ℕ) (b : Bool) → rest ≡ front ++ more → is_free front ≡ b → is_free rest ≡ (b && is_free more)
 unfolding is_free
-free_stop xs i h n = rw (drop-cons xs i 0 h, ne_eqb (get_or xs i 0) 255 n)
+free_first rest front more b e t =
+    ap is_free e ∙ all_append (λ (b : ℕ). eqb b 255) front more ∙ ap (λ (b : Bool). b && is_free more) t
 
-pub free_pass : (xs : List ℕ) (i : ℕ) → i < length xs → get_or xs i 0 ≡ 255 → is_free (drop i xs) ≡ is_free (drop (i + 1) xs)
-unfolding is_free
-free_pass xs i h e = rw (add-one, drop-cons xs i 0 h, eq-eqb (get_or xs i 0) 255 e)
-
-pub free_end : (xs : List ℕ) (i : ℕ) → length xs ≤ i → is_free (drop i xs) ≡ true
-unfolding is_free
-free_end xs i h = rw (drop_of_length-le xs h)
-
--- a part first, then the rest: r is the part's answer
-module _ (xs : List ℕ) (i n : ℕ) (r : Bool) (e : r ≡ is_free (part i n xs)) where
-  part_first : is_free (drop i xs) ≡ (r && is_free (drop (i + n) xs))
-  unfolding is_free
-  part_first =
-      ap (all (λ (b : ℕ). eqb b 255)) (sym (take-append-drop n (drop i xs)))
-      ∙ all_append (λ (b : ℕ). eqb b 255) (take n (drop i xs)) (drop n (drop i xs))
-      ∙ ap₂ ◌&&◌ (sym e) (ap is_free (drop-drop n i xs))
-
-  pub part_stop : not r ≡ true → is_free (drop i xs) ≡ false
-  part_stop t = part_first ∙ go r t
-    where
-      go : (r : Bool) → not r ≡ true → (r && is_free (drop (i + n) xs)) ≡ false
-      go true t = clash t refl
-      go false t = refl
-
-  pub part_pass : not r ≡ false → is_free (drop (i + n) xs) ≡ is_free (drop i xs)
-  part_pass t = sym (part_first ∙ go r t)
-    where
-      go : (r : Bool) → not r ≡ false → (r && is_free (drop (i + n) xs)) ≡ is_free (drop (i + n) xs)
-      go true t = refl
-      go false t = clash refl t
-
--- four bytes
-pub free_four : (xs : List ℕ) (i : ℕ) → i + 4 ≤ length xs
-    → is_free (part i 4 xs) ≡ (eqb (get_or xs i 0) 255 && (eqb (get_or xs (i + 1) 0) 255 && (eqb (get_or xs (i + 2) 0) 255 && eqb (get_or xs (i + 3) 0) 255)))
-unfolding is_free
-free_four xs i h =
-    let a : suc i ≡ i + 1 = omega arith in
-    let b : suc (suc i) ≡ i + 2 = omega arith in
-    let d : suc (suc (suc i)) ≡ i + 3 = omega arith in
-    rw (
-      sym a,
-      sym b,
-      sym d,
-      drop-cons xs i 0 (omega arith),
-      drop-cons xs (suc i) 0 (omega arith),
-      drop-cons xs (suc (suc i)) 0 (omega arith),
-      drop-cons xs (suc (suc (suc i))) 0 (omega arith),
-    )
-    (ap (λ (t : Bool). eqb (get_or xs i 0) 255 && (eqb (get_or xs (suc i) 0) 255 && (eqb (get_or xs (suc (suc i)) 0) 255 && t))) (and_true (eqb (get_or xs (suc (suc (suc i))) 0) 255)))
-  where
-    and_true : (t : Bool) → (t && true) ≡ t
-    and_true true = refl
-    and_true false = refl
+-- what is left of xs behind a part of what was left
+pub left_over : (xs rest front more : List ℕ) → rest ≡ front ++ more → length rest ≤ length xs → rest ≡ drop (length xs - length rest) xs
+    → more ≡ drop (length xs - length more) xs
+left_over xs rest front more e h r =
+    let l : length rest ≡ length front + length more = ap length e ∙ length-append front more in
+    let n : length xs - length rest + length front ≡ length xs - length more = omega arith in
+    sym (drop_at front more (length front) refl) ∙ ap (drop (length front)) (sym e ∙ r)
+    ∙ drop-drop (length front) (length xs - length rest) xs
+    ∙ ap (λ (m : ℕ). drop m xs) n
 
 -- a byte of a torn erase that is not 0 stays
 pub mend_other : (n : ℕ) → (n ≡ 0 → ⊥) → mend n ≡ n
@@ -130,17 +93,3 @@ module _ (g : Geometry) where
   pub set_read : (m : Mark) (x : Page) → g.area + spare_byte m < length x → is_set g m x ≡ eqb (get_or x (g.area + spare_byte m) 0) 0
   unfolding is_set
   set_read m x h = ap (λ (b : ℕ). eqb b 0) (get_d_default x (g.area + spare_byte m) 255 0 h)
-
--- ---- the loop of blank_from
--- one more byte made 255
-pub blank_turn : (n i : ℕ) (page whole : List ℕ) → length page ≡ n → i < n → take i page ++ replicate (n - i) 255 ≡ whole
-    → take (i + 1) (set page i 255) ++ replicate (n - (i + 1)) 255 ≡ whole
-blank_turn n i page whole l h e =
-    let s : n - i ≡ suc (n - (i + 1)) = omega arith in
-    rw (add-one, take-suc-set page i 255 (omega arith), append_assoc) (rw (s, add-one) at e)
-
--- all made 255
-pub blank_end : (n i : ℕ) (page whole : List ℕ) → length page ≡ n → n ≤ i → take i page ++ replicate (n - i) 255 ≡ whole → page ≡ whole
-blank_end n i page whole l h e =
-    let z : n - i ≡ 0 = omega arith in
-    sym (ap₂ (λ (p : List ℕ) (m : ℕ). p ++ replicate m 255) (take_all i page (omega arith)) z ∙ append-nil page) ∙ e

@@ -1,9 +1,10 @@
 -- The length of a chip's image, and where its pages and blocks stand in it. Assumes nothing.
-use Rattle.std.proofs.Common.{◌≡◌, ℕ, suc, ◌+◌, ◌*◌, ◌/◌, ◌%◌, ◌<◌, ◌≤◌, true, ◌&&◌, eqb, leb, sym, ap, ◌∙◌, mul-le-mul_right, mul_assoc, add-mul, mul-le-mul, div-add-mod', div-mul-le_self, mul-div_cancel, arith, eqb-true, leb-true}
+use Rattle.std.proofs.Common.{◌≡◌, Some, None, ℕ, suc, ◌+◌, ◌*◌, ◌/◌, ◌%◌, ◌<◌, ◌≤◌, true, ◌&&◌, eqb, leb, sym, ap, ◌∙◌, mul-le-mul_right, mul_assoc, add-mul, mul-le-mul, div-add-mod', div-mul-le_self, mul-div_cancel, arith, eqb-true, leb-true}
 use native.Mathlib.Nat.{mul-mod_left}
 use Rattle.lists.proofs.Tests.{cases, and_left, and_right}
 use Rattle.chip.specs.declared.geometry.Nand.TheVariants.{Small, Large}
 use Rattle.chip.specs.Geometry.{Geometry, Nand, Fits, small, large, geometry_of, most_pages, page_size, block_size, is_chip, blocks_of}
+use Rattle.chip.specs.GeometryCode.{chip_blocks}
 
 -- an image that has blocks has 3 to 32 of them, and nothing else
 pub record Size (g : Geometry) (len b : ℕ) : Type 0 where
@@ -24,6 +25,29 @@ chip_size g len b e z =
       bytes = ap (λ (m : ℕ). m * block_size g) q ∙ eqb-true (n * block_size g) len (and_right (leb n 32) (eqb (n * block_size g) len) r);
     })
     (λ t. absurd (z (rw t at e)))
+
+-- the blocks that the code finds are those of the image
+pub chip_some : (g : Geometry) (len b : ℕ) → Some b ≡ chip_blocks g len → (b ≡ blocks_of g len) × (b ≡ 0 → ⊥)
+chip_some g len b e =
+    let n : ℕ = len / block_size g in
+    cases (is_chip g len n)
+    (λ t.
+    let q : Some b ≡ Some n = (rw t at e) in
+    let p : b ≡ n = cc in
+    let l : 3 ≤ n = leb-true 3 n (and_left (leb 3 n) (leb n 32 && eqb (n * block_size g) len) t) in
+    (rw t p, λ z. omega (arith, z, p, l)))
+    (λ t. let q : Some b ≡ None = (rw t at e) in let u : ◌≡◌ {A = ℕ} 0 1 = cc in absurd (omega arith))
+
+pub chip_found : (g : Geometry) (len b : ℕ) → Some b ≡ chip_blocks g len → Size g len b
+chip_found g len b e = let s = chip_some g len b e in chip_size g len b s.0 s.1
+
+-- where it finds none, the image has none
+pub chip_none : (g : Geometry) (len : ℕ) → None ≡ chip_blocks g len → blocks_of g len ≡ 0
+chip_none g len e =
+    let n : ℕ = len / block_size g in
+    cases (is_chip g len n)
+    (λ t. let q : None ≡ Some n = (rw t at e) in let u : ◌≡◌ {A = ℕ} 0 1 = cc in absurd (omega arith))
+    (λ t. rw t)
 
 -- ---- the two parts
 pub small_fits : Fits small

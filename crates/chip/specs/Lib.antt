@@ -1,4 +1,5 @@
 pub mod Geometry
+pub mod GeometryCode
 pub mod Power
 pub mod Counts
 pub mod Page

@@ -18,14 +18,12 @@ fn torn_byte(geometry: Geometry, torn: &[u8], i: usize) -> u8
     requires { (length torn.now ≡ page_size geometry) × (i < page_size geometry) }
     ensures { result ≡ slice_index (torn_page geometry torn.now) i }
 {
-    let b = torn[i];
-    if i < geometry.area {
-        return b;
+    let byte = torn[i];
+    if geometry.area <= i && byte == 0 {
+        255
+    } else {
+        byte
     }
-    if b == 0 {
-        return 255;
-    }
-    b
 }
 
 // A page of a block whose erase was torn, written over `page`.
@@ -33,10 +31,8 @@ fn put_torn(geometry: Geometry, page: &mut [u8], torn: &[u8])
     requires { (length page.old ≡ page_size geometry) × (length torn.now ≡ page_size geometry) }
     ensures { page.new ≡ torn_page geometry torn.now }
 {
-    let mut i = 0;
-    while i < page.len() {
-        page[i] = torn_byte(geometry, torn, i);
-        i += 1;
+    for (i, byte) in page.iter_mut().enumerate() {
+        *byte = torn_byte(geometry, torn, i);
     }
 }
 
@@ -46,13 +42,11 @@ fn fill_torn(geometry: Geometry, block: &mut [u8], torn: &[u8])
     ensures { block.new ≡ repeat geometry.pages (torn_page geometry torn.now) }
 {
     let size = geometry.area + geometry.spare;
-    let pages = geometry.pages;
-    let mut i = 0;
-    while i < pages {
+    // By an index, since what a loop over `chunks_exact_mut` wrote is not known after it.
+    for i in 0..geometry.pages {
         let a = i * size;
         let e = a + size;
         put_torn(geometry, &mut block[a..e], torn);
-        i += 1;
     }
 }
 
@@ -62,21 +56,16 @@ pub fn erase(geometry: Geometry, block: &mut [u8], torn: &[u8], power: Power) ->
     ensures { Operated K.Erase power result block.new (whole_block geometry)
         (torn_block geometry torn.now block.old) block.old }
 {
-    let told = operation::tell(Kind::Erase, power);
     match power::next(power) {
-        Outcome::Whole => {
-            page::blank_from(block, 0);
-            told
-        }
+        Outcome::Whole => block.fill(255),
         Outcome::Torn => {
-            if torn[0] == 0 {
-                return told;
+            if torn[0] != 0 {
+                fill_torn(geometry, block, torn);
             }
-            fill_torn(geometry, block, torn);
-            told
         }
-        Outcome::Nothing => told,
+        Outcome::Nothing => {}
     }
+    operation::tell(Kind::Erase, power)
 }
 
 // The free pages of a block, as a set of page numbers within it.
@@ -85,16 +74,11 @@ pub fn free_set(geometry: Geometry, block: &[u8]) -> u64
     ensures { result ≡ set_of is_free (pages_of geometry block.now) }
 {
     let size = geometry.area + geometry.spare;
-    let pages = geometry.pages;
     let mut free: u64 = 0;
-    let mut i = 0;
-    while i < pages {
-        let a = i * size;
-        let end = a + size;
-        if page::is_free(&block[a..end]) {
-            free = free | (1 << i);
+    for (i, page) in block.chunks_exact(size).enumerate() {
+        if page::is_free(page) {
+            free |= 1 << i;
         }
-        i += 1;
     }
     free
 }
@@ -113,14 +97,13 @@ pub fn free_pages(geometry: Geometry, block: &[u8]) -> Free
         × (result.first ≡ first is_free (pages_of geometry block.now)) }
 {
     let free = free_set(geometry, block);
-    if free == 0 {
-        return Free {
-            count: 0,
-            first: geometry.pages as u32,
-        };
-    }
+    let first = if free == 0 {
+        geometry.pages as u32
+    } else {
+        free.trailing_zeros()
+    };
     Free {
-        count: u64::count_ones(free),
-        first: u64::trailing_zeros(free),
+        count: free.count_ones(),
+        first,
     }
 }

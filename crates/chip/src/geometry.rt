@@ -1,6 +1,7 @@
 // The geometry of a part, and how many blocks an image has.
 ghost use Rattle.std.specs.Prelude.{◌≡◌};
-ghost use Rattle.chip.specs.Geometry.{Fits, blocks_of, geometry_of};
+ghost use Rattle.chip.specs.Geometry.{Fits, geometry_of};
+ghost use Rattle.chip.specs.GeometryCode.{chip_blocks};
 
 // Bytes of a page's data area and of its spare area, pages of a block, units that a page holds at most.
 #[derive(Clone, Copy)]
@@ -53,18 +54,16 @@ pub fn geometry_of(nand: Nand) -> Geometry
     }
 }
 
-// The blocks of an image of `len` bytes; 0 where that is no chip.
-pub fn blocks_of(geometry: Geometry, len: usize) -> usize
+// The blocks of an image of `len` bytes; none where that is no chip.
+pub fn blocks_of(geometry: Geometry, len: usize) -> Option<usize>
     requires { Fits geometry }
-    ensures { result ≡ blocks_of geometry len }
+    ensures { result ≡ chip_blocks geometry len }
 {
     let block = geometry.pages * (geometry.area + geometry.spare);
     let blocks = len / block;
-    if blocks < 3 {
-        return 0;
+    if (3..=32).contains(&blocks) && blocks * block == len {
+        Some(blocks)
+    } else {
+        None
     }
-    if 32 < blocks {
-        return 0;
-    }
-    if blocks * block == len { blocks } else { 0 }
 }

@@ -25,11 +25,9 @@ pub struct Operation {
 pub fn tell(kind: Kind, power: Power) -> Operation
     ensures { result ≡ tell_of kind power }
 {
-    let outcome = power::next(power);
-    let left = power::spent(power);
     Operation {
         kind,
-        outcome,
-        left,
+        outcome: power::next(power),
+        left: power::spent(power),
     }
 }

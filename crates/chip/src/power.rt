@@ -3,6 +3,7 @@ ghost use Rattle.std.specs.Prelude.{◌≡◌};
 ghost use Rattle.chip.specs.Power.{spend, outcome, is_gone};
 
 // `Left(n)`: n operations are done whole and the next is torn. `Gone`: nothing is done any more.
+// No Option: the words are those of the definitions (docs/DECISIONS.md, 3), and None would not say that power is gone.
 #[derive(Clone, Copy)]
 pub enum Power {
     Left(u32),
@@ -22,13 +23,8 @@ pub fn spent(power: Power) -> Power
     ensures { result ≡ spend power }
 {
     match power {
-        Power::Left(n) => {
-            if n == 0 {
-                return Power::Gone;
-            }
-            Power::Left(n - 1)
-        }
-        Power::Gone => Power::Gone,
+        Power::Left(0) | Power::Gone => Power::Gone,
+        Power::Left(n) => Power::Left(n - 1),
     }
 }
 
@@ -37,12 +33,8 @@ pub fn next(power: Power) -> Outcome
     ensures { result ≡ outcome power }
 {
     match power {
-        Power::Left(n) => {
-            if n == 0 {
-                return Outcome::Torn;
-            }
-            Outcome::Whole
-        }
+        Power::Left(0) => Outcome::Torn,
+        Power::Left(_) => Outcome::Whole,
         Power::Gone => Outcome::Nothing,
     }
 }
@@ -51,8 +43,5 @@ pub fn next(power: Power) -> Outcome
 pub fn gone(power: Power) -> bool
     ensures { result ≡ is_gone power }
 {
-    match power {
-        Power::Left(_) => false,
-        Power::Gone => true,
-    }
+    matches!(power, Power::Gone)
 }

@@ -5,7 +5,6 @@ ghost use Rattle.chip.specs.RunCode.{at_start, counted, progressed};
 
 use crate::operation::{Kind, Operation};
 use crate::power::{Outcome, Power};
-use std::num;
 
 // Data programs, marks set, erases.
 #[derive(Clone, Copy)]
@@ -37,10 +36,9 @@ pub fn nothing() -> Counts
 pub fn begin(allowance: u32) -> Progress
     ensures { result ≡ at_start allowance }
 {
-    let done = nothing();
     Progress {
         left: Power::Left(allowance),
-        done,
+        done: nothing(),
     }
 }
 
@@ -48,24 +46,18 @@ pub fn begin(allowance: u32) -> Progress
 fn count(counts: Counts, kind: Kind) -> Counts
     ensures { result ≡ counted kind counts }
 {
-    let programs = counts.programs;
-    let marks = counts.marks;
-    let erases = counts.erases;
     match kind {
         Kind::Program => Counts {
-            programs: num::wrapping_add_u32(programs, 1),
-            marks,
-            erases,
+            programs: counts.programs.wrapping_add(1),
+            ..counts
         },
         Kind::Mark => Counts {
-            programs,
-            marks: num::wrapping_add_u32(marks, 1),
-            erases,
+            marks: counts.marks.wrapping_add(1),
+            ..counts
         },
         Kind::Erase => Counts {
-            programs,
-            marks,
-            erases: num::wrapping_add_u32(erases, 1),
+            erases: counts.erases.wrapping_add(1),
+            ..counts
         },
     }
 }
@@ -74,13 +66,12 @@ fn count(counts: Counts, kind: Kind) -> Counts
 pub fn after(done: Counts, operation: Operation) -> Progress
     ensures { result ≡ progressed done operation }
 {
-    let kind = operation.kind;
-    let left = operation.left;
-    let outcome = operation.outcome;
-    let more = count(done, kind);
-    match outcome {
-        Outcome::Whole => Progress { left, done: more },
-        Outcome::Torn => Progress { left, done },
-        Outcome::Nothing => Progress { left, done },
+    let done = match operation.outcome {
+        Outcome::Whole => count(done, operation.kind),
+        Outcome::Torn | Outcome::Nothing => done,
+    };
+    Progress {
+        left: operation.left,
+        done,
     }
 }

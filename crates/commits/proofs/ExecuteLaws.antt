@@ -8,6 +8,8 @@ use native.Mathlib.Numerals.{add-one}
 use native.Mathlib.Omega.{arith}
 use lib.ListN.{length, take}
 use lib.Seq.{length-take-le, take-take}
+use Rattle.std.proofs.Common.{None, Option, Some}
+use Rattle.std.proofs.lemmas.Option.{none-some, same_Some}
 use Rattle.lists.specs.Lists.{All, none, tab}
 use Rattle.lists.proofs.Flats.{length_tab, tab_same}
 use Rattle.lists.proofs.Alls.{All-take}
@@ -37,7 +39,7 @@ use Rattle.journal.proofs.AdmissibleLaws.{Safe}
 use Rattle.journal.proofs.PolicyCommits.{foreign}
 use Rattle.contents.specs.ContentsCode.{contents_in}
 use Rattle.plan.specs.declared.make.Plan as M
-use Rattle.plan.specs.MakeCode.{HoldsAssignment, LaysPlan, Makes, decision_of, page_count, unused_of}
+use Rattle.plan.specs.MakeCode.{HoldsAssignment, Makes, MakesPlan, decision_of, unused_of}
 use Rattle.plan.proofs.PlaceLaws.{first_erases_is, first_places_is}
 use Rattle.execution.specs.ExecutionCode.{CarriesOut, named_plan}
 use Rattle.execution.specs.WriteCode.{Holds}
@@ -90,123 +92,122 @@ plan_read_lem : {g : Geometry} {limit B : ℕ} {lens slots : List ℕ} {count : 
 plan_read_lem {g} {limit} {B} {lens} {slots} {count} {bytes} {G} {ps} {tb} {us} pl =
     read_plan g limit B lens slots count bytes G ps tb (held_size pl.held) (held_list pl.held) (contents_of (node_at tb) us) (held_contents pl.held)
 
+-- ---- the plan that is read is the one of its decision
+read_is : (g : Geometry) (limit B : ℕ) (lens slots : List ℕ) (count : ℕ) (bytes : List ℕ) (G : ℕ) (ps : List Page) (D : Decision)
+    → decision_of g limit B lens slots count bytes G ps ≡ D
+    → plan_read g limit B lens slots count bytes G ps ≡ plan_over g limit ps (unused_of g limit B lens slots G ps) (contents_in g limit ps lens slots count bytes) D
+unfolding plan_read
+read_is g limit B lens slots count bytes G ps D e =
+    ap (plan_over g limit ps (unused_of g limit B lens slots G ps) (contents_in g limit ps lens slots count bytes)) e
+
+-- ---- no plan is made: the one that is read has no page
+module _ {g : Geometry} {limit B : ℕ} {lens slots : List ℕ} {count : ℕ} {bytes : List ℕ} {G : ℕ} {ps : List Page} {targets sizes units : List ℕ} {o : Option M.Plan}
+    (m : Makes g limit B lens slots count bytes G ps targets sizes units o) (none-made : o ≡ None) where
+  abbrev L : Contents
+  L = contents_in g limit ps lens slots count bytes
+
+  abbrev unused : List ℕ
+  unused = unused_of g limit B lens slots G ps
+
+  none_by : (D : Decision) → decision_of g limit B lens slots count bytes G ps ≡ D → is_empty (plan_over g limit ps unused L D).written ≡ true
+  none_by nothing e = refl
+  none_by (follow A) e =
+      sheets_none (take (suc (length (all_packs L A limit))) (places g ps (head_block g ps) unused)) (all_packs L A limit)
+      (length_tab (page_packs (written_of L A.is_anew) A.target limit) 0 A.count ∙ (m.none none-made A e).count)
+
+  pub read_none : is_empty (plan_read g limit B lens slots count bytes G ps).written ≡ true
+  read_none =
+      let D = decision_of g limit B lens slots count bytes G ps in
+      ap (λ (p : Plan). is_empty p.written) (read_is g limit B lens slots count bytes G ps D refl) ∙ none_by D refl
+
+-- ---- a plan is made: it is the one that is read
 module _ {g : Geometry} {limit B : ℕ} {lens slots : List ℕ} {count : ℕ} {bytes : List ℕ} {G : ℕ} {ps : List Page} {targets sizes units : List ℕ} {r : M.Plan}
-    (m : Makes g limit B lens slots count bytes G ps targets sizes units r) where
+    (m : MakesPlan g limit B lens slots count bytes G ps targets sizes units r) where
   abbrev N : Contents
   N = contents_in g limit ps lens slots count bytes
 
   abbrev un : List ℕ
   un = unused_of g limit B lens slots G ps
 
-  -- the plan that is read is the one of its decision
   abbrev q : Plan
   q = plan_read g limit B lens slots count bytes G ps
 
-  read_is : (D : Decision) → decision_of g limit B lens slots count bytes G ps ≡ D → q ≡ plan_over g limit ps un N D
-  unfolding plan_read
-  read_is D e = ap (plan_over g limit ps un N) e
+  -- its assignment
+  abbrev A : Assignment
+  A = m.decision.0
 
-  -- ---- no page: the plan has none
-  none_by : (D : Decision) → decision_of g limit B lens slots count bytes G ps ≡ D → r.pages ≡ 0 → is_empty (plan_over g limit ps un N D).written ≡ true
-  none_by nothing e z = refl
-  none_by (follow A) e z =
-      let c : A.count ≡ r.pages = (m.decision.is A e).count in
-      sheets_none (take (suc (length (all_packs N A limit))) (places g ps (head_block g ps) un)) (all_packs N A limit)
-      (length_tab (page_packs (written_of N A.is_anew) A.target limit) 0 A.count ∙ c ∙ z)
+  is_read : q ≡ plan_over g limit ps un N (follow A)
+  is_read = read_is g limit B lens slots count bytes G ps (follow A) m.decision.1
 
-  pub read_none : r.pages ≡ 0 → is_empty q.written ≡ true
-  read_none z =
-      let D = decision_of g limit B lens slots count bytes G ps in
-      ap (λ (p : Plan). is_empty p.written) (read_is D refl) ∙ none_by D refl z
+  held : HoldsAssignment g limit N targets sizes units r.pages A
+  held = m.decision.2
 
-  -- ---- pages: the plan that the arrays name
-  module _ (A : Assignment) (e : decision_of g limit B lens slots count bytes G ps ≡ follow A) (some : 0 < r.pages) where
-    abbrev f : ℕ → List Update
-    f = written_of N A.is_anew
+  abbrev f : ℕ → List Update
+  f = written_of N A.is_anew
 
-    abbrev ks : List (List Pack)
-    ks = all_packs N A limit
+  abbrev ks : List (List Pack)
+  ks = all_packs N A limit
 
-    held : HoldsAssignment g limit N targets sizes units r.pages A
-    held = m.decision.is A e
+  page_is : (p : ℕ) → page_packs f (target_in targets) limit p ≡ page_packs f A.target limit p
+  page_is p = page_same f f (target_in targets) A.target limit p (λ n l. refl) held.target
 
-    laid : LaysPlan g B (head_block g ps) un r.pages ps r
-    laid = m.laid some
+  ks_is : tab 0 r.pages (page_packs f (target_in targets) limit) ≡ ks
+  ks_is =
+      tab_same (page_packs f (target_in targets) limit) (page_packs f A.target limit) 0 r.pages (λ p l. page_is p)
+      ∙ ap (λ (c : ℕ). tab 0 c (page_packs f A.target limit)) (sym held.count)
 
-    page_is : (p : ℕ) → page_packs f (target_in targets) limit p ≡ page_packs f A.target limit p
-    page_is p = page_same f f (target_in targets) A.target limit p (λ n l. refl) held.target
+  ks_many : length ks ≡ r.pages
+  ks_many = length_tab (page_packs f A.target limit) 0 A.count ∙ held.count
 
-    ks_is : tab 0 r.pages (page_packs f (target_in targets) limit) ≡ ks
-    ks_is =
-        tab_same (page_packs f (target_in targets) limit) (page_packs f A.target limit) 0 r.pages (λ p l. page_is p)
-        ∙ ap (λ (c : ℕ). tab 0 c (page_packs f A.target limit)) (sym held.count)
+  abbrev ws : List ℕ
+  ws = places g ps (head_block g ps) un
 
-    ks_many : length ks ≡ r.pages
-    ks_many = length_tab (page_packs f A.target limit) 0 A.count ∙ held.count
+  first_is : take (suc r.pages) r.places ≡ take (suc r.pages) ws
+  first_is =
+      subst (λ (n : ℕ). take n r.places ≡ take n ws) (add-one r.pages)
+      (m.laid.places ∙ first_places_is g ps (head_block g ps) un (r.pages + 1))
 
-    abbrev ws : List ℕ
-    ws = places g ps (head_block g ps) un
+  sheets_is : sheets (take r.pages r.places) ks ≡ sheets (take (suc (length ks)) ws) ks
+  sheets_is =
+      sheets_take r.pages r.places ks (omega (arith, ks_many)) ∙ sym (sheets_take (suc r.pages) r.places ks (omega (arith, ks_many)))
+      ∙ ap (λ (xs : List ℕ). sheets xs ks) first_is ∙ ap (λ (n : ℕ). sheets (take (suc n) ws) ks) (sym ks_many)
 
-    first_is : take (suc r.pages) r.places ≡ take (suc r.pages) ws
-    first_is =
-        subst (λ (n : ℕ). take n r.places ≡ take n ws) (add-one r.pages)
-        (laid.places ∙ first_places_is g ps (head_block g ps) un (r.pages + 1))
+  erased_is : take r.erases r.erased ≡ erases g ps (take (suc (length ks)) ws) un
+  erased_is =
+      m.laid.erased ∙ first_erases_is g ps (head_block g ps) un (r.pages + 1)
+      ∙ ap (λ (n : ℕ). erases g ps (take n ws) un) (add-one r.pages ∙ ap suc (sym ks_many))
 
-    sheets_is : sheets (take r.pages r.places) ks ≡ sheets (take (suc (length ks)) ws) ks
-    sheets_is =
-        sheets_take r.pages r.places ks (omega (arith, ks_many)) ∙ sym (sheets_take (suc r.pages) r.places ks (omega (arith, ks_many)))
-        ∙ ap (λ (xs : List ℕ). sheets xs ks) first_is ∙ ap (λ (n : ℕ). sheets (take (suc n) ws) ks) (sym ks_many)
+  pub named_is : named_plan limit f targets r ≡ q
+  named_is =
+      ap₂ (λ (xs : List ℕ) (ts : List Sheet). record { erased = xs; written = ts }) erased_is
+      (ap (sheets (take r.pages r.places)) ks_is ∙ sheets_is) ∙ sym is_read
 
-    erased_is : take r.erases r.erased ≡ erases g ps (take (suc (length ks)) ws) un
-    erased_is =
-        laid.erased ∙ first_erases_is g ps (head_block g ps) un (r.pages + 1)
-        ∙ ap (λ (n : ℕ). erases g ps (take n ws) un) (add-one r.pages ∙ ap suc (sym ks_many))
+  pub read_some : is_empty q.written ≡ false
+  read_some =
+      ap (λ (p : Plan). is_empty p.written) is_read
+      ∙ sheets_some (take (suc (length ks)) ws) ks (subst (λ (n : ℕ). 0 < n) (sym ks_many) m.some)
+      (subst (λ (n : ℕ). 0 < length (take (suc n) ws)) (sym ks_many) (first_some r.pages ws m.laid.enough))
 
-    pub named_is : named_plan limit f targets r ≡ q
-    named_is =
-        ap₂ (λ (xs : List ℕ) (ts : List Sheet). record { erased = xs; written = ts }) erased_is
-        (ap (sheets (take r.pages r.places)) ks_is ∙ sheets_is) ∙ sym (read_is (follow A) e)
+  -- as many pages
+  pub read_pages : length q.written ≡ r.pages
+  read_pages =
+      ap (λ (p : Plan). length p.written) is_read
+      ∙ sheets_many (take (suc (length ks)) ws) ks (within (length ks) r.pages (length ws) (length (take (suc (length ks)) ws)) ks_many m.laid.enough (length-take-le (suc (length ks)) ws))
+      ∙ ks_many
+    where
+      within : (k n w t : ℕ) → k ≡ n → n + 1 ≤ w → (suc k ≤ w → t ≡ suc k) → k ≤ t
+      within k n w t e h f = omega (arith, f (omega arith))
 
-    some_by : is_empty q.written ≡ false
-    some_by =
-        ap (λ (p : Plan). is_empty p.written) (read_is (follow A) e)
-        ∙ sheets_some (take (suc (length ks)) ws) ks (subst (λ (n : ℕ). 0 < n) (sym ks_many) some)
-        (subst (λ (n : ℕ). 0 < length (take (suc n) ws)) (sym ks_many) (first_some r.pages ws laid.enough))
+  pub named_holds : Holds g limit f targets sizes units r.pages
+  named_holds =
+      record {
+        written = held.written;
+        fits = λ p l. let z : length (units_of_packs (page_packs f A.target limit p)) ≤ g.units = held.fits p in rw (page_is p) z;
+      }
 
-    pages_by : length q.written ≡ r.pages
-    pages_by =
-        ap (λ (p : Plan). length p.written) (read_is (follow A) e)
-        ∙ sheets_many (take (suc (length ks)) ws) ks (within (length ks) r.pages (length ws) (length (take (suc (length ks)) ws)) ks_many laid.enough (length-take-le (suc (length ks)) ws))
-        ∙ ks_many
-      where
-        within : (k n w t : ℕ) → k ≡ n → n + 1 ≤ w → (suc k ≤ w → t ≡ suc k) → k ≤ t
-        within k n w t e h f = omega (arith, f (omega arith))
-
-    pub named_holds : Holds g limit f targets sizes units r.pages
-    named_holds =
-        record {
-          written = held.written;
-          fits = λ p l. let z : length (units_of_packs (page_packs f A.target limit p)) ≤ g.units = held.fits p in rw (page_is p) z;
-        }
-
-  -- a decision with pages is to follow an assignment
-  pub follows : (D : Decision) → decision_of g limit B lens slots count bytes G ps ≡ D → 0 < r.pages → (A : Assignment) × (decision_of g limit B lens slots count bytes G ps ≡ follow A)
-  follows nothing e h = absurd (omega (arith, m.decision.count, ap page_count e))
-  follows (follow A) e h = (A, e)
-
-  pub read_some : 0 < r.pages → is_empty q.written ≡ false
-  read_some h = let x = follows (decision_of g limit B lens slots count bytes G ps) refl h in some_by x.0 x.1 h
-
-  -- as many pages and erases as the code's plan says
-  pub read_pages : 0 < r.pages → length q.written ≡ r.pages
-  read_pages h =
-      let x = follows (decision_of g limit B lens slots count bytes G ps) refl h in
-      pages_by x.0 x.1 h
-
-  pub read_erases : 0 < r.pages → length q.erased ≡ r.erases
-  read_erases h =
-      let x = follows (decision_of g limit B lens slots count bytes G ps) refl h in
-      ap (λ (p : Plan). length p.erased) (sym (named_is x.0 x.1 h)) ∙ (m.laid h).many
+  -- as many erases as the code's plan says
+  pub read_erases : length q.erased ≡ r.erases
+  read_erases = ap (λ (p : Plan). length p.erased) (sym named_is) ∙ m.laid.many
 
   -- ---- arrays that hold a table
   module _ {tb : List Node} {us : List U.Unit} (pl : Plannable g limit B lens slots count bytes ps tb G us) where
@@ -224,71 +225,70 @@ module _ {g : Geometry} {limit B : ℕ} {lens slots : List ℕ} {count : ℕ} {b
         (foreign g limit B torn (subst (λ (n : ℕ). Chip g n B torn) (sym pl.limits) (chip_of g f B torn size)) ps tb G us plan_ready pl.some (wide g f B many))
 
     -- its pages noted
-    pub listed : 0 < r.pages → Fits g → (torn : List ℕ) → length torn ≡ page_size g → 3 ≤ B → B ≤ 32 → {p reached : Progress} {before after u v : List ℕ}
+    pub listed : Fits g → (torn : List ℕ) → length torn ≡ page_size g → 3 ≤ B → B ≤ 32 → {p reached : Progress} {before after u v : List ℕ}
         → CarriesOut g limit G r targets sizes units torn p reached before after lens slots u v
         → (n : ℕ) → n < limit → Stores u v n (foldl (turn n) (node_at tb n) (events limit (news_of g G q))).pages
-    listed h part torn size many most {p} {reached} {before} {after} {u} {v} c =
-        let y = follows (decision_of g limit B lens slots count bytes G ps) refl h in
-        let e = named_is y.0 y.1 h in
+    listed part torn size many most {p} {reached} {before} {after} {u} {v} c =
         let valid : All (ValidSheet g limit) q.written = subst (λ (p : Plan). All (ValidSheet g limit) p.written) (sym (plan_read_lem pl)) (plan_holds part torn size many) in
         let turned : Turned (events limit (news_of g G q)) lens slots u v =
-        subst (λ (p : Plan). Turned (events limit (news_of g G p)) lens slots u v) e
-        (c.turned (f y.0 y.1 h) (named_holds y.0 y.1 h) (subst (λ (p : Plan). All (ValidSheet g limit) p.written) (sym e) valid)) in
+        subst (λ (p : Plan). Turned (events limit (news_of g G p)) lens slots u v) named_is
+        (c.turned f named_holds (subst (λ (p : Plan). All (ValidSheet g limit) p.written) (sym named_is) valid)) in
         stores_after limit (node_at tb) (news_of g G q) lens slots u v (omega (arith, pl.limits)) pl.held.lists turned
 
   -- ---- carried out, on any arrays
-  pub carried : 0 < r.pages → {torn : List ℕ} {p reached : Progress} {before after l s u v : List ℕ} → CarriesOut g limit G r targets sizes units torn p reached before after l s u v
+  pub carried : {torn : List ℕ} {p reached : Progress} {before after l s u v : List ℕ} → CarriesOut g limit G r targets sizes units torn p reached before after l s u v
       → Ran g torn (ops_of g G q) p reached before after
-  carried h {torn} {p} {reached} {before} {after} c =
-      let y = follows (decision_of g limit B lens slots count bytes G ps) refl h in
-      subst (λ (x : Plan). Ran g torn (ops_of g G x) p reached before after) (named_is y.0 y.1 h) (c.ran (f y.0 y.1 h) (named_holds y.0 y.1 h))
+  carried {torn} {p} {reached} {before} {after} c =
+      subst (λ (x : Plan). Ran g torn (ops_of g G x) p reached before after) named_is (c.ran f named_holds)
 
-  worn_by : 0 < r.pages → (w x : List ℕ) → x ≡ figures_after (map erase (take r.erases r.erased)) w → x ≡ figures_after (ops_of g G q) w
-  worn_by h w x k =
-      let y = follows (decision_of g limit B lens slots count bytes G ps) refl h in
-      k ∙ ap (λ (p : Plan). figures_after (map erase p.erased) w) (named_is y.0 y.1 h) ∙ commit_figures q.erased (news_of g G q) w
+  worn_by : (w x : List ℕ) → x ≡ figures_after (map erase (take r.erases r.erased)) w → x ≡ figures_after (ops_of g G q) w
+  worn_by w x k =
+      k ∙ ap (λ (p : Plan). figures_after (map erase p.erased) w) named_is ∙ commit_figures q.erased (news_of g G q) w
 
 -- ---- the call
-module _ {g : Geometry} {limit B : ℕ} {lens slots : List ℕ} {count : ℕ} {bytes : List ℕ} {G : ℕ} (before : List ℕ) {targets sizes units : List ℕ} {r : M.Plan}
-    (m : Makes g limit B lens slots count bytes G (pages_of g before) targets sizes units r) where
-  -- no page: nothing is done
-  pub executes_none : r.pages ≡ 0 → (torn : List ℕ) (p : Progress) (l s u v w x : List ℕ)
-      → Executes g limit B lens slots count bytes G torn p before before l s u v w x (record { stuck = true; reached = p })
+module _ {g : Geometry} {limit B : ℕ} {lens slots : List ℕ} {count : ℕ} {bytes : List ℕ} {G : ℕ} (before : List ℕ) {targets sizes units : List ℕ} {o : Option M.Plan}
+    (m : Makes g limit B lens slots count bytes G (pages_of g before) targets sizes units o) where
+  -- no plan: nothing is done
+  pub executes_none : o ≡ None → (torn : List ℕ) (p : Progress) (l s u v w x : List ℕ)
+      → Executes g limit B lens slots count bytes G torn p before before l s u v w x None
   executes_none z torn p l s u v w x =
       record {
         size = refl;
         stuck = sym (read_none m z);
         still = λ e. refl;
-        ran = λ e. clash refl e;
-        figures = λ e. clash refl e;
-        lists = λ tb us pl a b e. clash refl e;
+        ran = λ q e. absurd (none-some q e);
+        figures = λ e. clash e refl;
+        lists = λ tb us pl a b e. clash e refl;
       }
 
-  -- pages: the plan is carried out
-  pub executes_some : 0 < r.pages → Fits g → (torn : List ℕ) → length torn ≡ page_size g → 3 ≤ B → B ≤ 32 → {p reached : Progress} {after l s u v : List ℕ}
+module _ {g : Geometry} {limit B : ℕ} {lens slots : List ℕ} {count : ℕ} {bytes : List ℕ} {G : ℕ} (before : List ℕ) {targets sizes units : List ℕ} {r : M.Plan}
+    (m : MakesPlan g limit B lens slots count bytes G (pages_of g before) targets sizes units r) where
+  -- a plan: it is carried out
+  pub executes_some : Fits g → (torn : List ℕ) → length torn ≡ page_size g → 3 ≤ B → B ≤ 32 → {p reached : Progress} {after l s u v : List ℕ}
       → CarriesOut g limit G r targets sizes units torn p reached before after l s u v
       → {w x : List ℕ} → x ≡ figures_after (map erase (take r.erases r.erased)) w
-      → Executes g limit B lens slots count bytes G torn p before after l s u v w x (record { stuck = false; reached = reached })
-  executes_some h part torn size many most {p} {reached} {after} {l} {s} {u} {v} c {w} {x} k =
+      → Executes g limit B lens slots count bytes G torn p before after l s u v w x (Some reached)
+  executes_some part torn size many most {p} {reached} {after} {l} {s} {u} {v} c {w} {x} k =
       record {
         size = c.size;
-        stuck = sym (read_some m h);
-        still = λ e. clash e refl;
-        ran = λ e. carried m h c;
-        figures = λ e. worn_by m h w x k;
-        lists = λ tb us pl a b e. listed m pl h part torn size many most
+        stuck = sym (read_some m);
+        still = λ e. absurd (none-some reached (sym e));
+        ran = λ q e. subst (λ (y : Progress). Ran g torn (ops_of g G (plan_read g limit B lens slots count bytes G (pages_of g before))) p y before after)
+            (same_Some reached q e) (carried m c);
+        figures = λ e. worn_by m w x k;
+        lists = λ tb us pl a b e. listed m pl part torn size many most
             (subst (λ (y : List ℕ). CarriesOut g limit G r targets sizes units torn p reached before after y slots u v) a
             (subst (λ (y : List ℕ). CarriesOut g limit G r targets sizes units torn p reached before after l y u v) b c));
       }
 
   -- what the execution asks of the plan
   pub pages_most_lem : limit ≤ 256 → r.pages ≤ 128
-  pages_most_lem h = go m.decision.few
+  pages_most_lem h = go m.decision.2.few
     where
       go : 2 * r.pages ≤ suc limit → r.pages ≤ 128
       go k = omega arith
 
-  pub places_on : 0 < r.pages → All (λ (x : ℕ). x < B * g.pages) (take r.pages r.places)
-  places_on h =
+  pub places_on : All (λ (x : ℕ). x < B * g.pages) (take r.pages r.places)
+  places_on =
       subst (All (λ (x : ℕ). x < B * g.pages)) (take-take r.pages (r.pages + 1) r.places (omega arith))
-      (All-take r.pages (m.laid h).on)
+      (All-take r.pages m.laid.on)

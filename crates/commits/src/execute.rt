@@ -9,15 +9,8 @@ use execution::{execute as carry, figures};
 use plan::make;
 use plan::make::Basis;
 
-// Whether the commit was stuck, for want of room or of a page to write, and how far it came.
-#[derive(Clone, Copy)]
-pub struct Ended {
-    pub stuck: bool,
-    pub reached: Progress,
-}
-
 // A commit of the units of the buffer, numbered one above the last: the image, and the node table and the erases of each block that it
-// leaves.
+// leaves, and how far it came. None where it is stuck, for want of room or of a page to write.
 pub fn execute(
     image: &mut [u8],
     lens: &[u32; 256],
@@ -29,7 +22,7 @@ pub fn execute(
     new_lens: &mut [u32; 256],
     new_slots: &mut [u32; 1024],
     new_erases: &mut [u64; 32],
-) -> Ended
+) -> Option<Progress>
     requires { (length image.old ≡ basis.blocks * block_size basis.geometry) × (3 ≤ basis.blocks) × (basis.blocks ≤ 32) × (basis.count ≤ 960) × (length torn.now ≡ page_size basis.geometry)
         × (basis.commit < 4294967295) × Fits basis.geometry }
     ensures { Executes basis.geometry (8 * basis.blocks) basis.blocks lens.now slots.now basis.count buffer.now basis.commit torn.now progress
@@ -48,13 +41,7 @@ pub fn execute(
         &mut targets,
         &mut sizes,
         &mut units,
-    );
-    if plan.pages == 0 {
-        return Ended {
-            stuck: true,
-            reached: progress,
-        };
-    }
+    )?;
     let geometry = basis.geometry;
     let commit = Commit {
         geometry,
@@ -65,6 +52,5 @@ pub fn execute(
         image, plan, commit, &targets, &sizes, &units, torn, progress, new_lens, new_slots,
     );
     figures::count_erases(new_erases, &plan.erased, plan.erases);
-    let stuck = false;
-    Ended { stuck, reached }
+    Some(reached)
 }

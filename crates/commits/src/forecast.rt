@@ -4,26 +4,19 @@ ghost use Rattle.chip.specs.Geometry.{Fits, block_size};
 ghost use Rattle.chip.specs.Chip.{pages_of};
 ghost use Rattle.commits.specs.ExecuteCode.{Costs};
 
-use chip::progress;
 use chip::progress::Counts;
 use plan::make;
 use plan::make::Basis;
 
-// Whether the commit would be stuck, and the operations that it would do by kind.
-#[derive(Clone, Copy)]
-pub struct Cost {
-    pub stuck: bool,
-    pub ops: Counts,
-}
-
 // The cost of a commit of the units of the buffer: a data program and two marks for each page of its plan, and its erases.
+// None where the commit would be stuck.
 pub fn forecast(
     image: &[u8],
     lens: &[u32; 256],
     slots: &[u32; 1024],
     buffer: &[u8; 11520],
     basis: Basis,
-) -> Cost
+) -> Option<Counts>
     requires { (length image.now ≡ basis.blocks * block_size basis.geometry) × (3 ≤ basis.blocks) × (basis.blocks ≤ 32) × (basis.count ≤ 960) × Fits basis.geometry }
     ensures { Costs basis.geometry (8 * basis.blocks) basis.blocks lens.now slots.now basis.count buffer.now basis.commit
         (pages_of basis.geometry image.now) result }
@@ -40,19 +33,12 @@ pub fn forecast(
         &mut targets,
         &mut sizes,
         &mut units,
-    );
-    if plan.pages == 0 {
-        let ops = progress::nothing();
-        let stuck = true;
-        return Cost { stuck, ops };
-    }
+    )?;
     let pages = plan.pages as u32;
     let erases = plan.erases as u32;
-    let ops = Counts {
+    Some(Counts {
         programs: pages,
         marks: 2 * pages,
         erases,
-    };
-    let stuck = false;
-    Cost { stuck, ops }
+    })
 }

@@ -5,50 +5,30 @@ use Prim.Native.Nat.{ℕ, zero, suc, ◌+◌, ◌*◌, ◌-◌, ◌<◌, ◌≤�
 use native.Mathlib.Omega.{arith}
 use lib.ListN.{drop, length, length-append, length-map, length-take, take}
 use lib.Seq.{take-nil}
-use Rattle.lists.specs.Lists.{patch}
 use Rattle.lists.proofs.Flats.{map_append}
 use Rattle.pages.specs.declared.unit.Update.{Update}
+use Rattle.std.proofs.Common.{Option, Some, None}
 use Rattle.pages.specs.declared.unit.Unit as U
-use Rattle.pages.specs.declared.unit.Decoded.{Decoded}
-use Rattle.pages.specs.declared.unit.Decoded.TheVariants.{Bad, Good}
-use Rattle.pages.specs.Units.{decode, encode}
+use Rattle.pages.specs.Units.{decode}
 use Rattle.views.specs.Groups.{unit_for}
 use Rattle.views.specs.PassCode.{pushed}
-use Rattle.views.proofs.BufferLaws.{length_pushed, pushed_append, pushed_none, pushed_one}
+use Rattle.views.proofs.BufferLaws.{length_pushed, pushed_append, pushed_none}
 use Rattle.contents.specs.ContentsCode.{Appends, Keeps, own_in, picked, with_update}
 use Rattle.contents.proofs.OwnLaws.{own_from_lem, own_end, own_next, own_start}
 use Rattle.contents.proofs.UnitsLaws.{keeps_pushed}
 
--- ---- one unit, as it was picked: none, no room, kept
-module _ (n k : ℕ) (p : Decoded) (b : List ℕ) where
-  nothing : (us : List Update) → us ≡ [] → Appends n k us b b k
-  nothing us e = rw e (record { is = sym (pushed_none b (17 * n + k)); count = omega arith })
-
-  pub append_bad : (d : Decoded) → d ≡ p → d ≡ Bad → Appends n k (take (17 - k) (with_update p [])) b b k
-  append_bad d q e = rw (← q, e) (nothing (take (17 - k) []) (take-nil (17 - k)))
-
-  pub append_full : 17 ≤ k → Appends n k (take (17 - k) (with_update p [])) b b k
-  append_full h = let e : 17 - k ≡ 0 = omega arith in rw e (nothing [] refl)
-
-  pub append_good : (d : Decoded) (u : U.Unit) (c : List ℕ) → d ≡ p → d ≡ Good u → u.node ≡ n → k < 17 → c ≡ patch b (12 * (17 * n + k)) 12 (encode u)
-      → Appends n k (take (17 - k) (with_update p [])) b c (k + 1)
-  append_good d u c q e m h w =
-      let s : 17 - k ≡ suc (16 - k) = omega arith in
-      rw (← q, e, s, take-nil (16 - k))
-      (record { is = pushed_one b c (17 * n + k) u w ∙ ap (λ (i : ℕ). pushed b (17 * n + k) (unit_for i u.update ∷ [])) m; count = omega arith })
-
 -- ---- the loop
 -- the first of some room for a unit and those behind it
-take_with : (room : ℕ) (d : Decoded) (ws : List Update)
+take_with : (room : ℕ) (d : Option U.Unit) (ws : List Update)
     → take room (with_update d ws) ≡ take room (with_update d []) ++ take (room - length (take room (with_update d []))) ws
-take_with zero (Good u) ws = refl
-take_with zero Bad ws = refl
-take_with (suc room) (Good u) ws =
+take_with zero (Some u) ws = refl
+take_with zero None ws = refl
+take_with (suc room) (Some u) ws =
     let none : List Update = [] in
     let e : length (take room none) ≡ 0 = ap length (take-nil room) in
     let q : suc room - suc (length (take room none)) ≡ room = omega arith in
     ap₂ (λ (x y : List Update). u.update ∷ (x ++ y)) (sym (take-nil room)) (ap (λ (m : ℕ). take m ws) (sym q))
-take_with (suc room) Bad ws = ap (λ (m : ℕ). take m ws) (let e : suc room ≡ suc room - 0 = omega arith in e)
+take_with (suc room) None ws = ap (λ (m : ℕ). take m ws) (let e : suc room ≡ suc room - 0 = omega arith in e)
 
 module _ (limit n count : ℕ) (p : List ℕ) (b₀ : List ℕ) where
   abbrev all : List Update
@@ -75,10 +55,10 @@ module _ (limit n count : ℕ) (p : List ℕ) (b₀ : List ℕ) where
       }
 
   pub keeping_next : (i k r : ℕ) (b c : List ℕ) → n < 256 → i < count → Keeping i k b
-      → Appends n k (take (17 - k) (with_update (picked n (decode limit (take (length p - 12 * i) (drop (12 * i) p)))) [])) b c r
+      → Appends n k (take (17 - k) (with_update (picked n (decode limit (drop (12 * i) p))) [])) b c r
       → Keeping (i + 1) r c
   keeping_next i k r b c on h l a =
-      let d : Decoded = picked n (decode limit (take (length p - 12 * i) (drop (12 * i) p))) in
+      let d : Option U.Unit = picked n (decode limit (drop (12 * i) p)) in
       let us : List Update = take (17 - k) (with_update d []) in
       let vs : List Update = left r (i + 1) in
       let lu : length us ≤ 17 - k = omega (arith, length-take (17 - k) (with_update d [])) in

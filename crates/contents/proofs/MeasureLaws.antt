@@ -1,48 +1,33 @@
 -- The nodes measured one after the other: marks, counts and kept units. Assumes nothing.
 use mathlib.Core.Path.{◌≡◌, refl, sym, ap, ap₂, ◌∙◌}
 use mathlib.Core.Bool.{Bool, true, false, cond, ◌&&◌, ◌||◌, not}
-use mathlib.Core.List.{List, ◌∷◌}
+use mathlib.Core.List.{List, [], ◌∷◌, ◌++◌}
+use Rattle.std.specs.List.{list_any}
 use mathlib.Core.Logic.{⊎_elim}
-use Prim.Native.Nat.{ℕ, ◌+◌, ◌*◌, ◌<◌, ◌≤◌, min}
-use native.Mathlib.Nat.{mul-le-mul}
-use native.Mathlib.Numerals.{add-one}
+use Prim.Native.Nat.{ℕ, ◌+◌, ◌*◌, ◌-◌, ◌<◌, ◌≤◌, min}
 use native.Mathlib.Omega.{arith}
 use lib.Dec.{eqb, leb, ltb}
-use lib.ListN.{drop, drop_of_length-le, get_or, length, length-drop, length-replicate, length-set, length-take, replicate, set, take}
-use lib.Seq.{drop-cons, get_or-drop, get_or-set_other, get_or-set_same, get_or-take, take_all, take-take}
-use borrow.Author.Tests.{eqb-false, eqb-true, le-leb, le-ltb, leb-false, lt-leb, lt-ltb, ltb-false, ltb-true, ne_eqb}
+use lib.ListN.{drop, get_or, get_or-append, length, length-append, length-drop, length-replicate, length-set, length-take, replicate, set, take}
+use lib.Seq.{get_or-drop, get_or-set_other, get_or-set_same, length-take-le, take_all, take-take}
+use Rattle.std.proofs.lemmas.List.{get_or-append_right, get_or-replicate}
+use borrow.Author.Tests.{eqb-false, eqb-true, leb-false, lt-ltb, ltb-false, ltb-true}
+use Rattle.std.specs.Prelude.{Option}
 use Rattle.lists.specs.Lists.{any, bit}
 use Rattle.lists.proofs.Places.{get_d_same}
 use Rattle.lists.proofs.Filters.{bit_most}
 use Rattle.lists.proofs.Tests.{below_or_not, cases, clash, neither_left, neither_right}
 use Rattle.chip.specs.Geometry.{Geometry}
 use Rattle.chip.specs.Page.{Page}
-use Rattle.chip.specs.Chip.{in_block}
 use Rattle.pages.specs.declared.unit.Update.{Update}
 use Rattle.views.specs.Groups.{is_reset}
 use Rattle.views.specs.Stored.{stored_list}
 use Rattle.journal.specs.Plan.{rewrite}
 use Rattle.journal.specs.Admissible.{Contents}
 use Rattle.journal.specs.PlanCode.{KeepsUnits, is_marked}
-use Rattle.contents.specs.ContentsCode.{AllRead, FillsArray, Keeps, KeepsRead, Measured, ReadsNode, ReadsNodes, Tallied, contents_in, is_forced_by, is_read, is_wanted, own_in}
+use Rattle.contents.specs.ContentsCode.{AllRead, FillsArray, Keeps, KeepsRead, Measured, ReadsNode, ReadsNodes, Tallied, contents_in, in_oldest, is_forced_by, is_read, own_in}
 use Rattle.contents.proofs.UnitsLaws.{keeps_other, keeps_this}
 
--- ---- a page and a block
-module _ (g : Geometry) (b : ℕ) where
-  -- the first page of any block is a number that fits the code's
-  pub block_most : b < 4294967296 → g.pages ≤ 64 → b * g.pages ≤ 274877906944
-  block_most h k = let l : b ≤ 4294967296 = omega arith in mul-le-mul l k
-
-  -- a page before the first is not of the block; another is where it is before the end
-  pub block_before : (p : ℕ) → p < b * g.pages → false ≡ in_block g b p
-  unfolding in_block
-  block_before p h = rw (lt-leb (b * g.pages) p h)
-
-  pub block_from : (p : ℕ) → b * g.pages ≤ p → ltb p (b * g.pages + g.pages) ≡ in_block g b p
-  unfolding in_block
-  block_from p h = rw (le-leb (b * g.pages) p h)
-
--- ---- a node's list, page by page
+-- ---- a node's list
 list_is : (lens slots : List ℕ) (n used : ℕ) → used ≡ min (get_or lens n 0) 4 → stored_list lens slots n ≡ take used (drop (4 * n) slots)
 list_is lens slots n used e =
     let k : ℕ = get_or lens n 0 in
@@ -51,29 +36,17 @@ list_is lens slots n used e =
     (λ t. let l = ltb-true used 4 t in let q : k ≡ used = omega arith in rw q (take-take used 4 d (omega arith)))
     (λ t. let l = ltb-false used 4 t in let q : used ≡ 4 = omega arith in rw q (take_all k (take 4 d) (rw length-take (omega arith))))
 
-module _ (g : Geometry) (lens slots : List ℕ) (n used : ℕ) (many : used ≡ length (stored_list lens slots n)) (size : length slots ≡ 1024) (on : n < 256) (b i : ℕ) where
-  abbrev list : List ℕ
-  list = stored_list lens slots n
+-- a test of some page of it, on the slots that count
+any_is : (p : ℕ → Bool) (xs : List ℕ) → list_any p xs ≡ any p xs
+any_is p [] = refl
+any_is p (x ∷ xs) = ap (λ (b : Bool). p x || b) (any_is p xs)
 
-  next : i < used → drop i list ≡ get_or slots (4 * n + i) 0 ∷ drop (i + 1) list
-  next h =
-      let e : used ≡ min (get_or lens n 0) 4 = many ∙ (let q : length list ≡ min (get_or lens n 0) 4 = simp (length-take, length-drop) (omega arith) in q) in
-      let d : List ℕ = drop (4 * n) slots in
-      let at : get_or list i 0 ≡ get_or slots (4 * n + i) 0 =
-      ap (λ (k : List ℕ). get_or k i 0) (list_is lens slots n used e) ∙ get_or-take used d i 0 h ∙ get_or-drop (4 * n) slots i 0 in
-      drop-cons list i 0 (rw (← many) h) ∙ ap₂ (λ (x j : ℕ). x ∷ drop j list) at (sym (add-one i))
-
-  -- a page of the block, and a page of another
-  pub listed_here : i < used → any (in_block g b) (drop i list) ≡ any (in_block g b) list → true ≡ in_block g b (get_or slots (4 * n + i) 0)
-      → true ≡ any (in_block g b) list
-  listed_here h left t = sym (sym left ∙ ap (any (in_block g b)) (next h) ∙ rw (← t))
-
-  pub listed_next : i < used → any (in_block g b) (drop i list) ≡ any (in_block g b) list → false ≡ in_block g b (get_or slots (4 * n + i) 0)
-      → any (in_block g b) (drop (i + 1) list) ≡ any (in_block g b) list
-  listed_next h left t = sym (ap (any (in_block g b)) (next h) ∙ rw (← t)) ∙ left
-
-  pub listed_done : used ≤ i → any (in_block g b) (drop i list) ≡ any (in_block g b) list → false ≡ any (in_block g b) list
-  listed_done h left = ap (any (in_block g b)) (sym (drop_of_length-le list {i = i} (omega (arith, many)))) ∙ left
+pub listed_is : (p : ℕ → Bool) (lens slots : List ℕ) (n used : ℕ) → used ≡ length (stored_list lens slots n) → length slots ≡ 1024 → n < 256
+    → list_any p (take used (drop (4 * n) slots)) ≡ any p (stored_list lens slots n)
+listed_is p lens slots n used many size on =
+    let e : used ≡ min (get_or lens n 0) 4 =
+    many ∙ (let q : length (stored_list lens slots n) ≡ min (get_or lens n 0) 4 = simp (length-take, length-drop) (omega arith) in q) in
+    any_is p (take used (drop (4 * n) slots)) ∙ ap (any p) (sym (list_is lens slots n used e))
 
 -- ---- arrays filled
 pub fills_start : (f : ℕ → ℕ) (xs : List ℕ) → FillsArray 0 f xs xs
@@ -101,32 +74,18 @@ fills_same k f before xs l q =
       size = l.size;
     }
 
--- all of them
-pub fills_done : (k limit : ℕ) (f : ℕ → ℕ) (before xs : List ℕ) → k ≤ limit → limit ≤ k → FillsArray k f before xs → FillsArray limit f before xs
-fills_done k limit f before xs h g l = let e : k ≡ limit = omega arith in rw e at l
-
--- ---- which nodes are read
-module _ (parts olds : List ℕ) (n : ℕ) (others : Bool) where
-  by : (b : Bool) → is_read parts olds n ≡ b → cond others (not b) b ≡ is_wanted others parts olds n
-  by b e = rw e
-
-  -- not others is the answer where the node is one of these
-  flip : (o : Bool) → not o ≡ cond o (not true) true
-  flip true = refl
-  flip false = refl
-
-  keep : (o : Bool) → o ≡ cond o (not false) false
-  keep true = refl
-  keep false = refl
-
-  pub wanted_part : 0 < get_or parts n 0 → not others ≡ is_wanted others parts olds n
-  wanted_part h = flip others ∙ by true (rw (lt-ltb 0 (get_or parts n 0) h))
-
-  pub wanted_old : get_or parts n 0 ≤ 0 → get_or olds n 0 ≡ 1 → not others ≡ is_wanted others parts olds n
-  wanted_old h e = flip others ∙ by true (rw (le-ltb 0 (get_or parts n 0) h, e))
-
-  pub wanted_no : get_or parts n 0 ≤ 0 → (get_or olds n 0 ≡ 1 → ⊥) → others ≡ is_wanted others parts olds n
-  wanted_no h d = keep others ∙ by false (rw (le-ltb 0 (get_or parts n 0) h, ne_eqb (get_or olds n 0) 1 d))
+-- ones in front of the others
+pub fills_ones : (limit : ℕ) (before ones : List ℕ) → limit ≤ length before → ones ≡ replicate (length (take limit before)) 1
+    → FillsArray limit (λ (n : ℕ). 1) before (ones ++ drop limit before)
+fills_ones limit before ones h e =
+    let k : ones ≡ replicate limit 1 = e ∙ ap (λ (m : ℕ). replicate m 1) (length-take-le limit before h) in
+    let l : length ones ≡ limit = ap length k ∙ length-replicate limit 1 in
+    record {
+      done = λ n m. get_or-append ones (drop limit before) 0 n (omega (arith, l)) ∙ ap (λ (xs : List ℕ). get_or xs n 0) k ∙ get_or-replicate limit n 1 0 m;
+      rest = λ n m. let q : limit + (n - limit) ≡ n = omega arith in
+          get_or-append_right ones (drop limit before) limit n 0 l m ∙ get_or-drop limit before (n - limit) 0 ∙ ap (λ (i : ℕ). get_or before i 0) q;
+      size = length-append ones (drop limit before) ∙ omega (arith, l, length-drop limit before);
+    }
 
 -- ---- nodes read
 pub reads_one : (n : ℕ) (us : List Update) (wholes counts units bytes : List ℕ) (r : ℕ) (w : Bool) → w ≡ true → counts ≡ set wholes n r → Keeps n us units bytes r
@@ -177,18 +136,6 @@ module _ (wanted : ℕ → Bool) (f : ℕ → List Update) (wholes units : List 
 
 -- ---- which nodes must be written anew
 module _ (reset part whole pages : ℕ) where
-  pub forced_none : part ≡ 0 → false ≡ is_forced_by reset part whole pages
-  forced_none e = rw (le-ltb 0 part (omega arith))
-
-  pub forced_reset : (part ≡ 0 → ⊥) → reset ≡ 1 → true ≡ is_forced_by reset part whole pages
-  forced_reset d e = rw (lt-ltb 0 part (omega (arith, d)), e)
-
-  pub forced_less : (part ≡ 0 → ⊥) → (reset ≡ 1 → ⊥) → whole ≤ part → true ≡ is_forced_by reset part whole pages
-  forced_less d e h = rw (lt-ltb 0 part (omega (arith, d)), ne_eqb reset 1 e, le-leb whole part h)
-
-  pub forced_full : (part ≡ 0 → ⊥) → (reset ≡ 1 → ⊥) → part < whole → leb 4 pages ≡ is_forced_by reset part whole pages
-  forced_full d e h = rw (lt-ltb 0 part (omega (arith, d)), ne_eqb reset 1 e, lt-leb whole part h)
-
   -- the test by the updates themselves
   forced_is : (os fs : List Update) → part ≡ length os → eqb reset 1 ≡ any is_reset os → (0 < part → whole ≡ length fs)
       → is_forced_by reset part whole pages ≡ (ltb 0 (length os) && (any is_reset os || (leb (length fs) (length os) || leb 4 pages)))
@@ -207,13 +154,13 @@ marked_bit true = refl
 marked_bit false = refl
 
 -- ---- all of it
-module _ (g : Geometry) (limit oldest : ℕ) (ps : List Page) (lens slots : List ℕ) (count : ℕ) (buffer : List ℕ) (parts resets forms wholes₀ wholes olds₀ olds units₀ units : List ℕ) where
+module _ (g : Geometry) (limit : ℕ) (oldest : Option ℕ) (ps : List Page) (lens slots : List ℕ) (count : ℕ) (buffer : List ℕ) (parts resets forms wholes₀ wholes olds₀ olds units₀ units : List ℕ) where
   abbrev N : Contents
   N = contents_in g limit ps lens slots count buffer
 
   module _ (few : limit ≤ 256) (t : Tallied limit count buffer parts resets) (z : wholes₀ ≡ replicate 256 0) (lo : length olds₀ ≡ 256)
-      (o : FillsArray limit (λ (n : ℕ). bit (any (in_block g oldest) (stored_list lens slots n))) olds₀ olds)
-      (r : ReadsNodes limit (is_wanted false parts olds) (λ (n : ℕ). rewrite (N.after n)) wholes₀ wholes units₀ units)
+      (o : FillsArray limit (λ (n : ℕ). bit (in_oldest g oldest (stored_list lens slots n))) olds₀ olds)
+      (r : ReadsNodes limit (is_read parts olds) (λ (n : ℕ). rewrite (N.after n)) wholes₀ wholes units₀ units)
       (m : FillsArray limit (λ (n : ℕ). bit (is_forced_by (get_or resets n 0) (get_or parts n 0) (get_or wholes n 0) (length (stored_list lens slots n)))) resets forms) where
     zeros : (n : ℕ) → get_or wholes₀ n 0 ≡ 0
     zeros n = ap (λ (xs : List ℕ). get_or xs n 0) z ∙ get_d_same 256 n 0
@@ -240,7 +187,7 @@ module _ (g : Geometry) (limit oldest : ℕ) (ps : List Page) (lens slots : List
     pub measured : Measured g limit oldest N parts resets forms wholes olds units
     measured =
         record {
-          old = λ n l. ap (λ (x : ℕ). eqb x 1) (o.done n l) ∙ marked_bit (any (in_block g oldest) (stored_list lens slots n));
+          old = λ n l. ap (λ (x : ℕ). eqb x 1) (o.done n l) ∙ marked_bit (in_oldest g oldest (stored_list lens slots n));
           form = λ n l. form_is n l
               ∙ forced_is (get_or resets n 0) (get_or parts n 0) (get_or wholes n 0) (length (stored_list lens slots n)) (own_in limit n count buffer) (rewrite (N.after n))
               (t.part n (omega arith)) (t.reset n (omega arith)) (λ h. whole_read n l (rw (lt-ltb 0 (get_or parts n 0) h)));
@@ -260,7 +207,7 @@ module _ (g : Geometry) (limit oldest : ℕ) (ps : List Page) (lens slots : List
 -- the nodes that were not read yet, and all marks
 module _ (limit : ℕ) (N : Contents) (parts forms₀ forms wholes₀ wholes olds units₀ units : List ℕ) where
   pub all_read : length forms₀ ≡ 256 → length wholes₀ ≡ 256 → KeepsRead limit N parts wholes₀ olds units₀
-      → ReadsNodes limit (is_wanted true parts olds) (λ (n : ℕ). rewrite (N.after n)) wholes₀ wholes units₀ units
+      → ReadsNodes limit (λ (n : ℕ). not (is_read parts olds n)) (λ (n : ℕ). rewrite (N.after n)) wholes₀ wholes units₀ units
       → FillsArray limit (λ (n : ℕ). 1) forms₀ forms → AllRead limit N forms wholes units
   all_read lf lw k r m =
       record {

@@ -2,34 +2,25 @@
 use mathlib.Core.Path.{◌≡◌, refl, sym, ap, ◌∙◌}
 use mathlib.Core.Bool.{Bool, true, false, cond, ◌||◌}
 use mathlib.Core.List.{List, []}
-use Prim.Native.Nat.{ℕ, ◌+◌, ◌*◌, ◌-◌, ◌<◌, ◌≤◌}
+use Prim.Native.Nat.{ℕ, ◌+◌, ◌*◌, ◌<◌, ◌≤◌}
 use native.Mathlib.Omega.{arith}
 use lib.Dec.{eqb}
-use lib.ListN.{drop, get_or, length, length-replicate, length-set, replicate, set, take}
+use lib.ListN.{drop, get_or, length, length-replicate, length-set, replicate, set}
 use lib.Seq.{get_or-set_other, get_or-set_same}
 use borrow.Author.Tests.{eqb-false, eqb-true}
+use Rattle.std.proofs.Math.Bool.{or_assoc, or-false}
 use Rattle.lists.specs.Lists.{any}
 use Rattle.lists.proofs.Places.{get_d_same}
 use Rattle.lists.proofs.Tests.{cases, or_right}
 use Rattle.pages.specs.declared.unit.Update.{Update}
 use Rattle.pages.specs.declared.unit.Unit as U
-use Rattle.pages.specs.declared.unit.Decoded.{Decoded}
-use Rattle.pages.specs.declared.unit.Decoded.TheVariants.{Bad, Good}
+use Rattle.std.proofs.Common.{Option, Some, None}
 use Rattle.pages.specs.Units.{decode}
 use Rattle.pages.proofs.UnitLaws.{told}
 use Rattle.views.specs.Groups.{is_reset}
 use Rattle.journal.specs.PlanCode.{is_marked}
 use Rattle.contents.specs.ContentsCode.{Tallied, counted, noted, own_in, picked, with_update}
 use Rattle.contents.proofs.OwnLaws.{own_from_lem, own_end, own_next, own_start}
-
--- every number of an array of zeros
-or_none : (b : Bool) → b ≡ (b || false)
-or_none true = refl
-or_none false = refl
-
-or_assoc : (a b c : Bool) → ((a || b) || c) ≡ (a || (b || c))
-or_assoc true b c = refl
-or_assoc false b c = refl
 
 -- one number after a store at index i
 pub set_at : (xs : List ℕ) (i v n : ℕ) → i < length xs → get_or (set xs i v) n 0 ≡ cond (eqb i n) v (get_or xs n 0)
@@ -40,55 +31,43 @@ set_at xs i v n h =
 
 -- ---- one unit
 
-pub length_counted : (d : Decoded) (xs : List ℕ) → length (counted d xs) ≡ length xs
-length_counted (Good u) xs = simp length-set
-length_counted Bad xs = refl
+pub length_counted : (d : Option U.Unit) (xs : List ℕ) → length (counted d xs) ≡ length xs
+length_counted (Some u) xs = simp length-set
+length_counted None xs = refl
 
-pub length_noted : (d : Decoded) (xs : List ℕ) → length (noted d xs) ≡ length xs
-length_noted (Good u) xs = cases (is_reset u.update) (λ t. rw t (simp length-set)) (λ t. rw t)
-length_noted Bad xs = refl
+pub length_noted : (d : Option U.Unit) (xs : List ℕ) → length (noted d xs) ≡ length xs
+length_noted (Some u) xs = cases (is_reset u.update) (λ t. rw t (simp length-set)) (λ t. rw t)
+length_noted None xs = refl
 
--- what a unit leaves of both arrays, as it was decoded
-pub tally_none : (e d : Decoded) (xs ys : List ℕ) → d ≡ e → d ≡ Bad → (xs ≡ counted e xs) × (ys ≡ noted e ys)
-tally_none e d xs ys q h = rw (← q, h) (refl, refl)
-
-pub tally_other : (e d : Decoded) (u : U.Unit) (xs ys : List ℕ) → d ≡ e → d ≡ Good u → is_reset u.update ≡ false
-    → (set xs u.node (get_or xs u.node 0 + 1) ≡ counted e xs) × (ys ≡ noted e ys)
-tally_other e d u xs ys q h t = rw (← q, h, t) (refl, refl)
-
-pub tally_reset : (e d : Decoded) (u : U.Unit) (xs ys : List ℕ) → d ≡ e → d ≡ Good u → is_reset u.update ≡ true
-    → (set xs u.node (get_or xs u.node 0 + 1) ≡ counted e xs) × (set ys u.node 1 ≡ noted e ys)
-tally_reset e d u xs ys q h t = rw (← q, h, t) (refl, refl)
-
-counted_at : (d : Decoded) (xs : List ℕ) (n : ℕ) → ((u : U.Unit) → d ≡ Good u → u.node < length xs)
+counted_at : (d : Option U.Unit) (xs : List ℕ) (n : ℕ) → ((u : U.Unit) → d ≡ Some u → u.node < length xs)
     → get_or (counted d xs) n 0 ≡ get_or xs n 0 + length (with_update (picked n d) [])
-counted_at (Good u) xs n h =
+counted_at (Some u) xs n h =
     set_at xs u.node (get_or xs u.node 0 + 1) n (h u refl)
     ∙ cases (eqb u.node n)
     (λ t. rw t (ap (λ (k : ℕ). get_or xs k 0 + 1) (eqb-true u.node n t)))
     (λ t. rw t (omega arith))
-counted_at Bad xs n h = omega arith
+counted_at None xs n h = omega arith
 
-noted_at : (d : Decoded) (xs : List ℕ) (n : ℕ) → ((u : U.Unit) → d ≡ Good u → u.node < length xs)
+noted_at : (d : Option U.Unit) (xs : List ℕ) (n : ℕ) → ((u : U.Unit) → d ≡ Some u → u.node < length xs)
     → get_or (noted d xs) n 0 ≡ cond (any is_reset (with_update (picked n d) [])) 1 (get_or xs n 0)
-noted_at (Good u) xs n h =
+noted_at (Some u) xs n h =
     cases (is_reset u.update)
     (λ t. rw t (set_at xs u.node 1 n (h u refl) ∙ cases (eqb u.node n) (λ s. rw (s, t)) (λ s. rw s)))
     (λ t. rw t (cases (eqb u.node n) (λ s. rw (s, t)) (λ s. rw s)))
-noted_at Bad xs n h = refl
+noted_at None xs n h = refl
 
 -- ---- the loop
-length_with : (d : Decoded) (us : List Update) → length (with_update d us) ≡ length (with_update d []) + length us
-length_with (Good u) us = omega arith
-length_with Bad us = omega arith
+length_with : (d : Option U.Unit) (us : List Update) → length (with_update d us) ≡ length (with_update d []) + length us
+length_with (Some u) us = omega arith
+length_with None us = omega arith
 
-any_with : (d : Decoded) (us : List Update) → any is_reset (with_update d us) ≡ (any is_reset (with_update d []) || any is_reset us)
-any_with (Good u) us = sym (or_assoc (is_reset u.update) false (any is_reset us))
-any_with Bad us = refl
+any_with : (d : Option U.Unit) (us : List Update) → any is_reset (with_update d us) ≡ (any is_reset (with_update d []) || any is_reset us)
+any_with (Some u) us = sym (or_assoc (is_reset u.update) false (any is_reset us))
+any_with None us = refl
 
-most : (d : Decoded) → length (with_update d []) ≤ 1
-most (Good u) = omega arith
-most Bad = omega arith
+most : (d : Option U.Unit) → length (with_update d []) ≤ 1
+most (Some u) = omega arith
+most None = omega arith
 
 marked_more : (b c : Bool) (x : ℕ) → ((eqb (cond b 1 x) 1) || c) ≡ (eqb x 1 || (b || c))
 marked_more true c x = sym (or_right (eqb x 1) true refl)
@@ -117,19 +96,19 @@ module _ (limit count : ℕ) (p : List ℕ) where
         marks = ap length q ∙ length-replicate {A = ℕ} 256 0;
       }
 
-  pub tallying_next : (i : ℕ) (parts resets after noticed : List ℕ) (d : Decoded) → Tallying i parts resets → i < count → limit ≤ 256
-      → d ≡ decode limit (take (length p - 12 * i) (drop (12 * i) p)) → after ≡ counted d parts → noticed ≡ noted d resets
+  pub tallying_next : (i : ℕ) (parts resets after noticed : List ℕ) (d : Option U.Unit) → Tallying i parts resets → i < count → limit ≤ 256
+      → d ≡ decode limit (drop (12 * i) p) → after ≡ counted d parts → noticed ≡ noted d resets
       → Tallying (i + 1) after noticed
   tallying_next i parts resets after noticed d k h l e ea en =
-      let b : (u : U.Unit) → d ≡ Good u → u.node < 256 = λ u z.
-      omega (arith, (told limit (take (length p - 12 * i) (drop (12 * i) p)) u (sym e ∙ z)).below) in
+      let b : (u : U.Unit) → d ≡ Some u → u.node < 256 = λ u z.
+      omega (arith, (told limit (drop (12 * i) p) u (sym e ∙ z)).below) in
       let os : ℕ → List Update = λ n. with_update (picked n d) [] in
       let at : (n : ℕ) → get_or after n 0 ≡ get_or parts n 0 + length (os n) = λ n.
       ap (λ (xs : List ℕ). get_or xs n 0) ea ∙ counted_at d parts n (λ u z. omega (arith, b u z, k.numbers)) in
       let mt : (n : ℕ) → get_or noticed n 0 ≡ cond (any is_reset (os n)) 1 (get_or resets n 0) = λ n.
       ap (λ (xs : List ℕ). get_or xs n 0) en ∙ noted_at d resets n (λ u z. omega (arith, b u z, k.marks)) in
       let next : (n : ℕ) → own_from_lem limit n count p i ≡ with_update (picked n d) (own_from_lem limit n count p (i + 1)) = λ n.
-      own_next limit n count p i h ∙ ap (λ (x : Decoded). with_update (picked n x) (own_from_lem limit n count p (i + 1))) (sym e) in
+      own_next limit n count p i h ∙ ap (λ (x : Option U.Unit). with_update (picked n x) (own_from_lem limit n count p (i + 1))) (sym e) in
       record {
         part = λ n. omega (arith, at n, k.part n, ap length (next n) ∙ length_with (picked n d) (own_from_lem limit n count p (i + 1)));
         reset = λ n.
@@ -147,7 +126,7 @@ module _ (limit count : ℕ) (p : List ℕ) where
   tallying_done i parts resets k g h few =
       record {
         part = λ n l. omega (arith, k.part n, ap length (own_end limit n count p i h));
-        reset = λ n l. or_none (is_marked resets n) ∙ ap (λ (us : List Update). is_marked resets n || any is_reset us) (sym (own_end limit n count p i h)) ∙ k.reset n;
+        reset = λ n l. sym (or-false (is_marked resets n)) ∙ ap (λ (us : List Update). is_marked resets n || any is_reset us) (sym (own_end limit n count p i h)) ∙ k.reset n;
         few = λ n. omega (arith, k.few n);
         bits = k.bits;
         numbers = k.numbers;

@@ -1,6 +1,6 @@
 -- The units of the nodes kept as bytes: what a patch at the place of one node leaves of it and of the others. Assumes nothing.
-use mathlib.Core.Path.{◌≡◌, refl, sym, ap, ap₂, ◌∙◌}
-use mathlib.Core.List.{List, [], map, ◌++◌}
+use mathlib.Core.Path.{◌≡◌, sym, ap, ap₂, ◌∙◌}
+use mathlib.Core.List.{List, map, ◌++◌}
 use Prim.Native.Nat.{ℕ, ◌+◌, ◌*◌, ◌-◌, ◌<◌, ◌≤◌}
 use native.Mathlib.Omega.{arith}
 use lib.ListN.{drop, length, length-drop, length-map, take, take-append-drop}
@@ -9,15 +9,10 @@ use Rattle.lists.specs.Lists.{flat, patch}
 use Rattle.lists.proofs.Parts.{length_patch}
 use Rattle.lists.proofs.Tests.{three}
 use Rattle.pages.specs.declared.unit.Update.{Update}
-use Rattle.pages.specs.declared.unit.Unit as U
 use Rattle.pages.specs.Units.{encode}
-use Rattle.pages.proofs.UnitLaws.{length_encode, length_units}
-use Rattle.views.specs.declared.node.Node as N
+use Rattle.pages.proofs.UnitLaws.{length_units}
 use Rattle.views.specs.Groups.{unit_for}
-use Rattle.views.specs.Nodes.{Entry, View, anew, inserted}
-use Rattle.views.specs.NodeCode.{Shows}
-use Rattle.views.specs.PassCode.{pushed, node_units}
-use Rattle.journal.specs.Plan.{rewrite}
+use Rattle.views.specs.PassCode.{pushed}
 use Rattle.journal.specs.PlanCode.{KeepsUnits}
 use Rattle.contents.specs.ContentsCode.{Keeps}
 
@@ -46,10 +41,6 @@ module _ {A : Type 0} (xs : List A) (a k : ℕ) (ys : List A) (fits : a + k ≤ 
       ∙ sym (drop-drop z k (ys ++ drop k (drop a xs)))
       ∙ ap (drop z) (drop_at ys (drop k (drop a xs)) k size)
       ∙ drop-drop z k (drop a xs) ∙ drop-drop (k + z) a xs ∙ ap (λ (m : ℕ). drop m xs) (sym e)
-
--- a unit written over 12 bytes
-pub length_put : (xs ys : List ℕ) (at : ℕ) (u : U.Unit) → at + 12 ≤ length xs → ys ≡ patch xs at 12 (encode u) → length ys ≡ length xs
-length_put xs ys at u h e = ap length e ∙ length_patch xs at 12 (encode u) h (length_encode u)
 
 -- ---- what is kept of node n, and of the others
 module _ (n : ℕ) (us : List Update) (before after : List ℕ) (r : ℕ) (k : Keeps n us before after r) (on : n < 256) (whole : length before ≡ 52224) where
@@ -95,19 +86,3 @@ keeps_pushed n us before after r on whole q few e =
       few = few;
       size = ap length e ∙ length_patch before (12 * (17 * n)) (12 * length vs) (flat encode vs) (omega (arith, l)) (length_units vs);
     }
-
--- no unit
-pub keeps_none : (n : ℕ) (before : List ℕ) → Keeps n [] before before 0
-keeps_none n before = record { is = sym (take-append-drop (204 * n) before); count = refl; few = omega arith; size = refl }
-
--- a node anew
-pub keeps_anew : (n : ℕ) (x : N.Node) (l : ℕ) (es : List Entry) (before after : List ℕ) (r : ℕ) → n < 256 → length before ≡ 52224 → Shows x l es → x.len ≤ 16
-    → after ≡ pushed before (17 * n) (node_units n x) → r ≡ x.len + 1 → Keeps n (anew l es) before after r
-keeps_anew n x l es before after r on whole s room e q =
-    let k : length (map inserted es) ≡ x.len = length-map es inserted ∙ s.len in
-    keeps_pushed n (anew l es) before after r on whole (omega (arith, k, q)) (omega arith)
-    (e ∙ ap₂ (λ (m : ℕ) (fs : List Entry). pushed before (17 * n) (map (unit_for n) (anew m fs))) s.same s.is)
-
--- by the view that was read
-pub keeps_view : (n : ℕ) (v w : View) (before after : List ℕ) (r : ℕ) → v ≡ w → Keeps n (rewrite v) before after r → Keeps n (rewrite w) before after r
-keeps_view n v w before after r e k = rw e at k

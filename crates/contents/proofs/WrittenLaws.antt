@@ -8,6 +8,7 @@ use lib.Dec.{eqb}
 use lib.ListN.{get_or, length, length-set, set, take}
 use lib.Seq.{get_or-set_other, get_or-set_same, take_all}
 use borrow.Author.Tests.{eq-eqb, eqb-false, eqb-true, ne_eqb}
+use Rattle.std.specs.Prelude.{Option}
 use Rattle.lists.proofs.Places.{get_d_default}
 use Rattle.lists.proofs.Tests.{cases, clash}
 use Rattle.chip.specs.Geometry.{Geometry}
@@ -145,7 +146,7 @@ module _ (limit : ℕ) (own : ℕ → List Update) (targets forms wholes parts u
 -- ---- which nodes are ready
 module _ (limit : ℕ) (N : Contents) (targets parts forms wholes units : List ℕ) where
   -- in a delta: the nodes with a page were read, and what must be written anew is
-  pub ready_delta : (g : Geometry) (oldest : ℕ) (resets marks olds : List ℕ) → Measured g limit oldest N parts resets marks wholes olds units
+  pub ready_delta : (g : Geometry) (oldest : Option ℕ) (resets marks olds : List ℕ) → Measured g limit oldest N parts resets marks wholes olds units
       → ((n : ℕ) → n < limit → get_or parts n 0 ≡ length (N.buffered n))
       → ((n : ℕ) → n < limit → is_unwritten (target_in targets n) ≡ false → is_read parts olds n ≡ true)
       → ((n : ℕ) → n < limit → is_marked forms n ≡ false → is_marked marks n ≡ false)

@@ -1,12 +1,11 @@
 -- What a commit may write of the nodes as the code computes it from the image and the arrays of a state, whatever these hold, and how it keeps that.
-use Rattle.std.specs.Prelude.{◌≡◌, Bool, true, false, cond, ◌&&◌, ◌||◌, not, List, [], ◌∷◌, map, ℕ, ◌+◌, ◌*◌, ◌<◌, ◌≤◌, eqb, leb, ltb, get_or, length, set, take}
+use Rattle.std.specs.Prelude.{◌≡◌, Bool, true, false, cond, ◌&&◌, ◌||◌, List, [], ◌∷◌, map, ℕ, ◌+◌, ◌*◌, ◌<◌, ◌≤◌, eqb, leb, ltb, get_or, length, set, take, Option, Some, None}
 use Rattle.lists.specs.Lists.{any, flat, patch}
 use Rattle.chip.specs.Geometry.{Geometry}
 use Rattle.chip.specs.Page.{Page}
 use Rattle.chip.specs.Chip.{in_block}
 use Rattle.pages.specs.declared.unit.Update.{Update}
-use Rattle.pages.specs.declared.unit.Decoded.{Decoded}
-use Rattle.pages.specs.declared.unit.Decoded.TheVariants.{Bad, Good}
+use Rattle.pages.specs.declared.unit.Unit.{Unit}
 use Rattle.pages.specs.Units.{decodes, encode}
 use Rattle.views.specs.Groups.{is_reset, unit_for}
 use Rattle.views.specs.PassCode.{pushed}
@@ -19,17 +18,17 @@ use Rattle.journal.specs.PlanCode.{KeepsUnits, KeepsWritten, is_marked, target_i
 
 -- ---- the units of a node in the buffer
 -- a unit of node n; a unit of another node counts as none
-abbrev pub picked : ℕ → Decoded → Decoded
-picked n (Good u) = cond (eqb u.node n) (Good u) Bad
-picked n Bad = Bad
+abbrev pub picked : ℕ → Option Unit → Option Unit
+picked n (Some u) = cond (eqb u.node n) (Some u) None
+picked n None = None
 
 -- the update of a unit in front of others
-abbrev pub with_update : Decoded → List Update → List Update
-with_update (Good u) us = u.update ∷ us
-with_update Bad us = us
+abbrev pub with_update : Option Unit → List Update → List Update
+with_update (Some u) us = u.update ∷ us
+with_update None us = us
 
 -- the updates of node n among what is decoded, in order
-abbrev pub own_of : ℕ → List Decoded → List Update
+abbrev pub own_of : ℕ → List (Option Unit) → List Update
 own_of n [] = []
 own_of n (d ∷ ds) = with_update (picked n d) (own_of n ds)
 
@@ -48,14 +47,14 @@ contents_in g limit ps lens slots count bytes =
 
 -- ---- a tally of the buffer
 -- how many units each node has, with one more
-abbrev pub counted : Decoded → List ℕ → List ℕ
-counted (Good u) parts = set parts u.node (get_or parts u.node 0 + 1)
-counted Bad parts = parts
+abbrev pub counted : Option Unit → List ℕ → List ℕ
+counted (Some u) parts = set parts u.node (get_or parts u.node 0 + 1)
+counted None parts = parts
 
 -- the nodes with a reset marked, with one unit more
-abbrev pub noted : Decoded → List ℕ → List ℕ
-noted (Good u) resets = cond (is_reset u.update) (set resets u.node 1) resets
-noted Bad resets = resets
+abbrev pub noted : Option Unit → List ℕ → List ℕ
+noted (Some u) resets = cond (is_reset u.update) (set resets u.node 1) resets
+noted None resets = resets
 
 -- how many units each node has in the buffer, and whether one of them is a reset
 pub record Tallied (limit count : ℕ) (bytes parts resets : List ℕ) : Type 0 where
@@ -91,9 +90,9 @@ pub record FillsArray (k : ℕ) (f : ℕ → ℕ) (before after : List ℕ) : Ty
 abbrev pub is_read : List ℕ → List ℕ → ℕ → Bool
 is_read parts olds n = ltb 0 (get_or parts n 0) || is_marked olds n
 
--- the nodes that one pass reads: these, or all others
-abbrev pub is_wanted : Bool → List ℕ → List ℕ → ℕ → Bool
-is_wanted others parts olds n = cond others (not (is_read parts olds n)) (is_read parts olds n)
+-- what a closure can answer of a node, post, is w of it
+abbrev pub Tells : (ℕ → Bool → Type 0) → (ℕ → Bool) → Type 0
+Tells post w = (n : ℕ) (r : Bool) → n < 256 → post n r → r ≡ w n
 
 -- one node, us anew: kept, and counted in wholes, where it is wanted
 pub record ReadsNode (wanted : Bool) (n : ℕ) (us : List Update) (wholes counts units bytes : List ℕ) : Type 0 where
@@ -117,10 +116,15 @@ abbrev pub KeepsRead : ℕ → Contents → List ℕ → List ℕ → List ℕ �
 KeepsRead limit N parts wholes olds units =
     (n : ℕ) → n < limit → is_read parts olds n ≡ true → KeepsUnits n (rewrite (N.after n)) (get_or wholes n 0) units
 
+-- a page of the list is in the oldest block; none is where there is no such block
+abbrev pub in_oldest : Geometry → Option ℕ → List ℕ → Bool
+in_oldest g None ps = false
+in_oldest g (Some b) ps = any (in_block g b) ps
+
 -- what is known of the nodes below limit: the units of each in the buffer, parts; marks of those of the oldest block, olds, and of those
 -- that must be written anew, forms, before that the marks of a reset, resets; how many units each node that was read is anew, wholes, and these units
-pub record Measured (g : Geometry) (limit oldest : ℕ) (N : Contents) (parts resets forms wholes olds units : List ℕ) : Type 0 where
-  pub old : (n : ℕ) → n < limit → is_marked olds n ≡ any (in_block g oldest) (N.listed n)
+pub record Measured (g : Geometry) (limit : ℕ) (oldest : Option ℕ) (N : Contents) (parts resets forms wholes olds units : List ℕ) : Type 0 where
+  pub old : (n : ℕ) → n < limit → is_marked olds n ≡ in_oldest g oldest (N.listed n)
   pub form : (n : ℕ) → n < limit → is_marked forms n ≡ is_forced N n
   pub bits : (n : ℕ) → get_or forms n 0 ≤ 1
   pub rest : (n : ℕ) → limit ≤ n → get_or forms n 0 ≡ get_or resets n 0

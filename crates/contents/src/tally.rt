@@ -1,21 +1,17 @@
 // How many units each node has in the buffer, and which nodes have a reset there.
-ghost use Rattle.std.specs.Prelude.{◌≡◌, ℕ, ◌*◌, ◌<◌, ◌≤◌, length, get_or, replicate};
+ghost use Rattle.std.specs.Prelude.{◌≡◌, ℕ, ◌<◌, ◌≤◌, length, get_or, replicate};
 ghost use Rattle.pages.specs.Units.{decode};
 ghost use Rattle.views.specs.Groups.{is_reset};
 ghost use Rattle.contents.specs.ContentsCode.{Tallied, counted, noted};
 
 use pages::unit;
-use pages::unit::{Decoded, Update};
+use pages::unit::Update;
 
 // Does an update reset its node?
 fn is_reset(update: Update) -> bool
     ensures { result ≡ is_reset update }
 {
-    match update {
-        Update::Insert(_, _) => false,
-        Update::Delete(_) => false,
-        Update::Reset(_) => true,
-    }
+    matches!(update, Update::Reset(_))
 }
 
 // The unit that the first 12 bytes are counted for its node, and noted if it is a reset.
@@ -26,26 +22,13 @@ fn tally_unit(bytes: &[u8], limit: u32, parts: &mut [u32], resets: &mut [u32])
         × (resets.new ≡ noted (decode limit bytes.now) resets.old) }
 {
     let d = unit::decode_unit(bytes, limit);
-    let Decoded::Good(u) = d else {
+    let Some(u) = d else {
         return;
     };
     let n = u.node as usize;
-    let update = u.update;
     parts[n] += 1;
-    if is_reset(update) {
+    if is_reset(u.update) {
         resets[n] = 1;
-    }
-}
-
-// The first `count` units tallied, with the arrays as slices.
-fn tally_in(units: &[u8], count: usize, limit: u32, parts: &mut [u32], resets: &mut [u32])
-    requires { (12 * count ≤ length units.now) × (count ≤ 960) × (limit ≤ 256) × (parts.old ≡ replicate 256 0) × (resets.old ≡ replicate 256 0) }
-    ensures { Tallied limit count units.now parts.new resets.new }
-{
-    let mut i: usize = 0;
-    while i < count {
-        tally_unit(&units[12 * i..], limit, parts, resets);
-        i += 1;
     }
 }
 
@@ -60,5 +43,7 @@ pub fn tally(
     requires { (count ≤ 960) × (limit ≤ 256) × (parts.old ≡ replicate 256 0) × (resets.old ≡ replicate 256 0) }
     ensures { Tallied limit count buffer.now parts.new resets.new }
 {
-    tally_in(buffer, count, limit, parts, resets);
+    for bytes in buffer[..12 * count].chunks_exact(12) {
+        tally_unit(bytes, limit, parts, resets);
+    }
 }

@@ -62,12 +62,9 @@ fn gather(
         × (12 * room ≤ length out.old) × (length out.old ≤ 2048) }
     ensures { Gathers room limit targets.now sizes.now units.now page out.new result }
 {
-    let end = limit as usize;
-    let mut k: usize = 0;
-    let mut n: usize = 0;
-    while n < end {
+    let mut k = 0;
+    for n in 0..limit as usize {
         k = push_node(room, targets, sizes, units, n, page, out, k);
-        n += 1;
     }
     k
 }

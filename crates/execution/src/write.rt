@@ -73,14 +73,14 @@ fn write_page(
     targets: &[u32; 256],
     sizes: &[u32; 256],
     units: &[u8; 52224],
-    places: &[u32],
+    places: &[u32; 160],
     part: Part,
     torn: &[u8],
     progress: Progress,
     new_lens: &mut [u32; 256],
     new_slots: &mut [u32; 1024],
 ) -> Progress
-    requires { (length image.old % page_size part.pages.geometry ≡ 0) × (part.pages.limit ≤ 256) × (length places.now ≡ 160) × (part.pages.total ≤ 128)
+    requires { (length image.old % page_size part.pages.geometry ≡ 0) × (part.pages.limit ≤ 256) × (part.pages.total ≤ 128)
         × (part.index < part.pages.total) × (part.pages.commit < 4294967296) × (length torn.now ≡ page_size part.pages.geometry)
         × All (◌< length image.old / page_size part.pages.geometry) (take part.pages.total places.now) × Fits part.pages.geometry }
     ensures { Writes part.pages targets.now sizes.now units.now places.now torn.now part.index 1
@@ -117,39 +117,6 @@ fn write_page(
     )
 }
 
-// The pages of a commit in order of their index, with their places as a slice.
-fn write_listed(
-    image: &mut [u8],
-    targets: &[u32; 256],
-    sizes: &[u32; 256],
-    units: &[u8; 52224],
-    places: &[u32],
-    pages: Pages,
-    torn: &[u8],
-    progress: Progress,
-    new_lens: &mut [u32; 256],
-    new_slots: &mut [u32; 1024],
-) -> Progress
-    requires { (length image.old % page_size pages.geometry ≡ 0) × (pages.limit ≤ 256) × (length places.now ≡ 160) × (pages.total ≤ 128)
-        × (pages.commit < 4294967296) × (length torn.now ≡ page_size pages.geometry)
-        × All (◌< length image.old / page_size pages.geometry) (take pages.total places.now) × Fits pages.geometry }
-    ensures { Writes pages targets.now sizes.now units.now places.now torn.now 0 pages.total
-        progress result image.old image.new
-        new_lens.old new_slots.old new_lens.new new_slots.new }
-{
-    let total = pages.total;
-    let mut reached = progress;
-    let mut i = 0;
-    while i < total {
-        let part = Part { pages, index: i };
-        reached = write_page(
-            image, targets, sizes, units, places, part, torn, reached, new_lens, new_slots,
-        );
-        i += 1;
-    }
-    reached
-}
-
 // The pages of a commit in order of their index, as far as the power goes.
 pub fn write_pages(
     image: &mut [u8],
@@ -170,7 +137,12 @@ pub fn write_pages(
         progress result image.old image.new
         new_lens.old new_slots.old new_lens.new new_slots.new }
 {
-    write_listed(
-        image, targets, sizes, units, places, pages, torn, progress, new_lens, new_slots,
-    )
+    let mut reached = progress;
+    for index in 0..pages.total {
+        let part = Part { pages, index };
+        reached = write_page(
+            image, targets, sizes, units, places, part, torn, reached, new_lens, new_slots,
+        );
+    }
+    reached
 }

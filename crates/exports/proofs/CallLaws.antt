@@ -3,14 +3,16 @@ use mathlib.Core.Path.{◌≡◌, refl, subst, ap, ap₂, ◌∙◌}
 use mathlib.Core.List.{List, [], ◌∷◌}
 use Prim.Native.Nat.{ℕ, ◌<◌, ◌≤◌}
 use native.Mathlib.Omega.{arith}
+use Rattle.std.specs.Prelude.{Result}
 use Rattle.chip.specs.declared.geometry.Nand.TheVariants.{Small, Large}
+use Rattle.chip.specs.declared.progress.Counts.{Counts}
 use Rattle.chip.specs.Geometry.{Nand}
-use Rattle.store.specs.Answers.{refusal_number}
+use Rattle.store.specs.Answers.{forecast_answer, ops_foretold, refusal_number}
 use Rattle.store.specs.Ensured.{Looks, Inserts, Deletes, Commits, Forecasts, Reports}
 use Rattle.store.specs.Lent.{CommitsLent}
 use Rattle.store.specs.Parts.{joined, with_free, updated_with, wrote_with, wrote_free}
-use Rattle.store.specs.declared.answer.Forecast.{Forecast}
 use Rattle.store.specs.declared.answer.Look.{Look}
+use Rattle.store.specs.declared.answer.Refusal.{Refusal}
 use Rattle.store.specs.declared.answer.Report.{Report}
 use Rattle.store.specs.declared.state.Numbers.{Numbers}
 use Rattle.store.specs.declared.state.State.{State}
@@ -53,7 +55,7 @@ unnamed_part Contract part h words free lens slots erases image r ops e =
 
 -- ---- the calls on the numbers loaded
 module _ (words free : List ℕ) (n : Numbers) (e : Loads words free n) where
-  pub looked : (key : ℕ) (buffer lens slots image : List ℕ) (l : Look) (t : Told) → t ≡ look_told l → ((set erases : List ℕ) → Looks key (joined (with_free n set) buffer lens slots erases) image l)
+  pub looked : (key : ℕ) (buffer lens slots image : List ℕ) (l : Result Look Refusal) (t : Told) → t ≡ look_told l → ((set erases : List ℕ) → Looks key (joined (with_free n set) buffer lens slots erases) image l)
       → LooksTold key words buffer lens slots image t.refusal (t.first ∷ t.second ∷ [])
   looked key buffer lens slots image l t f h =
       record {
@@ -64,8 +66,8 @@ module _ (words free : List ℕ) (n : Numbers) (e : Loads words free n) where
       }
 
   -- a forecast: the counts of its result, in the caller's words
-  pub foreseen : (buffer lens slots image : List ℕ) (f : Forecast) (r : ℕ) → r ≡ refusal_number f.answer → ((set erases : List ℕ) → Forecasts (joined (with_free n set) buffer lens slots erases) image f)
-      → ForecastsTold words buffer lens slots image r (f.ops.programs ∷ f.ops.marks ∷ f.ops.erases ∷ [])
+  pub foreseen : (buffer lens slots image : List ℕ) (f : Result Counts Refusal) (r : ℕ) → r ≡ refusal_number (forecast_answer f) → ((set erases : List ℕ) → Forecasts (joined (with_free n set) buffer lens slots erases) image f)
+      → ForecastsTold words buffer lens slots image r ((ops_foretold f).programs ∷ (ops_foretold f).marks ∷ (ops_foretold f).erases ∷ [])
   foreseen buffer lens slots image f r g h =
       record {
         result = f;
@@ -74,7 +76,7 @@ module _ (words free : List ℕ) (n : Numbers) (e : Loads words free n) where
         done = refl;
       }
 
-  pub reported : (block : ℕ) (erases image : List ℕ) (l : Report) (t : Reported) → t ≡ report_told l
+  pub reported : (block : ℕ) (erases image : List ℕ) (l : Result Report Refusal) (t : Reported) → t ≡ report_told l
       → ((set buffer lens slots : List ℕ) → Reports block (joined (with_free n set) buffer lens slots erases) image l)
       → ReportsTold block words erases image t.refusal (t.free ∷ t.first ∷ t.erases ∷ [])
   reported block erases image l t f h =

@@ -7,6 +7,7 @@ use Prim.Native.Nat.{ℕ}
 use native.Mathlib.Omega.{arith}
 use lib.ListN.{length, get_or}
 use Rattle.chip.specs.declared.progress.Counts.{Counts}
+use Rattle.chip.specs.Counts.{nothing}
 use Rattle.chip.specs.Geometry.{Nand, page_size}
 use Rattle.tree.specs.Tree.{Table}
 use Rattle.promise.specs.Plain.{Plain}
@@ -17,14 +18,15 @@ use Rattle.store.specs.declared.state.Numbers.{Numbers}
 use Rattle.store.specs.declared.state.State.{State}
 use Rattle.store.specs.declared.step.Call.{Call}
 use Rattle.store.specs.declared.step.Call.TheVariants.{Format, Insert, Delete, LookUp, Forecast, Commit, Mount}
-use Rattle.store.specs.Answers.{answer_of, refusal_in}
+use Rattle.store.specs.Answers.{Told, forecast_answer, refusal_in, step_answer}
 use Rattle.store.specs.State.{geometry_in, Good}
-use Rattle.store.specs.Ensured.{index, Formats, Mounts, Inserts, Deletes, Commits}
-use Rattle.store.specs.Parts.{joined, with_free, wrote_with, wrote_free}
-use Rattle.store.specs.Step.{of_look}
+use Rattle.store.specs.Ensured.{index}
+use Rattle.store.specs.Parts.{joined, with_free, updated_with, wrote_with, wrote_free}
+use Rattle.store.specs.Step.{told, of_look, of_forecast}
+use Rattle.store.specs.declared.step.Stepped.{Stepped}
 use Rattle.store.specs.Lent.{state_from, Meets, lent_step, RunsLent}
 use Rattle.store.proofs.Foretold.{foretells}
-use Rattle.store.proofs.StepLaws.{look_answer}
+use Rattle.store.proofs.StepLaws.{told_answer, look_answer}
 use Rattle.store.proofs.LentLists.{lent_figures, lent_promise, lent_unbroken}
 use Rattle.exports.specs.Told.{value_in}
 use Rattle.exports.specs.Words.{numbers_in}
@@ -34,6 +36,10 @@ use Rattle.exports.specs.Exported.{Memory, parts_in, Ensures, Exported, answer_b
 state_is : (m : Memory) (n : Numbers) (buffer lens slots erases : List ℕ) → numbers_in m.words m.free ≡ n → m.buffer ≡ buffer → m.lens ≡ lens → m.slots ≡ slots → m.erases ≡ erases
     → state_from (parts_in m) ≡ joined n buffer lens slots erases
 state_is m n buffer lens slots erases e b l s f = cc
+
+-- what a call gives back, as a step
+abbrev stepped : Told → Counts → State → Stepped
+stepped a c s = record { answer = a; ops = c; state = s }
 
 -- ---- a list
 module _ (x : Exported) where
@@ -50,45 +56,63 @@ module _ (x : Exported) where
         image = x.image;
       })
   meets (Format p n) h =
-      subst (λ (s : State). Formats p n x.torn (state_from (parts_in x.given)) x.lent (record { answer = h.0.result.answer; ops = h.0.result.ops; state = s }) x.left)
-      (sym (state_is x.after h.0.result.numbers x.given.buffer x.after.lens x.after.slots x.after.erases h.0.exact h.1 refl refl refl)) (h.0.says x.given.buffer)
+      record {
+        wrote = wrote_with h.0.result x.given.buffer x.after.lens x.after.slots x.after.erases;
+        says = h.0.says x.given.buffer;
+        is =
+            ap (λ (s : State). stepped (told h.0.result.answer) h.0.result.ops s)
+            (state_is x.after h.0.result.numbers x.given.buffer x.after.lens x.after.slots x.after.erases h.0.exact h.1 refl refl refl);
+      }
   meets (Mount p n) h =
-      subst (λ (s : State). Mounts p n x.torn (state_from (parts_in x.given)) x.lent (record { answer = h.0.result.answer; ops = h.0.result.ops; state = s }) x.left)
-      (sym (state_is x.after h.0.result.numbers x.given.buffer x.after.lens x.after.slots x.after.erases h.0.exact h.1 refl refl refl)) (h.0.says x.given.buffer)
+      record {
+        wrote = wrote_with h.0.result x.given.buffer x.after.lens x.after.slots x.after.erases;
+        says = h.0.says x.given.buffer;
+        is =
+            ap (λ (s : State). stepped (told h.0.result.answer) h.0.result.ops s)
+            (state_is x.after h.0.result.numbers x.given.buffer x.after.lens x.after.slots x.after.erases h.0.exact h.1 refl refl refl);
+      }
   meets (Commit n) h =
-      subst (λ (s : State). Commits n x.torn (state_from (parts_in x.given)) x.lent (record { answer = h.0.result.answer; ops = h.0.result.ops; state = s }) x.left)
-      (sym (state_is x.after (with_free h.0.result.numbers x.given.free) x.given.buffer x.after.lens x.after.slots x.after.erases (ap (numbers_in x.after.words) h.2 ∙ h.0.exact x.given.free) h.1 refl refl refl)) (h.0.says x.given.free)
+      record {
+        wrote = wrote_with (wrote_free h.0.result x.given.free) x.given.buffer x.after.lens x.after.slots x.after.erases;
+        says = h.0.says x.given.free;
+        is =
+            ap (λ (s : State). stepped (told h.0.result.answer) h.0.result.ops s)
+            (state_is x.after (with_free h.0.result.numbers x.given.free) x.given.buffer x.after.lens x.after.slots x.after.erases (ap (numbers_in x.after.words) h.2 ∙ h.0.exact x.given.free) h.1 refl refl refl);
+      }
   meets (Insert k v) h =
       record {
-        says =
-            subst (λ (s : State). Inserts k v (state_from (parts_in x.given)) x.lent (record { answer = h.0.result.answer; state = s }))
-            (sym (state_is x.after h.0.result.numbers x.after.buffer x.given.lens x.given.slots x.given.erases h.0.exact refl h.1 h.2 h.3)) (h.0.says x.given.erases);
-        ops = refl;
+        updated = updated_with h.0.result x.after.buffer x.given.lens x.given.slots x.given.erases;
+        says = h.0.says x.given.erases;
+        is =
+            ap (λ (s : State). stepped (told h.0.result.answer) nothing s)
+            (state_is x.after h.0.result.numbers x.after.buffer x.given.lens x.given.slots x.given.erases h.0.exact refl h.1 h.2 h.3);
         image = h.4;
       }
   meets (Delete k) h =
       record {
-        says =
-            subst (λ (s : State). Deletes k (state_from (parts_in x.given)) x.lent (record { answer = h.0.result.answer; state = s }))
-            (sym (state_is x.after h.0.result.numbers x.after.buffer x.given.lens x.given.slots x.given.erases h.0.exact refl h.1 h.2 h.3)) (h.0.says x.given.erases);
-        ops = refl;
+        updated = updated_with h.0.result x.after.buffer x.given.lens x.given.slots x.given.erases;
+        says = h.0.says x.given.erases;
+        is =
+            ap (λ (s : State). stepped (told h.0.result.answer) nothing s)
+            (state_is x.after h.0.result.numbers x.after.buffer x.given.lens x.given.slots x.given.erases h.0.exact refl h.1 h.2 h.3);
         image = h.4;
       }
   meets (LookUp k) h = record { look = h.0.look; says = h.0.says x.given.free x.given.erases; is = ap (λ (m : Memory). of_look h.0.look (state_from (parts_in m))) h.1; image = h.2 }
-  meets Forecast h = record { says = h.0.says x.given.free x.given.erases; state = ap (λ (m : Memory). state_from (parts_in m)) h.1; image = h.2 }
+  meets Forecast h =
+      record { foreseen = h.0.result; says = h.0.says x.given.free x.given.erases; is = ap (λ (m : Memory). of_forecast h.0.result (state_from (parts_in m))) h.1; image = h.2 }
 
   -- what a call tells is its answer
-  tells_by : (c : Call) (h : Ensures x.torn x.given x.lent x.refusal x.told x.after x.left c) → x.refusal ≡ refusal_in (answer_of (answer_by x.torn x.given x.lent x.refusal x.told x.after x.left c h))
-  tells_by (Format p n) h = h.0.tells.refusal
-  tells_by (Mount p n) h = h.0.tells.refusal
-  tells_by (Commit n) h = h.0.tells.refusal
-  tells_by (Insert k v) h = h.0.refusal
-  tells_by (Delete k) h = h.0.refusal
+  tells_by : (c : Call) (h : Ensures x.torn x.given x.lent x.refusal x.told x.after x.left c) → x.refusal ≡ refusal_in (step_answer (answer_by x.torn x.given x.lent x.refusal x.told x.after x.left c h))
+  tells_by (Format p n) h = h.0.tells.refusal ∙ ap refusal_in (sym (told_answer h.0.result.answer))
+  tells_by (Mount p n) h = h.0.tells.refusal ∙ ap refusal_in (sym (told_answer h.0.result.answer))
+  tells_by (Commit n) h = h.0.tells.refusal ∙ ap refusal_in (sym (told_answer h.0.result.answer))
+  tells_by (Insert k v) h = h.0.refusal ∙ ap refusal_in (sym (told_answer h.0.result.answer))
+  tells_by (Delete k) h = h.0.refusal ∙ ap refusal_in (sym (told_answer h.0.result.answer))
   tells_by (LookUp k) h = h.0.refusal ∙ ap refusal_in (sym (look_answer h.0.look))
-  tells_by Forecast h = h.0.refusal
+  tells_by Forecast h = h.0.refusal ∙ ap refusal_in (sym (told_answer (forecast_answer h.0.result)))
 
   value_by : (c : Call) (h : Ensures x.torn x.given x.lent x.refusal x.told x.after x.left c) (k : ℕ) → c ≡ LookUp k
-      → get_or x.told 0 0 ≡ value_in (answer_of (answer_by x.torn x.given x.lent x.refusal x.told x.after x.left c h))
+      → get_or x.told 0 0 ≡ value_in (step_answer (answer_by x.torn x.given x.lent x.refusal x.told x.after x.left c h))
   value_by (Format p n) h k e = let z : ◌≡◌ {A = ℕ} 0 1 = cc in absurd (omega arith)
   value_by (Mount p n) h k e = let z : ◌≡◌ {A = ℕ} 0 1 = cc in absurd (omega arith)
   value_by (Commit n) h k e = let z : ◌≡◌ {A = ℕ} 0 1 = cc in absurd (omega arith)
@@ -97,7 +121,7 @@ module _ (x : Exported) where
   value_by (LookUp j) h k e = ap (λ (ns : List ℕ). get_or ns 0 0) h.0.tells ∙ ap value_in (sym (look_answer h.0.look))
   value_by Forecast h k e = let z : ◌≡◌ {A = ℕ} 0 1 = cc in absurd (omega arith)
 
-  pub tells_own : TellsAnswer x (answer_of (answer_by x.torn x.given x.lent x.refusal x.told x.after x.left x.call x.ensures))
+  pub tells_own : TellsAnswer x (step_answer (answer_by x.torn x.given x.lent x.refusal x.told x.after x.left x.call x.ensures))
   tells_own = record { refusal = tells_by x.call x.ensures; value = value_by x.call x.ensures }
 
 pub exported_runs : (H : State → Type 0) (i : List ℕ) (xs : List Exported) → RunsExported H i xs → RunsLent H i (map exported_step xs)

@@ -1,12 +1,13 @@
 -- What each exported call ensures: it tells in numbers a result that the contract of the store's call holds of. The words and the free numbers that it leaves read
 -- back exactly as the numbers of that result (`exact`), on any words and any image.
-use Rattle.std.specs.Prelude.{◌≡◌, List, [], ◌∷◌, ℕ, ◌<◌}
+use Rattle.std.specs.Prelude.{◌≡◌, List, [], ◌∷◌, ℕ, ◌<◌, Result}
+use Rattle.chip.specs.declared.progress.Counts.{Counts}
 use Rattle.chip.specs.Geometry.{Nand}
-use Rattle.store.specs.Answers.{refusal_number}
+use Rattle.store.specs.Answers.{forecast_answer, ops_foretold, refusal_number}
 use Rattle.store.specs.Ensured.{Formats, Mounts, Rebuilds, Looks, Inserts, Deletes, Commits, Forecasts, Reports}
 use Rattle.store.specs.Parts.{joined, with_free, updated_with, wrote_with, wrote_free}
-use Rattle.store.specs.declared.answer.Forecast.{Forecast}
 use Rattle.store.specs.declared.answer.Look.{Look}
+use Rattle.store.specs.declared.answer.Refusal.{Refusal}
 use Rattle.store.specs.declared.answer.Report.{Report}
 use Rattle.store.specs.declared.state.State.{State}
 use Rattle.store.specs.declared.state.UpdatedParts.{UpdatedParts}
@@ -17,21 +18,21 @@ use Rattle.exports.specs.Words.{numbers_in, words_of, part_word}
 
 -- look up: the refusal r, and the value and the pages read in `told`
 pub record LooksTold (key : ℕ) (words buffer lens slots image : List ℕ) (r : ℕ) (told : List ℕ) : Type 0 where
-  pub look : Look
+  pub look : Result Look Refusal
   pub says : (free erases : List ℕ) → Looks key (joined (numbers_in words free) buffer lens slots erases) image look
   pub refusal : r ≡ (look_told look).refusal
   pub tells : told ≡ (look_told look).first ∷ (look_told look).second ∷ []
 
 -- forecast: the refusal r, and in `ops` the operations by kind that a commit made now would tell
 pub record ForecastsTold (words buffer lens slots image : List ℕ) (r : ℕ) (ops : List ℕ) : Type 0 where
-  pub result : Forecast
+  pub result : Result Counts Refusal
   pub says : (free erases : List ℕ) → Forecasts (joined (numbers_in words free) buffer lens slots erases) image result
-  pub refusal : r ≡ refusal_number result.answer
-  pub done : ops ≡ result.ops.programs ∷ result.ops.marks ∷ result.ops.erases ∷ []
+  pub refusal : r ≡ refusal_number (forecast_answer result)
+  pub done : ops ≡ (ops_foretold result).programs ∷ (ops_foretold result).marks ∷ (ops_foretold result).erases ∷ []
 
 -- block report, whatever the free numbers, the buffer and the node table: the refusal r, and the free pages, the first of them and the erases in `told`
 pub record ReportsTold (block : ℕ) (words erases image : List ℕ) (r : ℕ) (told : List ℕ) : Type 0 where
-  pub report : Report
+  pub report : Result Report Refusal
   pub says : (free buffer lens slots : List ℕ) → Reports block (joined (numbers_in words free) buffer lens slots erases) image report
   pub refusal : r ≡ (report_told report).refusal
   pub tells : told ≡ (report_told report).free ∷ (report_told report).first ∷ (report_told report).erases ∷ []

@@ -8,14 +8,14 @@ use Rattle.promise.specs.Plain.{Plain}
 use Rattle.promise.specs.Calls.{means}
 use Rattle.promise.specs.Image.{image_meaning}
 use Rattle.promise.specs.Steps.{Step, Lends, Hands, boots, next, answer_to}
-use Rattle.store.specs.declared.answer.Answer.{Answer}
 use Rattle.store.specs.declared.state.State.{State}
 use Rattle.store.specs.declared.step.Call.{Call}
 use Rattle.store.specs.declared.step.Call.TheVariants.{Format, Insert, Delete, LookUp, Forecast, Commit, Mount}
-use Rattle.store.specs.Answers.{refusal_in}
+use Rattle.store.specs.Answers.{Told, forecast_answer, ops_foretold, refusal_in}
 use Rattle.store.specs.Ensured.{index, Formats, Mounts}
 use Rattle.store.specs.Lent.{Parts, state_from, LentStep, lent_step}
-use Rattle.store.specs.Step.{act_of, answer_in}
+use Rattle.store.specs.Step as S
+use Rattle.store.specs.Step.{act_of}
 use Rattle.exports.specs.Calls.{LooksTold, ForecastsTold, InsertsTold, DeletesTold, WritesAs, CommitsTold}
 use Rattle.exports.specs.Told.{value_in}
 use Rattle.exports.specs.Words.{numbers_in}
@@ -49,14 +49,14 @@ module _ (torn : List ℕ) (m : Memory) (i : List ℕ) (r : ℕ) (told : List �
   Ensures Forecast = ForecastsTold m.words m.buffer m.lens m.slots i r told × (m' ≡ m) × (i' ≡ i)
 
   -- the answer and the operations of the result that it tells
-  abbrev pub answer_by : (c : Call) → Ensures c → Answer
-  answer_by (Format p n) h = h.0.result.answer
-  answer_by (Mount p n) h = h.0.result.answer
-  answer_by (Commit n) h = h.0.result.answer
-  answer_by (Insert k v) h = h.0.result.answer
-  answer_by (Delete k) h = h.0.result.answer
-  answer_by (LookUp k) h = answer_in h.0.look
-  answer_by Forecast h = h.0.result.answer
+  abbrev pub answer_by : (c : Call) → Ensures c → Told
+  answer_by (Format p n) h = S.told h.0.result.answer
+  answer_by (Mount p n) h = S.told h.0.result.answer
+  answer_by (Commit n) h = S.told h.0.result.answer
+  answer_by (Insert k v) h = S.told h.0.result.answer
+  answer_by (Delete k) h = S.told h.0.result.answer
+  answer_by (LookUp k) h = S.found h.0.look
+  answer_by Forecast h = S.told (forecast_answer h.0.result)
 
   abbrev pub ops_by : (c : Call) → Ensures c → Counts
   ops_by (Format p n) h = h.0.result.ops
@@ -65,7 +65,7 @@ module _ (torn : List ℕ) (m : Memory) (i : List ℕ) (r : ℕ) (told : List �
   ops_by (Insert k v) h = nothing
   ops_by (Delete k) h = nothing
   ops_by (LookUp k) h = nothing
-  ops_by Forecast h = h.0.result.ops
+  ops_by Forecast h = ops_foretold h.0.result
 
 -- one call as it happened: the memory given and the image lent to it, what it left of that, the refusal, the numbers told, the memory then; and the one
 -- image after the call

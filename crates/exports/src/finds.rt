@@ -4,10 +4,10 @@ ghost use Rattle.exports.specs.Told.{look_told, report_told};
 ghost use Rattle.exports.specs.Calls.{LooksTold, ReportsTold};
 
 use crate::words;
-use store::answer::{Look, Report};
+use store::answer::{Look, Refusal, Report};
 use store::{find, report};
 
-// What a look up tells: its refusal, 0 for none, and two numbers, 0 where there are none.
+// What a look up tells: its refusal, 0 for none, and two numbers, 0 where there are none. No Result: the C interface tells numbers.
 #[derive(Clone, Copy)]
 struct Told {
     refusal: u32,
@@ -15,7 +15,7 @@ struct Told {
     second: u32,
 }
 
-// What a block report tells: its refusal, 0 for none, and three numbers, 0 where there are none.
+// What a block report tells: its refusal, 0 for none, and three numbers, 0 where there are none, as the C interface tells them.
 #[derive(Clone, Copy)]
 struct Reported {
     refusal: u32,
@@ -24,60 +24,47 @@ struct Reported {
     erases: u64,
 }
 
-// A look up's answer in numbers: the value found and the pages read.
-fn look_told(look: Look) -> Told
-    ensures { result ≡ look_told look }
+// A refusal, 0 for none, and two numbers.
+fn tells(refusal: u32, first: u32, second: u32) -> Told
+    ensures { result ≡ record { refusal = refusal; first = first; second = second } }
 {
-    match look {
-        Look::Found(first, second) => Told {
-            refusal: 0,
-            first,
-            second,
-        },
-        Look::Absent(second) => Told {
-            refusal: 4,
-            first: 0,
-            second,
-        },
-        Look::Off => Told {
-            refusal: 2,
-            first: 0,
-            second: 0,
-        },
-        Look::Size => Told {
-            refusal: 1,
-            first: 0,
-            second: 0,
-        },
+    Told {
+        refusal,
+        first,
+        second,
     }
 }
 
-// A block report that is refused.
-fn not_reported(refusal: u32) -> Reported
-    ensures { result ≡ record { refusal = refusal; free = 0; first = 0; erases = 0 } }
+// A look up's answer in numbers: the value found and the pages read.
+fn look_told(look: Result<Look, Refusal>) -> Told
+    ensures { result ≡ look_told look }
 {
-    Reported {
-        refusal,
-        free: 0,
-        first: 0,
-        erases: 0,
+    match look {
+        Ok(l) => match l.value {
+            Some(value) => tells(0, value, l.pages),
+            None => tells(u32::from(Refusal::Absent), 0, l.pages),
+        },
+        Err(refusal) => tells(u32::from(refusal), 0, 0),
     }
 }
 
 // A block report's answer in numbers: how many pages are free, the first free one and the erases of the block.
-fn report_told(report: Report) -> Reported
+fn report_told(report: Result<Report, Refusal>) -> Reported
     ensures { result ≡ report_told report }
 {
     match report {
-        Report::Free(free, first, erases) => Reported {
+        Ok(r) => Reported {
             refusal: 0,
-            free: free as u64,
-            first: first as u64,
-            erases,
+            free: u64::from(r.free),
+            first: u64::from(r.first),
+            erases: r.erases,
         },
-        Report::Off => not_reported(2),
-        Report::Size => not_reported(1),
-        Report::Absent => not_reported(4),
+        Err(refusal) => Reported {
+            refusal: u32::from(refusal),
+            free: 0,
+            first: 0,
+            erases: 0,
+        },
     }
 }
 

@@ -2,7 +2,7 @@
 ghost use Rattle.exports.specs.Calls.{ForecastsTold};
 
 use crate::words;
-use store::{answer, forecast};
+use store::forecast;
 
 // Forecast: the refusal, and in `ops` the operations that a commit made now would tell: data programs, marks set, erases; zeros with a refusal.
 #[unsafe(no_mangle)]
@@ -17,9 +17,14 @@ pub extern "C" fn vehinoke_forecast<'a>(
     ensures { ForecastsTold numbers.now buffer.now lens.now slots.now image.now result ops.new }
 {
     let n = words::load(numbers);
-    let f = forecast::forecast_lent(n, lens, slots, buffer, image);
-    let a = f.answer;
-    let foretold = f.ops;
-    *ops = [foretold.programs, foretold.marks, foretold.erases];
-    answer::number(a)
+    match forecast::forecast_lent(n, lens, slots, buffer, image) {
+        Ok(foretold) => {
+            *ops = [foretold.programs, foretold.marks, foretold.erases];
+            0
+        }
+        Err(refusal) => {
+            *ops = [0, 0, 0];
+            u32::from(refusal)
+        }
+    }
 }

@@ -3,7 +3,6 @@ ghost use Rattle.std.specs.Prelude.{◌≡◌};
 ghost use Rattle.chip.specs.Page.{is_free};
 ghost use Rattle.exports.specs.Words.{bit};
 
-use crate::words;
 use chip::page;
 
 // Are all bytes of the page 255: 1, else 0. It ends at the first byte that is not.
@@ -11,5 +10,5 @@ use chip::page;
 pub extern "C" fn vehinoke_is_free(page: &[u8]) -> u32
     ensures { result ≡ bit (is_free page.now) }
 {
-    words::word(page::is_free(page))
+    u32::from(page::is_free(page))
 }

@@ -1,40 +1,26 @@
 // The numbers of a state as the caller keeps them, in six words: on (1, else off), blocks, commit, pending, count, part (1 large, else small);
 // and the free node numbers in four words of 64 bits.
-ghost use Rattle.std.specs.Prelude.{◌≡◌, ◌%◌, ◌<◌, replicate};
-ghost use Rattle.exports.specs.Words.{Loads, words_of, bit, part_in, part_word};
+ghost use Rattle.std.specs.Prelude.{◌≡◌, ◌%◌, replicate};
+ghost use Rattle.exports.specs.Words.{Loads, words_of, part_in, part_word};
 
 use chip::geometry::Nand;
 use store::state::Numbers;
 
-// A word at the width of an index.
-fn wide(x: u32) -> usize
-    ensures { (result ≡ x) × (result < 4294967296) }
-{
-    x as usize
-}
-
-// A number at the width of a word, modulo 2 to the power 32.
+// A number at the width of a word, modulo 2 to the power 32. Kept: the C interface counts in words of 32 bits.
 fn narrow(x: usize) -> u32
     ensures { result ≡ x % 4294967296 }
 {
     (x % 4294967296) as u32
 }
 
-// A bool as a word.
-pub fn word(on: bool) -> u32
-    ensures { result ≡ bit on }
-{
-    if on { 1 } else { 0 }
-}
-
-// The part of a word: 1 is the large part, any other number the small part.
+// The part of a word: 1 is the large part, any other number the small part. No From: in the C interface a part is a word.
 pub fn part_in(word: u32) -> Nand
     ensures { result ≡ part_in word }
 {
     if word == 1 { Nand::Large } else { Nand::Small }
 }
 
-// A part as a word.
+// A part as a word, as the C interface has it.
 fn part_word(nand: Nand) -> u32
     ensures { result ≡ part_word nand }
 {
@@ -52,11 +38,11 @@ pub fn load(words: &[u32; 6]) -> Numbers
     Numbers {
         on: words[0] == 1,
         nand,
-        blocks: wide(words[1]),
+        blocks: words[1] as usize,
         commit: words[2],
         pending: words[3],
         free: [0; 4],
-        count: wide(words[4]),
+        count: words[4] as usize,
     }
 }
 
@@ -74,7 +60,7 @@ pub fn load_free(words: &[u32; 6], free: &[u64; 4]) -> Numbers
 pub fn save(numbers: Numbers, words: &mut [u32; 6])
     ensures { words.new ≡ words_of numbers }
 {
-    let on = word(numbers.on);
+    let on = u32::from(numbers.on);
     let blocks = narrow(numbers.blocks);
     let count = narrow(numbers.count);
     let nand = numbers.nand;

@@ -3,6 +3,7 @@ ghost use Rattle.std.specs.Prelude.{◌≡◌, [], ◌∷◌};
 ghost use Rattle.exports.specs.Calls.{Tells, FormatsTold, MountsTold, RebuildsTold, CommitsTold};
 
 use crate::words;
+use store::answer::Refusal;
 use store::state::WroteParts;
 use store::{answer, commit, format, mount, rebuild};
 
@@ -10,12 +11,26 @@ use store::{answer, commit, format, mount, rebuild};
 fn give(wrote: WroteParts, numbers: &mut [u32; 6], ops: &mut [u32; 3]) -> u32
     ensures { Tells wrote result ops.new numbers.new }
 {
-    let a = wrote.answer;
     let after = wrote.numbers;
     words::save(after, numbers);
     let done = wrote.ops;
     *ops = [done.programs, done.marks, done.erases];
-    answer::number(a)
+    answer::number(wrote.answer)
+}
+
+// What a call gave back, its free numbers too: written to the caller's words, and its refusal, 0 for none.
+fn give_free(
+    wrote: WroteParts,
+    numbers: &mut [u32; 6],
+    free: &mut [u64; 4],
+    ops: &mut [u32; 3],
+) -> u32
+    ensures { Tells wrote result ops.new numbers.new × (free.new ≡ wrote.numbers.free) }
+{
+    let after = wrote.numbers;
+    let left = after.free;
+    *free = left;
+    give(wrote, numbers, ops)
 }
 
 // The refusal of a number that names no part, with no operation told.
@@ -23,7 +38,7 @@ fn no_part(ops: &mut [u32; 3]) -> u32
     ensures { (result ≡ 1) × (ops.new ≡ 0 ∷ 0 ∷ 0 ∷ []) }
 {
     *ops = [0, 0, 0];
-    1
+    u32::from(Refusal::Size)
 }
 
 // Format as the part named, 0 small and 1 large; with any other number it is refused with 1 and changes nothing. The refusal, and in `ops` the
@@ -50,10 +65,7 @@ pub extern "C" fn vehinoke_format(
     let nand = words::part_in(part);
     let n = words::load_free(numbers, free);
     let w = format::format_lent(n, nand, lens, slots, erases, image, torn, allowance);
-    let after = w.numbers;
-    let left = after.free;
-    *free = left;
-    give(w, numbers, ops)
+    give_free(w, numbers, free, ops)
 }
 
 // Mount as the part named, by the same numbers: the refusal, and in `ops` the operations done: data programs, marks set, erases.
@@ -79,10 +91,7 @@ pub extern "C" fn vehinoke_mount(
     let nand = words::part_in(part);
     let n = words::load_free(numbers, free);
     let w = mount::mount_lent(n, nand, lens, slots, erases, image, torn, allowance);
-    let after = w.numbers;
-    let left = after.free;
-    *free = left;
-    give(w, numbers, ops)
+    give_free(w, numbers, free, ops)
 }
 
 // Rebuild as the part named, by the same numbers: the refusal, and in `ops` the operations done: data programs, marks set, erases.
@@ -108,10 +117,7 @@ pub extern "C" fn vehinoke_rebuild(
     let nand = words::part_in(part);
     let n = words::load_free(numbers, free);
     let w = rebuild::rebuild_lent(n, nand, lens, slots, erases, image, torn, allowance);
-    let after = w.numbers;
-    let left = after.free;
-    *free = left;
-    give(w, numbers, ops)
+    give_free(w, numbers, free, ops)
 }
 
 // Commit, whatever the free node numbers, which stay: the refusal, and in `ops` the operations done: data programs, marks set, erases.

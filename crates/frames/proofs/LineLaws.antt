@@ -1,7 +1,7 @@
--- What a line holds as it grows, and its frame. Assumes nothing.
+-- What a line holds as it grows. Assumes nothing.
 use mathlib.Core.Path.{◌≡◌, sym, ap, ◌∙◌}
 use mathlib.Core.List.{List, [], ◌∷◌, ◌++◌}
-use Prim.Native.Nat.{ℕ, ◌+◌, ◌-◌, ◌≤◌, ◌<◌, min}
+use Prim.Native.Nat.{ℕ, ◌+◌, ◌≤◌, ◌<◌, min}
 use native.Mathlib.Omega.{arith}
 use native.Mathlib.Numerals.{add-one}
 use lib.Dec.{eqb}
@@ -9,10 +9,7 @@ use lib.ListN.{length, take, set, length-append}
 use lib.Seq.{take_all, take-append-le, take-suc-set}
 use borrow.Author.Tests.{ne_eqb}
 use Rattle.frames.specs.declared.line.Line.{Line}
-use Rattle.frames.specs.declared.frame.Frame.{Frame}
-use Rattle.frames.specs.Frames.{all_digits, none, frame_of}
-use Rattle.frames.specs.LineCode.{Longer, Empties, framed, Frames}
-use Rattle.lists.proofs.Tests.{cases}
+use Rattle.frames.specs.LineCode.{LineHolds, Longer, Empties}
 
 -- a length below 19 is that of the bytes
 pub min_back : (n k : ℕ) → k ≡ min 19 n → k < 19 → n ≡ k
@@ -59,21 +56,7 @@ empties l [] k = simp k.len
 empties l (b ∷ bs) k =
     ne_eqb l.len 0 (λ z. let e : length (b ∷ bs) ≡ l.len = min_back (length (b ∷ bs)) l.len k.len (omega arith) in omega arith)
 
--- ---- the frame of a line that is too long, and of one that is not
-long : (bs : List ℕ) → 18 < length bs → frame_of bs ≡ none
-unfolding frame_of
-long bs h =
-    cases (all_digits bs)
-    (λ e. simp (e, ne_eqb (length bs) 2 (λ z. omega arith), ne_eqb (length bs) 10 (λ z. omega arith), ne_eqb (length bs) 18 (λ z. omega arith)))
-    (λ e. simp e)
-
-pub too_long : (l : Line) (f : Frame) → 18 < l.len → framed f ≡ none → Frames l f
-unfolding Frames
-too_long l f h e bs k = e ∙ sym (long bs (omega (arith, k.len)))
-
-pub in_full : (l : Line) (f : Frame) → l.len ≤ 18 → framed f ≡ frame_of (take (l.len - 0) l.bytes) → Frames l f
-unfolding Frames
-in_full l f h e bs k =
-    let n : length bs ≡ l.len = min_back (length bs) l.len k.len (omega arith) in
-    let z : l.len - 0 ≡ l.len = omega arith in
-    e ∙ ap frame_of (ap (λ (x : ℕ). take x l.bytes) z ∙ k.bytes ∙ take_all 18 bs (omega arith))
+-- the bytes of a line that is not too long are all that it holds
+pub full : (l : Line) (s : List ℕ) → l.len ≤ 18 → s ≡ take l.len l.bytes → (bs : List ℕ) → LineHolds l bs → s ≡ bs
+full l s h e bs k =
+    let n : length bs ≡ l.len = min_back (length bs) l.len k.len (omega arith) in e ∙ k.bytes ∙ take_all 18 bs (omega arith)

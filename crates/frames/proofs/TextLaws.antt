@@ -1,22 +1,52 @@
--- The digits of a text. Assumes nothing.
-use mathlib.Core.Path.{◌≡◌}
-use mathlib.Core.List.{[], ◌∷◌, ◌++◌}
-use Prim.Native.Nat.{ℕ, ◌/◌, ◌%◌}
+-- The digits of a number written one by one. Assumes nothing.
+use mathlib.Core.Path.{◌≡◌, refl, sym, ap, ◌∙◌}
+use mathlib.Core.List.{List, [], ◌∷◌, ◌++◌, append_assoc, append-nil}
+use Prim.Native.Nat.{ℕ, zero, suc, ◌+◌, ◌-◌, ◌*◌, ◌/◌, ◌%◌, ◌^◌, ◌≤◌, ◌<◌}
 use native.Mathlib.Omega.{arith}
+use native.Mathlib.Numerals.{add-one}
+use native.Mathlib.Nat.{pow-suc}
+use lib.Pow.{pow-add}
+use lib.ListN.{length, take, set, length-set}
+use lib.Seq.{take_all, take-suc-set}
 use Rattle.frames.specs.Frames.{digit_text, hex_text}
 
-one_less : (n : ℕ) → n / 1 ≡ n
-one_less n = omega arith
+pub powers : (k : ℕ) → 2 ^ (4 * k) ≡ 16 ^ k
+powers zero = refl
+powers (suc k) =
+    let e : 4 * suc k ≡ 4 * k + 4 = omega arith in
+    ap (λ (j : ℕ). 2 ^ j) e ∙ pow-add 2 (4 * k) 4 ∙ ap (λ (p : ℕ). p * 16) (powers k) ∙ sym (pow-suc 16 k)
 
--- two digits and a line feed
-pub two : (n h l : ℕ) → h ≡ digit_text (n / 16 % 16) → l ≡ digit_text (n % 16)
-    → h ∷ l ∷ 10 ∷ [] ≡ hex_text n 2 ++ (10 ∷ [])
-two n h l p q = rw (p, q, one_less n)
+pub length_hex : (n k : ℕ) → length (hex_text n k) ≡ k
+length_hex n zero = refl
+length_hex n (suc k) = ap suc (length_hex n k)
 
--- a value found and a line feed
-pub eight : (v a b c d e f g h : ℕ)
-    → a ≡ digit_text (v / 268435456 % 16) → b ≡ digit_text (v / 16777216 % 16) → c ≡ digit_text (v / 1048576 % 16)
-    → d ≡ digit_text (v / 65536 % 16) → e ≡ digit_text (v / 4096 % 16) → f ≡ digit_text (v / 256 % 16)
-    → g ≡ digit_text (v / 16 % 16) → h ≡ digit_text (v % 16)
-    → 48 ∷ 48 ∷ a ∷ b ∷ c ∷ d ∷ e ∷ f ∷ g ∷ h ∷ 10 ∷ [] ≡ (hex_text 0 2 ++ hex_text v 8) ++ (10 ∷ [])
-eight v a b c d e f g h p q r s t u w x = rw (p, q, r, s, t, u, w, x, one_less v)
+-- the first i of the k lowest digits of n are written
+pub record Writing (n k : ℕ) (out : List ℕ) (i : ℕ) : Type 0 where
+  pub size : length out ≡ k
+  pub same : take i out ++ hex_text n (k - i) ≡ hex_text n k
+
+pub started : (n : ℕ) (out : List ℕ) → Writing n (length out) out 0
+started n out = let z : length out - 0 ≡ length out = omega arith in record { size = refl; same = ap (hex_text n) z }
+
+pub writes : (n k : ℕ) (out : List ℕ) (i d : ℕ) → Writing n k out i → i < k → d ≡ digit_text (n / 2 ^ (4 * (k - 1 - i)) % 16) → Writing n k (set out i d) (i + 1)
+writes n k out i d w h e =
+    let f : k - i ≡ suc (k - 1 - i) = omega arith in
+    let z : k - (i + 1) ≡ k - 1 - i = omega arith in
+    let g : d ≡ digit_text (n / 16 ^ (k - 1 - i) % 16) = e ∙ ap (λ (p : ℕ). digit_text (n / p % 16)) (powers (k - 1 - i)) in
+    let rest = hex_text n (k - 1 - i) in
+    record {
+      size = length-set out i d ∙ w.size;
+      same =
+          ap (λ (j : ℕ). take (i + 1) (set out i d) ++ hex_text n j) z
+          ∙ ap (λ (j : ℕ). take j (set out i d) ++ rest) (add-one i)
+          ∙ ap (λ (t : List ℕ). t ++ rest) (take-suc-set out i d (omega (arith, w.size)))
+          ∙ append_assoc (take i out) (d ∷ []) rest
+          ∙ ap (λ (c : ℕ). take i out ++ (c ∷ rest)) g
+          ∙ ap (λ (j : ℕ). take i out ++ hex_text n j) (sym f)
+          ∙ w.same;
+    }
+
+pub written : (n k : ℕ) (out : List ℕ) (i : ℕ) → Writing n k out i → k ≤ i → out ≡ hex_text n k
+written n k out i w h =
+    let z : k - i ≡ 0 = omega arith in
+    sym (take_all i out (omega (arith, w.size))) ∙ sym (append-nil (take i out)) ∙ ap (λ (j : ℕ). take i out ++ hex_text n j) (sym z) ∙ w.same

@@ -1,9 +1,9 @@
--- What the structs of the code hold: a line read, a frame, a text to write.
-use Rattle.std.specs.Prelude.{◌≡◌, Bool, true, false, cond, List, [], ◌∷◌, ◌++◌, ℕ, ◌≤◌, min, length, take}
+-- What the structs of the code hold: a line read, a text to write.
+use Rattle.std.specs.Prelude.{◌≡◌, Bool, true, false, Option, List, [], ◌∷◌, ◌++◌, ℕ, ◌≤◌, min, length, take}
 use Rattle.frames.specs.declared.line.Line.{Line}
-use Rattle.frames.specs.declared.frame.Frame.{Frame}
-use Rattle.frames.specs.declared.text.Text.{Text}
-use Rattle.frames.specs.Frames.{Framed, none, frame, frame_of}
+use Rattle.frames.specs.declared.output.Text.{Text}
+use Rattle.store.specs.declared.step.Call.{Call}
+use Rattle.frames.specs.Frames.{frame_of}
 
 -- a line holds the bytes bs: the first 18 of them, and their number, 19 for more than 18
 pub record LineHolds (l : Line) (bs : List ℕ) : Type 0 where
@@ -23,13 +23,9 @@ is_none (b ∷ bs) = false
 unfoldable pub Empties : Line → Bool → Type 0
 Empties l r = (bs : List ℕ) → LineHolds l bs → r ≡ is_none bs
 
--- the frame that the code gives
-abbrev pub framed : Frame → Framed
-framed f = cond f.good (frame f.call) none
-
 -- f is the frame of whatever the line holds
-unfoldable pub Frames : Line → Frame → Type 0
-Frames l f = (bs : List ℕ) → LineHolds l bs → framed f ≡ frame_of bs
+unfoldable pub Frames : Line → Option Call → Type 0
+Frames l f = (bs : List ℕ) → LineHolds l bs → f ≡ frame_of bs
 
 -- a text says bs: these bytes and a line feed
 pub record TextSays (t : Text) (bs : List ℕ) : Type 0 where

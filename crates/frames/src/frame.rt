@@ -1,168 +1,92 @@
 // A line taken as the frame of a call.
-ghost use Rattle.std.specs.Prelude.{◌≡◌, true, ◌≤◌, length};
-ghost use Rattle.frames.specs.Frames.{digit_of, all_digits, value, none, bare, single, double, frame_of};
-ghost use Rattle.frames.specs.LineCode.{framed, Frames};
+ghost use Rattle.std.specs.Prelude.{◌≡◌, ◌<◌, ◌≤◌, length, MatchOption};
+ghost use Rattle.frames.specs.Frames.{digit_of, is_digit, all_digits, number_in, fields_of, framed};
+ghost use Rattle.frames.specs.LineCode.{Frames};
 
 use crate::line::Line;
 use chip::geometry::Nand;
 use store::step::Call;
 
-// Whether a line is a frame, and its call.
+// The numbers of a frame, by its length: a kind; a kind and a byte; a kind and a number; a kind, a number and a byte; a kind and two numbers.
 #[derive(Clone, Copy)]
-pub struct Frame {
-    pub good: bool,
-    pub call: Call,
+pub enum Fields {
+    Bare(u32),
+    Named(u32, u32),
+    Single(u32, u32),
+    Marked(u32, u32, u32),
+    Double(u32, u32, u32),
 }
 
-// The number of a digit, 16 for a byte that is no digit.
-pub fn digit(byte: u8) -> u64
-    ensures { (result ≡ digit_of byte) × (result ≤ 16) }
+// The number of a digit, none for a byte that is no digit.
+pub fn digit(byte: u8) -> Option<u32>
+    ensures { MatchOption result (digit_of byte ≡ 16) (λ d. (d ≡ digit_of byte) × (d < 16)) }
 {
-    if byte < 48 {
-        return 16;
+    match byte {
+        b'0'..=b'9' => Some((byte - b'0') as u32),
+        b'A'..=b'F' => Some((byte - b'A' + 10) as u32),
+        _ => None,
     }
-    if byte < 58 {
-        return (byte - 48) as u64;
-    }
-    if byte < 65 {
-        return 16;
-    }
-    if byte < 71 {
-        return (byte - 55) as u64;
-    }
-    16
+}
+
+// Whether a byte is a digit.
+fn is_digit(byte: u8) -> bool
+    ensures { result ≡ is_digit byte }
+{
+    digit(byte).is_some()
 }
 
 // Whether all bytes are digits.
 pub fn all_digits(s: &[u8]) -> bool
     ensures { result ≡ all_digits s.now }
 {
-    let mut i = 0;
-    while i < s.len() {
-        if digit(s[i]) == 16 {
-            return false;
-        }
-        i += 1;
-    }
-    true
+    s.iter().all(|byte| is_digit(*byte))
 }
 
-// The number of at most 8 digits.
-pub fn value_of(s: &[u8]) -> u32
-    requires { (length s.now ≤ 8) × (all_digits s.now ≡ true) }
-    ensures { result ≡ value s.now }
+// The number of at most 8 digits, none where a byte is no digit.
+pub fn value_of(s: &[u8]) -> Option<u32>
+    requires { length s.now ≤ 8 }
+    ensures { result ≡ number_in s.now }
 {
-    let mut v: u64 = 0;
-    let mut i = 0;
-    while i < s.len() {
-        v = 16 * v + digit(s[i]);
-        i += 1;
+    let mut v = 0;
+    for byte in s {
+        v = 16 * v + digit(*byte)?;
     }
-    v as u32
+    Some(v)
 }
 
-// No frame.
-fn no_frame() -> Frame
-    ensures { framed result ≡ none }
+// The numbers of a line of these bytes, none where it is no frame of any kind.
+pub fn fields_of(s: &[u8]) -> Option<Fields>
+    ensures { result ≡ fields_of s.now }
 {
-    Frame {
-        good: false,
-        call: Call::Format(Nand::Small, 0),
+    let kind = value_of(s.get(..2)?)?;
+    match s.len() {
+        2 => Some(Fields::Bare(kind)),
+        4 => Some(Fields::Named(kind, value_of(&s[2..])?)),
+        10 => Some(Fields::Single(kind, value_of(&s[2..])?)),
+        12 => Some(Fields::Marked(kind, value_of(&s[2..10])?, value_of(&s[10..])?)),
+        18 => Some(Fields::Double(kind, value_of(&s[2..10])?, value_of(&s[10..])?)),
+        _ => None,
     }
 }
 
-// The frame of a kind alone.
-fn bare_frame(kind: u32) -> Frame
-    ensures { framed result ≡ bare kind }
+// The call of a frame.
+fn call_of(fields: Fields) -> Option<Call>
+    ensures { result ≡ framed fields }
 {
-    if kind == 0 {
-        return Frame {
-            good: true,
-            call: Call::Format(Nand::Small, 4294967295),
-        };
+    match fields {
+        Fields::Bare(0) => Some(Call::Format(Nand::Small, u32::MAX)),
+        Fields::Single(2, key) => Some(Call::Delete(key)),
+        Fields::Single(3, key) => Some(Call::LookUp(key)),
+        Fields::Single(4, allowance) => Some(Call::Commit(allowance)),
+        Fields::Single(5, allowance) => Some(Call::Mount(Nand::Small, allowance)),
+        Fields::Double(1, key, value) => Some(Call::Insert(key, value)),
+        _ => None,
     }
-    no_frame()
 }
 
-// The frame of a kind and one number.
-fn single_frame(kind: u32, n: u32) -> Frame
-    ensures { framed result ≡ single kind n }
-{
-    if kind == 2 {
-        return Frame {
-            good: true,
-            call: Call::Delete(n),
-        };
-    }
-    if kind == 3 {
-        return Frame {
-            good: true,
-            call: Call::LookUp(n),
-        };
-    }
-    if kind == 4 {
-        return Frame {
-            good: true,
-            call: Call::Commit(n),
-        };
-    }
-    if kind == 5 {
-        return Frame {
-            good: true,
-            call: Call::Mount(Nand::Small, n),
-        };
-    }
-    no_frame()
-}
-
-// The frame of a kind and two numbers.
-fn double_frame(kind: u32, key: u32, value: u32) -> Frame
-    ensures { framed result ≡ double kind key value }
-{
-    if kind == 1 {
-        return Frame {
-            good: true,
-            call: Call::Insert(key, value),
-        };
-    }
-    no_frame()
-}
-
-// The frame that a line of these bytes is.
-fn frame_in(s: &[u8]) -> Frame
-    ensures { framed result ≡ frame_of s.now }
-{
-    let good = all_digits(s);
-    if !good {
-        return no_frame();
-    }
-    let len = s.len();
-    if len == 2 {
-        let kind = value_of(s);
-        return bare_frame(kind);
-    }
-    if len == 10 {
-        let kind = value_of(&s[0..2]);
-        let n = value_of(&s[2..10]);
-        return single_frame(kind, n);
-    }
-    if len == 18 {
-        let kind = value_of(&s[0..2]);
-        let key = value_of(&s[2..10]);
-        let value = value_of(&s[10..18]);
-        return double_frame(kind, key, value);
-    }
-    no_frame()
-}
-
-// The frame that a line is.
-pub fn frame_of(line: Line) -> Frame
+// The call of the frame that a line is, none where it is no frame.
+pub fn frame_of(line: Line) -> Option<Call>
     ensures { Frames line result }
 {
-    let len = line.len;
-    if len > 18 {
-        return no_frame();
-    }
-    let bytes = line.bytes;
-    frame_in(&bytes[0..len])
+    call_of(fields_of(line.bytes()?)?)
 }

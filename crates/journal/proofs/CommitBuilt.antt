@@ -10,7 +10,7 @@ use Rattle.lists.proofs.Alls.{All-append, all_All}
 use Rattle.lists.proofs.Flats.{flat_append, map_append}
 use Rattle.chip.specs.Geometry.{Geometry}
 use Rattle.pages.specs.declared.header.Head.{Head}
-use Rattle.pages.specs.declared.unit.Decoded.TheVariants.{Good}
+use Rattle.std.proofs.Common.{Some}
 use Rattle.pages.specs.declared.unit.Unit as U
 use Rattle.pages.specs.declared.unit.Update.{Update}
 use Rattle.pages.specs.Units.{encode}
@@ -65,14 +65,14 @@ module _ (g : Geometry) (limit p c i n : ℕ) (us : List U.Unit) (hc : c < 2 ^ 3
   own_built a b d = laid_obeys g c i n (length us) (flat encode us) a hc b d few (length_units us)
 
 -- what a page with those packs reads as
-packs_events : (p : ℕ) (ks : List Pack) → map (event_at p) (map Good (units_of_packs ks)) ≡ events_in (map (group_at p) ks)
+packs_events : (p : ℕ) (ks : List Pack) → map (event_at p) (map Some (units_of_packs ks)) ≡ events_in (map (group_at p) ks)
 packs_events p [] = refl
 packs_events p (k ∷ ks) =
     let us : List U.Unit = map (unit_for k.node) k.updates in
-    ap (map (event_at p)) (map_append Good us (units_of_packs ks)) ∙ map_append (event_at p) (map Good us) (map Good (units_of_packs ks))
+    ap (map (event_at p)) (map_append Some us (units_of_packs ks)) ∙ map_append (event_at p) (map Some us) (map Some (units_of_packs ks))
     ∙ ap₂ ◌++◌ (one k.updates) (packs_events p ks)
   where
-    one : (us : List Update) → map (event_at p) (map Good (map (unit_for k.node) us)) ≡ map (event_in (group_at p k)) us
+    one : (us : List Update) → map (event_at p) (map Some (map (unit_for k.node) us)) ≡ map (event_in (group_at p k)) us
     one [] = refl
     one (u ∷ us) = ap₂ ◌∷◌ refl (one us)
 
@@ -109,7 +109,7 @@ module _ (g : Geometry) (limit c : ℕ) (hc : suc c < 2 ^ 32) (fits : 8 + 12 * g
       let x : Live = record { place = t.place; bytes = data_of g (suc c) k n (units_of_packs t.packs) } in
       let a : All (λ (e : Event). is_sound e ≡ true) (events_of limit x) =
       rw (events_laid g limit t.place (suc c) k n (units_of_packs t.packs) hc h.valid)
-      (all_All is_sound (map (event_at t.place) (map Good (units_of_packs t.packs))) (good_sound t.place (units_of_packs t.packs))) in
+      (all_All is_sound (map (event_at t.place) (map Some (units_of_packs t.packs))) (good_sound t.place (units_of_packs t.packs))) in
       All-append a (sounds_new n (suc k) hs)
 
   -- pages laid out from sheets that fit meet the plan

@@ -21,7 +21,7 @@ use Rattle.chip.proofs.Sizes.{pages_pos}
 use Rattle.chip.proofs.ImageLaws.{filled_patch}
 use Rattle.chip.proofs.Marks.{blank_quiet, third_live, third_data, marked_data}
 use Rattle.chip.proofs.Runs.{after, run_parts, run_gone}
-use Rattle.pages.specs.declared.unit.Decoded.TheVariants.{Good}
+use Rattle.std.proofs.Common.{Some}
 use Rattle.pages.specs.declared.header.Head.{Head}
 use Rattle.pages.specs.Units.{encode}
 use Rattle.pages.specs.Data.{head_of}
@@ -150,12 +150,12 @@ module _ (g : Geometry) (room : 3 ≤ g.spare) (fits : 8 + 12 * g.units ≤ g.ar
 
   module _ (limit : ℕ) (nodes : 0 < limit) where
     -- its one unit
-    root_events : events limit (root ∷ []) ≡ event_at 0 (Good root_reset) ∷ []
+    root_events : events limit (root ∷ []) ≡ event_at 0 (Some root_reset) ∷ []
     root_events =
         ap (λ (es : List Event). es ++ [])
         (events_laid g limit 0 1 0 1 (root_reset ∷ []) (omega arith) (more (record { node = nodes; update = level_value 0 (omega arith) }) none))
 
-    root_node : (n : ℕ) → node_of n (event_at 0 (Good root_reset) ∷ []) ≡ format_node n
+    root_node : (n : ℕ) → node_of n (event_at 0 (Some root_reset) ∷ []) ≡ format_node n
     unfolding node_of
     root_node zero = refl
     root_node (suc n) = rw (ne_eqb 0 (suc n) (λ e. omega arith))

@@ -1,15 +1,16 @@
 -- The loop of a mount's marks over the pages. Assumes nothing.
-use mathlib.Core.Path.{◌≡◌, refl, ap, ◌∙◌}
+use mathlib.Core.Path.{◌≡◌, refl, sym, ap, ◌∙◌}
 use mathlib.Core.Bool.{true, false, cond}
 use mathlib.Core.List.{List, [], ◌∷◌, ◌++◌, map}
-use Prim.Native.Nat.{ℕ, suc, ◌+◌, ◌≤◌, ◌<◌}
+use Prim.Native.Nat.{ℕ, suc, ◌+◌, ◌*◌, ◌-◌, ◌/◌, ◌≤◌, ◌<◌}
+use native.Mathlib.Nat.{add-sub_cancel_left}
 use native.Mathlib.Numerals.{add-one}
 use native.Mathlib.Omega.{arith}
 use lib.Dec.{eqb}
 use lib.ListN.{length, take, get_or}
 use lib.Seq.{take-suc, take_all, length-take-le, get_or-take}
 use borrow.Author.Tests.{ne_eqb}
-use Rattle.lists.specs.Lists.{filter, All, none, more, At}
+use Rattle.lists.specs.Lists.{filter, All, none, more, At, part}
 use Rattle.lists.proofs.Tests.{cases}
 use Rattle.lists.proofs.Alls.{All-map, All-filter}
 use Rattle.lists.proofs.Filters.{filter_append}
@@ -17,10 +18,11 @@ use Rattle.lists.proofs.Flats.{map_append}
 use Rattle.lists.proofs.Places.{At-get_or, At-is}
 use Rattle.chip.specs.declared.page.Mark.TheVariants.{Obsolete}
 use Rattle.chip.specs.declared.progress.Progress.{Progress}
-use Rattle.chip.specs.Geometry.{Geometry}
+use Rattle.chip.specs.Geometry.{Geometry, page_size}
 use Rattle.chip.specs.Page.{Page, is_live}
 use Rattle.chip.specs.Chip.{Op, mark, Machine, run, pages_of, touches}
 use Rattle.chip.specs.RunCode.{machine, Stepped, Ran}
+use Rattle.chip.proofs.ImageLaws.{page_at_lem}
 use Rattle.chip.proofs.Runs.{ran_none, ran_one, ran_append, run_other}
 use Rattle.pages.specs.Units.{word}
 use Rattle.pages.specs.Data.{head_of}
@@ -98,6 +100,12 @@ retire_more g torn c n p q r xs ys zs h a b =
 pub retire_done : (g : Geometry) (torn : List ℕ) (c n : ℕ) (p r : Progress) (xs zs : List ℕ) → length (pages_of g xs) ≤ n
     → Ran g torn (retire_ops g c (take n (pages_of g xs))) p r xs zs → Ran g torn (retire_ops g c (pages_of g xs)) p r xs zs
 retire_done g torn c n p r xs zs h a = let e = take_all n (pages_of g xs) h in rw e at a
+
+-- the page that is read is the one at place n
+pub page_read : (g : Geometry) (c n : ℕ) (xs : List ℕ) → n < length xs / page_size g
+    → is_of g c (get_or (pages_of g xs) n []) ≡ is_of g c (part (n * page_size g) (n * page_size g + page_size g - n * page_size g) xs)
+page_read g c n xs h =
+    ap (is_of g c) (page_at_lem g xs n h ∙ ap (λ (m : ℕ). part (n * page_size g) m xs) (sym (add-sub_cancel_left (n * page_size g) (page_size g))))
 
 -- one page: not of the commit, or marked
 pub retire_none : (g : Geometry) (torn : List ℕ) (c n : ℕ) (x : Page) (p : Progress) (xs : List ℕ) → is_of g c x ≡ false → Ran g torn (retire_one g c n x) p p xs xs

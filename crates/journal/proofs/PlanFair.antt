@@ -12,8 +12,8 @@ use Rattle.lists.proofs.Sorts.{All-sort}
 use Rattle.lists.proofs.Tests.{cases}
 use Rattle.chip.specs.Geometry.{Geometry}
 use Rattle.chip.specs.Page.{Page, is_live}
-use Rattle.pages.specs.declared.unit.Decoded.{Decoded}
-use Rattle.pages.specs.declared.unit.Decoded.TheVariants.{Bad, Good}
+use Rattle.std.proofs.Common.{Option, Some, None}
+use Rattle.pages.specs.declared.unit.Unit as U
 use Rattle.pages.specs.Units.{Valid, decode, decodes}
 use Rattle.pages.specs.Data.{head_of}
 use Rattle.pages.specs.Steps.{Live, before, live, live_from}
@@ -25,9 +25,9 @@ use Rattle.views.proofs.Meanings.{Kept, in_order, kept_well, node_in}
 use Rattle.journal.proofs.PlanNodes.{Fair, SmallView, small_apply, small_fair}
 
 -- what is decoded from bytes below 256 fits the fields of a unit
-abbrev pub ValidDecoded : ℕ → Decoded → Type 0
-ValidDecoded limit (Good u) = Valid limit u
-ValidDecoded limit Bad = Unit {0}
+abbrev pub ValidDecoded : ℕ → Option U.Unit → Type 0
+ValidDecoded limit (Some u) = Valid limit u
+ValidDecoded limit None = Unit {0}
 
 abbrev pub Bytes : List ℕ → Type 0
 Bytes b = All (λ (x : ℕ). x < 256) b
@@ -35,9 +35,9 @@ Bytes b = All (λ (x : ℕ). x < 256) b
 pub decode_valid : (limit : ℕ) {b : List ℕ} → Bytes b → ValidDecoded limit (decode limit b)
 decode_valid limit {b} h = go (decode limit b) refl
   where
-    go : (d : Decoded) → decode limit b ≡ d → ValidDecoded limit d
-    go (Good u) e = told_valid h (told limit b u e)
-    go Bad e = tt
+    go : (d : Option U.Unit) → decode limit b ≡ d → ValidDecoded limit d
+    go (Some u) e = told_valid h (told limit b u e)
+    go None e = tt
 
 decodes_valid : (limit n : ℕ) {b : List ℕ} → Bytes b → All (ValidDecoded limit) (decodes limit n b)
 decodes_valid limit zero h = none
@@ -54,9 +54,9 @@ events_valid limit h =
     (All-map (λ x b. All-push (event_at x.place) (decodes limit (head_of x.bytes).units (drop 8 x.bytes)) (decodes_valid limit (head_of x.bytes).units (All-drop 8 b))) h)
 
 -- levels and entries of a node fit their fields
-turn_small : (limit n p : ℕ) (d : Decoded) (s : Node) → ValidDecoded limit d → SmallView s.now → SmallView (turn_unit n p d s).now
-turn_small limit n p (Good u) s w h = cases (eqb u.node n) (λ t. rw t (small_apply s.now u.update w.update h)) (λ t. rw t h)
-turn_small limit n p Bad s w h = h
+turn_small : (limit n p : ℕ) (d : Option U.Unit) (s : Node) → ValidDecoded limit d → SmallView s.now → SmallView (turn_unit n p d s).now
+turn_small limit n p (Some u) s w h = cases (eqb u.node n) (λ t. rw t (small_apply s.now u.update w.update h)) (λ t. rw t h)
+turn_small limit n p None s w h = h
 
 fold_small : (limit n : ℕ) {es : List Event} (s : Node) → All (ValidEvent limit) es → SmallView s.now → SmallView (foldl (turn n) s es).now
 fold_small limit n s none h = h

@@ -11,8 +11,7 @@ use Rattle.lists.specs.Lists.{All, more, none}
 use Rattle.lists.proofs.Tests.{cases, clash}
 use Rattle.chip.specs.Geometry.{Geometry}
 use Rattle.chip.specs.Page.{Page}
-use Rattle.pages.specs.declared.unit.Decoded.{Decoded}
-use Rattle.pages.specs.declared.unit.Decoded.TheVariants.{Bad, Good}
+use Rattle.std.proofs.Common.{Option, Some, None}
 use Rattle.pages.specs.declared.unit.Unit as U
 use Rattle.pages.specs.declared.unit.Update.{Update}
 use Rattle.pages.specs.declared.unit.Update.TheVariants.{Delete, Insert, Reset}
@@ -159,9 +158,9 @@ bare : (n : ℕ) (es : List Event) (s : Node) → (s.now ≡ untouched → s.pag
 bare n [] s h e = h e
 bare n (x ∷ es) s h e = bare n es (turn n s x) (one x.unit) e
   where
-    one : (d : Decoded) → (turn_unit n x.place d s).now ≡ untouched → (turn_unit n x.place d s).pages ≡ []
-    one Bad k = h k
-    one (Good u) k =
+    one : (d : Option U.Unit) → (turn_unit n x.place d s).now ≡ untouched → (turn_unit n x.place d s).pages ≡ []
+    one None k = h k
+    one (Some u) k =
         cases (eqb u.node n)
         (λ t. let m : apply s.now u.update ≡ untouched = (rw t at k) in clash (apply_touched s.now u.update) (ap touched m))
         (λ t. let m : s.now ≡ untouched = (rw t at k) in rw t (h m))

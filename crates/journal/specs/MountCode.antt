@@ -1,5 +1,5 @@
 -- How the code of mount.rt finds the void pages, whose commit it is told: page by page, in the order of their places.
-use Rattle.std.specs.Prelude.{Bool, cond, ◌&&◌, List, [], ◌∷◌, map, ℕ, eqb, take}
+use Rattle.std.specs.Prelude.{Bool, cond, ◌&&◌, List, [], ◌∷◌, map, ℕ, eqb, take, Option, Some, None}
 use Rattle.lists.specs.Lists.{filter}
 use Rattle.chip.specs.declared.page.Mark.TheVariants.{Obsolete}
 use Rattle.chip.specs.Geometry.{Geometry}
@@ -21,6 +21,7 @@ retire_one g c p x = cond (is_of g c x) (mark p Obsolete ∷ []) []
 abbrev pub retire_ops : Geometry → ℕ → List Page → List Op
 retire_ops g c ps = map retire (filter (of_commit c) (live_from g 0 ps))
 
--- the marks of a mount where the void pages are those of commit v, none for 0
-abbrev pub marks_of : Geometry → ℕ → List Page → List Op
-marks_of g v ps = cond (eqb v 0) [] (retire_ops g v ps)
+-- the marks of a mount where the void pages are those of a commit, or there are none
+abbrev pub marks_of : Geometry → Option ℕ → List Page → List Op
+marks_of g (Some c) ps = retire_ops g c ps
+marks_of g None ps = []

@@ -25,10 +25,8 @@ fn erase_all(
     ensures { Ran geometry torn.now (tab 0 blocks Op.erase) progress result image.old image.new }
 {
     let mut reached = progress;
-    let mut b = 0;
-    while b < blocks {
+    for b in 0..blocks {
         reached = image::erase(geometry, image, b, torn, reached);
-        b += 1;
     }
     reached
 }

@@ -16,10 +16,7 @@ fn is_of(geometry: Geometry, page: &[u8], commit: u32) -> bool
     requires { (length page.now ≡ page_size geometry) × Fits geometry }
     ensures { result ≡ is_of geometry commit page.now }
 {
-    if !page::is_live(geometry, page) {
-        return false;
-    }
-    unit::read_word(page, 0) == commit
+    page::is_live(geometry, page) && unit::read_word(page, 0) == commit
 }
 
 // Page `at` marked, if it is a live page of the commit.
@@ -37,10 +34,11 @@ fn retire_at(
     let size = geometry.area + geometry.spare;
     let a = at * size;
     let e = a + size;
-    if !is_of(geometry, &image[a..e], commit) {
-        return progress;
+    if is_of(geometry, &image[a..e], commit) {
+        image::set_mark(geometry, image, at, Mark::Obsolete, torn, progress)
+    } else {
+        progress
     }
-    image::set_mark(geometry, image, at, Mark::Obsolete, torn, progress)
 }
 
 // Every live page of the commit marked, lowest place first, as far as the power goes.
@@ -56,27 +54,25 @@ fn retire_all(
 {
     let pages = image.len() / (geometry.area + geometry.spare);
     let mut reached = progress;
-    let mut at = 0;
-    while at < pages {
+    for at in 0..pages {
         reached = retire_at(geometry, image, at, commit, torn, reached);
-        at += 1;
     }
     reached
 }
 
-// The obsolete mark set on each page of the void commit; 0 says that there is none.
+// The obsolete mark set on each page of the void commit, where there is one.
 pub fn retire(
     geometry: Geometry,
     image: &mut [u8],
-    void: u32,
+    void: Option<u32>,
     torn: &[u8],
     progress: Progress,
 ) -> Progress
     requires { (length image.old % page_size geometry ≡ 0) × (length torn.now ≡ page_size geometry) × Fits geometry }
     ensures { Ran geometry torn.now (marks_of geometry void (pages_of geometry image.old)) progress result image.old image.new }
 {
-    if void == 0 {
-        return progress;
+    match void {
+        Some(commit) => retire_all(geometry, image, commit, torn, progress),
+        None => progress,
     }
-    retire_all(geometry, image, void, torn, progress)
 }

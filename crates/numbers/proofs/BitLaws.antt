@@ -2,11 +2,11 @@
 use mathlib.Core.Path.{◌≡◌, refl, sym, ap, ap₂, ◌∙◌}
 use mathlib.Core.Bool.{Bool, true, false}
 use mathlib.Core.List.{List, [], ◌∷◌}
-use Prim.Native.Nat.{ℕ, zero, suc, ◌+◌, ◌*◌, ◌/◌, ◌%◌, ◌^◌, ◌-◌, ◌<◌, ◌≤◌, max}
+use Prim.Native.Nat.{ℕ, zero, suc, ◌+◌, ◌*◌, ◌/◌, ◌%◌, ◌^◌, ◌-◌, ◌<◌, max}
 use native.Mathlib.Nat.{pow-suc, mul_assoc, zero-add}
 use native.Mathlib.Omega.{arith}
 use lib.Arith.{digits_mod, digits_div}
-use lib.Bits.{bit_or, or_step, or_zero_r, or_add_and, and_le_l}
+use lib.Bits.{bit_or, or_step, or_zero_r}
 use lib.Count.{ones}
 use lib.ListN.{length, take, drop, get_or, set, take-append-drop}
 use lib.Pow.{shl_exact}
@@ -32,10 +32,6 @@ twice a i = ap (λ (n : ℕ). a * n) (pow-suc 2 i) ∙ sym (mul_assoc a (2 ^ i) 
 -- the bit of index i in 64 bits, as the code makes it
 pub bit_at : (i : ℕ) → i < 64 → (1 * 2 ^ i) % 2 ^ 64 ≡ 2 ^ i
 bit_at i h = shl_exact 1 i 64 (omega arith) (omega arith) ∙ omega arith
-
--- what is joined with b has b
-pub or_most : (a b : ℕ) → b ≤ bit_or a b
-or_most a b = omega (arith, or_add_and a b, and_le_l a b)
 
 module _ {A : Type 0} (p : A → Bool) where
   -- one element changed, in numbers

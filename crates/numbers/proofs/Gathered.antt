@@ -1,6 +1,7 @@
 -- The set of the numbers whose count is 0, number by number. Assumes nothing.
 use mathlib.Core.Path.{◌≡◌, refl, sym, ap, ◌∙◌}
 use mathlib.Core.Bool.{Bool, true, false}
+use mathlib.Core.Logic.{⊎_elim}
 use mathlib.Core.List.{List, [], ◌∷◌, ◌++◌}
 use Prim.Native.Nat.{ℕ, zero, suc, ◌+◌, ◌*◌, ◌-◌, ◌<◌, ◌≤◌}
 use native.Mathlib.Nat.{zero-add}
@@ -12,6 +13,7 @@ use lib.Seq.{take-nil, drop-nil, take-append-le, drop-append-le, set_at}
 use borrow.Author.Tests.{eq-eqb, ne_eqb}
 use Rattle.lists.specs.Lists.{bit, part, tab}
 use Rattle.lists.proofs.Flats.{tab_same, tab_last, length_tab}
+use Rattle.lists.proofs.Tests.{below_or_not}
 use Rattle.chip.specs.SetCode.{set_of}
 use Rattle.numbers.specs.NumberSet.{is_in, words_of, Changes, uncounted}
 
@@ -80,15 +82,12 @@ module _ (counts words : List ℕ) (n : ℕ) (e : words ≡ words_of (uncounted 
   gather_skip z =
       e ∙ sym (words_pad (uncounted n counts)) ∙ ap words_of (sym (uncounted_more false (ne_eqb (get_or counts n 0) 0 z)))
 
-  -- all numbers below limit were looked at
-  pub gather_end : (limit : ℕ) → n ≤ limit → limit ≤ n → words ≡ words_of (uncounted limit counts)
-  gather_end limit h k = e ∙ ap (λ (m : ℕ). words_of (uncounted m counts)) (let q : n ≡ limit = omega arith in q)
-
-  -- all numbers below 256 were
-  pub gather_past : (limit : ℕ) → n ≤ limit → 256 ≤ n → words ≡ words_of (uncounted limit counts)
-  gather_past limit h k =
+  -- all numbers below limit were looked at, or all below 256
+  pub gather_end : (limit : ℕ) → n ≤ limit → (n < 256 → limit ≤ n) → words ≡ words_of (uncounted limit counts)
+  gather_end limit h k =
       let f : ℕ → Bool = (λ (m : ℕ). eqb (get_or counts m 0) 0) in
       let q : n + (limit - n) ≡ limit = omega arith in
       e
-      ∙ sym (words_past (uncounted n counts) (tab (0 + n) (limit - n) f) (omega (arith, length_tab f 0 n)))
-      ∙ ap words_of (sym (tab_parts f 0 n (limit - n)) ∙ ap (λ (m : ℕ). uncounted m counts) q)
+      ∙ sym (⊎_elim (λ (l : n < 256). ap (λ (m : ℕ). words_of (uncounted m counts)) (let z : limit ≡ n = omega (arith, k l) in z))
+      (λ (l : 256 ≤ n). ap (λ (m : ℕ). words_of (uncounted m counts)) (sym q) ∙ ap words_of (tab_parts f 0 n (limit - n)) ∙ words_past (uncounted n counts) (tab (0 + n) (limit - n) f) (omega (arith, length_tab f 0 n)))
+      (below_or_not n 256))

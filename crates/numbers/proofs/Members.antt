@@ -1,7 +1,8 @@
 -- Members of a set given as booleans: how many after a change, and the least one. Assumes nothing.
-use mathlib.Core.Path.{◌≡◌, refl, ap, ◌∙◌}
+use mathlib.Core.Path.{◌≡◌, refl, sym, ap, ◌∙◌}
 use mathlib.Core.Bool.{Bool, true, false}
 use mathlib.Core.Logic.{⊎_elim}
+use Rattle.std.specs.Prelude.{Option, Some, None}
 use mathlib.Core.List.{List, [], ◌∷◌}
 use Prim.Native.Nat.{ℕ, zero, suc, ◌+◌, ◌<◌, ◌≤◌}
 use native.Mathlib.Nat.{zero-add}
@@ -50,16 +51,24 @@ first_is bs n t f =
     (λ l. clash t (first_before bs n l))
 
 -- ---- what least answers
-module _ {words : List ℕ} {r : ℕ} (k : IsLeast words r) (bs : List Bool) (few : length bs ≤ 256) (e : words ≡ words_of bs) where
+module _ {words : List ℕ} {r : Option ℕ} (k : IsLeast words r) (bs : List Bool) (few : length bs ≤ 256) (e : words ≡ words_of bs) where
   -- of a set with a member: a number below the length
-  pub least_lt : 0 < count is_in bs → r < length bs
-  least_lt h = omega (arith, k.is bs few e h, first_lt bs h)
+  pub least_lt : (n : ℕ) → r ≡ Some n → 0 < count is_in bs → n < length bs
+  least_lt n q h =
+      let i : Some n ≡ Some (first is_in bs) = sym q ∙ k.is bs few e h in
+      let m : n ≡ first is_in bs = cc in
+      omega (arith, m, first_lt bs h)
 
-  -- a number below 256 is the first member
-  pub least_is : r < 256 → (0 < count is_in bs) × (r ≡ first is_in bs)
-  least_is h =
-      let some : 0 < count is_in bs = ⊎_elim (λ (z : count is_in bs < 1). absurd (omega (arith, k.none bs few e (omega arith)))) (λ l. l) (below_or_not (count is_in bs) 1) in
-      (some, k.is bs few e some)
+  -- a number is the first member
+  pub least_is : (n : ℕ) → r ≡ Some n → (0 < count is_in bs) × (n ≡ first is_in bs)
+  least_is n q =
+      let some : 0 < count is_in bs
+      = ⊎_elim
+      (λ (z : count is_in bs < 1).
+      let o : Some n ≡ None = sym q ∙ k.none bs few e (omega arith) in cc)
+      (λ l. l) (below_or_not (count is_in bs) 1) in
+      let i : Some n ≡ Some (first is_in bs) = sym q ∙ k.is bs few e some in
+      (some, cc)
 
 -- ---- the numbers below limit whose count is 0
 pub length_uncounted : (limit : ℕ) (counts : List ℕ) → length (uncounted limit counts) ≡ limit

@@ -2,12 +2,16 @@
 use mathlib.Core.Path.{◌≡◌, refl, sym, ap, ap₂, ◌∙◌}
 use mathlib.Core.Bool.{Bool, true, false}
 use mathlib.Core.Logic.{⊎_elim}
+use Rattle.std.specs.Prelude.{Some, None}
 use mathlib.Core.List.{List, ◌∷◌}
 use Prim.Native.Nat.{ℕ, zero, suc, ◌+◌, ◌*◌, ◌/◌, ◌%◌, ◌^◌, ◌-◌, ◌<◌, ◌≤◌}
 use native.Mathlib.Nat.{zero-add}
 use native.Mathlib.Omega.{arith}
-use lib.Bits.{bit_or}
-use lib.Count.{ones, count_trailing_zeros, trailing_le}
+use lib.Bits.{bit_and, bit_or, and_comm, or_add_and}
+use Rattle.std.proofs.lemmas.Nat.{and-not}
+use lib.Count.{ones, ones-le, count_trailing_zeros}
+use Rattle.std.specs.Int.{w64}
+use Rattle.std.proofs.lemmas.Nat.Bits.{bit_at-trailing_zeros}
 use lib.ListN.{length, take, drop, get_or, set, length-take, length-drop, drop_of_length-le}
 use lib.Seq.{drop-drop, drop-set-lt, drop-set-add, take-set-le, take-set-lt}
 use Rattle.lists.specs.Lists.{count, first, part, tab}
@@ -38,17 +42,14 @@ few_part : (a k : ℕ) (bs : List Bool) → length (part a k bs) ≤ k
 few_part a k bs = simp length-take (omega arith)
 
 -- ---- counted
--- r ones in word w
-abbrev pub OnesAt : List ℕ → ℕ → ℕ → Type 0
-OnesAt words w r = (r ≡ ones (get_or words w 0)) × (r ≤ 64)
-
 -- the ones of word w are its members
 counted_word : (words : List ℕ) (bs : List Bool) → words ≡ words_of bs → (w : ℕ) → w < 4 → ones (get_or words w 0) ≡ count is_in (part (64 * w) 64 bs)
 counted_word words bs e w h = ap ones (word_is words bs e w h) ∙ ones_set is_in (part (64 * w) 64 bs)
 
 -- the ones of the four words
-pub counted : (words : List ℕ) (a b c d : ℕ) → OnesAt words 0 a → OnesAt words 1 b → OnesAt words 2 c → OnesAt words 3 d → Counts words (a + b + c + d)
-counted words a b c d f g h k = record {
+pub counted : (words : List ℕ) → get_or words 0 0 < 2 ^ 64 → get_or words 1 0 < 2 ^ 64 → get_or words 2 0 < 2 ^ 64 → get_or words 3 0 < 2 ^ 64
+    → Counts words (ones (get_or words 0 0) + ones (get_or words 1 0) + ones (get_or words 2 0) + ones (get_or words 3 0))
+counted words f g h k = record {
   is = λ bs l e.
       omega (
         arith,
@@ -62,7 +63,14 @@ counted words a b c d f g h k = record {
         count_from_lem 192 bs,
         ap (count is_in) (drop_of_length-le bs {i = 256} l),
       );
-  few = omega arith;
+  few =
+      omega (
+        arith,
+        ones-le 64 (get_or words 0 0) f,
+        ones-le 64 (get_or words 1 0) g,
+        ones-le 64 (get_or words 2 0) h,
+        ones-le 64 (get_or words 3 0) k,
+      );
 }
 
 -- ---- the least member
@@ -102,30 +110,31 @@ module _ (words : List ℕ) (w : ℕ) (s : Passed words w) where
       }
 
   -- word w has one
-  pub passed_found : w < 4 → (get_or words w 0 ≡ 0 → ⊥) → IsLeast words (64 * w + count_trailing_zeros 64 (get_or words w 0))
-  passed_found h z =
+  pub passed_found : w < 4 → get_or words w 0 < 2 ^ 64 → (get_or words w 0 ≡ 0 → ⊥) → IsLeast words (Some (64 * w + count_trailing_zeros 64 (get_or words w 0)))
+  passed_found h b z =
       let some : (bs : List Bool) → words ≡ words_of bs → set_of is_in (part (64 * w) 64 bs) ≡ 0 → ⊥
       = (λ bs e o. z (word_is words bs e w h ∙ o)) in
       record {
         is = λ bs l e o.
-            omega (
+            ap Some
+            (omega (
               arith,
               s.is bs e o,
               ap (count_trailing_zeros 64) (word_is words bs e w h),
               trailing_set is_in 64 (part (64 * w) 64 bs) (few_part (64 * w) 64 bs) (some bs e),
               first_here is_in 64 (drop (64 * w) bs) (some bs e),
-            );
+            ));
         none = λ bs l e o. absurd (some bs e (none_set is_in (part (64 * w) 64 bs) (omega (arith, s.all bs e, count_from_lem (64 * w) bs))));
-        few = omega (arith, trailing_le 64 (get_or words w 0));
+        few = (let l : count_trailing_zeros 64 (get_or words w 0) < 64 = (bit_at-trailing_zeros w64 (get_or words w 0) (omega arith) b).0 in omega arith);
       }
 
   -- no word has one
-  pub passed_all : w ≡ 4 → IsLeast words 256
+  pub passed_all : w ≡ 4 → IsLeast words None
   passed_all q = record {
     is = λ bs l e o.
         absurd (omega (arith, s.all bs e, ap (count is_in) (drop_of_length-le bs {i = 64 * w} (omega arith))));
     none = λ bs l e o. refl;
-    few = omega arith;
+    few = tt;
   }
 
 -- ---- one number changed
@@ -197,14 +206,15 @@ module _ (words : List ℕ) (n : ℕ) (h : n < 256) where
       ∙ or_set is_in (part (64 * (n / 64)) 64 bs) (n % 64) true (index_in bs n true k) refl)
       ∙ words_set bs n true h
 
-  pub take_word : Changes false n words
-      (set words (n / 64) (bit_or (get_or words (n / 64) 0) ((1 * 2 ^ (n % 64)) % 2 ^ 64) - (1 * 2 ^ (n % 64)) % 2 ^ 64))
-  take_word bs l k e =
-      ap₂ (λ (x : List ℕ) (y : ℕ). set x (n / 64) y) e
+  -- a bit taken out by its complement, and by what is joined less the bit
+  clear_is : (x b : ℕ) → x < 2 ^ 64 → b < 2 ^ 64 → bit_and x (2 ^ 64 - 1 - b) ≡ bit_or x b - b
+  clear_is x b p q = omega (arith, and-not 64 b x q p, and_comm b x, and_comm x (2 ^ 64 - 1 - b), or_add_and x b)
+
+  pub take_word : get_or words (n / 64) 0 < 2 ^ 64
+      → Changes false n words (set words (n / 64) (bit_and (get_or words (n / 64) 0) (2 ^ 64 - 1 - (1 * 2 ^ (n % 64)) % 2 ^ 64)))
+  take_word low bs l k e =
+      ap (set words (n / 64)) (clear_is (get_or words (n / 64) 0) ((1 * 2 ^ (n % 64)) % 2 ^ 64) low (omega arith))
+      ∙ ap₂ (λ (x : List ℕ) (y : ℕ). set x (n / 64) y) e
       (ap₂ (λ (x y : ℕ). bit_or x y - y) (word_is words bs e (n / 64) (omega arith)) (bit_at (n % 64) (omega arith))
       ∙ clear_set is_in (part (64 * (n / 64)) 64 bs) (n % 64) true false (index_in bs n true k) refl refl)
       ∙ words_set bs n false h
-
--- a number past 255 changes nothing
-pub past : (b : Bool) (words : List ℕ) (n : ℕ) → 256 ≤ n → Changes b n words words
-past b words n h bs l k e = absurd (omega arith)

@@ -1,5 +1,5 @@
 -- A set of numbers below 256 as four words of 64 bits, number 0 the lowest bit of the first; given as a list of booleans, that of number 0 first.
-use Rattle.std.specs.Prelude.{◌≡◌, Bool, List, ℕ, ◌*◌, ◌<◌, ◌≤◌, eqb, length, set, get_or}
+use Rattle.std.specs.Prelude.{◌≡◌, Bool, List, ℕ, ◌*◌, ◌<◌, ◌≤◌, eqb, length, set, get_or, Option, Some, None, IfSome}
 use Rattle.lists.specs.Lists.{count, first, part, tab}
 use Rattle.chip.specs.SetCode.{set_of}
 
@@ -16,11 +16,11 @@ pub record Counts (words : List ℕ) (r : ℕ) : Type 0 where
   pub is : (bs : List Bool) → length bs ≤ 256 → words ≡ words_of bs → r ≡ count is_in bs
   pub few : r ≤ 256
 
--- the least member; 256 where there is none
-pub record IsLeast (words : List ℕ) (r : ℕ) : Type 0 where
-  pub is : (bs : List Bool) → length bs ≤ 256 → words ≡ words_of bs → 0 < count is_in bs → r ≡ first is_in bs
-  pub none : (bs : List Bool) → length bs ≤ 256 → words ≡ words_of bs → count is_in bs ≡ 0 → r ≡ 256
-  pub few : r ≤ 256
+-- the least member; None where there is none
+pub record IsLeast (words : List ℕ) (r : Option ℕ) : Type 0 where
+  pub is : (bs : List Bool) → length bs ≤ 256 → words ≡ words_of bs → 0 < count is_in bs → r ≡ Some (first is_in bs)
+  pub none : (bs : List Bool) → length bs ≤ 256 → words ≡ words_of bs → count is_in bs ≡ 0 → r ≡ None
+  pub few : IfSome r (λ (n : ℕ). n < 256)
 
 -- number n is put in, or taken out
 abbrev pub Changes : Bool → ℕ → List ℕ → List ℕ → Type 0

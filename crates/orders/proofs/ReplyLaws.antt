@@ -4,12 +4,11 @@ use mathlib.Core.List.{List, [], ◌∷◌, ◌++◌, append_assoc, append-nil}
 use Prim.Native.Nat.{ℕ, zero, suc, ◌+◌, ◌-◌, ◌*◌, ◌/◌, ◌%◌, ◌^◌, ◌≤◌, ◌<◌}
 use native.Mathlib.Omega.{arith}
 use native.Mathlib.Numerals.{add-one}
-use native.Mathlib.Nat.{pow-suc}
-use lib.Pow.{field, mod-mod-pow, pow-add, shr-shr}
-use lib.ListN.{length, take, drop, set, get_or, length-set, length-append}
-use lib.Seq.{take-suc-set, drop-cons}
+use lib.Pow.{field, mod-mod-pow, shr-shr}
+use lib.ListN.{length, take, drop, get_or, length-append, drop_of_length-le}
+use lib.Seq.{drop-cons}
 use Rattle.frames.specs.Frames.{digit_text, hex_text}
-use Rattle.frames.proofs.Digits.{drop_past}
+use Rattle.frames.proofs.TextLaws.{powers, length_hex}
 use Rattle.orders.specs.Replies.{bytes_text}
 use Rattle.orders.specs.ReplyCode.{Adds}
 
@@ -21,29 +20,6 @@ both {b} {m} {a} {xs} {ys} {at} {i} {r} p q =
       end = omega (arith, p.end, q.end, n);
       bytes = q.bytes ∙ ap (λ (t : List ℕ). t ++ ys) p.bytes ∙ append_assoc (take at b) xs ys;
     }
-
-pub one : (b : List ℕ) (at x : ℕ) → at < length b → Adds b at (x ∷ []) (set b at x) (at + 1)
-one b at x h = record { end = refl; bytes = ap (λ (j : ℕ). take j (set b at x)) (add-one at) ∙ take-suc-set b at x h }
-
--- ---- a number: `left` of its digits are to be written, from index `end` on
-pub length_hex : (n k : ℕ) → length (hex_text n k) ≡ k
-length_hex n zero = refl
-length_hex n (suc k) = ap suc (length_hex n k)
-
-pub record Digits (before : List ℕ) (at n k : ℕ) (out : List ℕ) (end left : ℕ) : Type 0 where
-  pub size : length out ≡ length before
-  pub place : end + left ≡ at + k
-  pub few : left ≤ k
-  pub same : take end out ++ hex_text n left ≡ take at before ++ hex_text n k
-
-pub started : (b : List ℕ) (at n k : ℕ) → Digits b at n k b at k
-started b at n k = record { size = refl; place = refl; few = omega arith; same = refl }
-
-powers : (k : ℕ) → 2 ^ (4 * k) ≡ 16 ^ k
-powers zero = refl
-powers (suc k) =
-    let e : 4 * suc k ≡ 4 * k + 4 = omega arith in
-    ap (λ (j : ℕ). 2 ^ j) e ∙ pow-add 2 (4 * k) 4 ∙ ap (λ (p : ℕ). p * 16) (powers k) ∙ sym (pow-suc 16 k)
 
 -- ---- 16 digits are those of the two halves
 digit_high : (n k : ℕ) → n / 16 ^ (k + 8) % 16 ≡ n / 2 ^ 32 / 16 ^ k % 16
@@ -72,42 +48,12 @@ low_half n (suc k) h = ap₂ (λ (d : ℕ) (ds : List ℕ). digit_text d ∷ ds)
 pub halves : (n : ℕ) → hex_text n 16 ≡ hex_text (n / 4294967296) 8 ++ hex_text (n % 4294967296) 8
 halves n = high_half n 8 ∙ ap (λ (ds : List ℕ). hex_text (n / 2 ^ 32) 8 ++ ds) (low_half n 8 (omega arith))
 
-pub writes : (b : List ℕ) (at n k : ℕ) (out : List ℕ) (end left d : ℕ) → Digits b at n k out end left → 0 < left → end < length out
-    → d ≡ digit_text (n / 2 ^ (4 * (left - 1)) % 16) → Digits b at n k (set out end d) (end + 1) (left - 1)
-writes b at n k out end left d w h i e =
-    let f : left ≡ suc (left - 1) = omega arith in
-    let g : d ≡ digit_text (n / 16 ^ (left - 1) % 16) = e ∙ ap (λ (p : ℕ). digit_text (n / p % 16)) (powers (left - 1)) in
-    let rest = hex_text n (left - 1) in
-    record {
-      size = length-set out end d ∙ w.size;
-      place = omega (arith, w.place);
-      few = omega (arith, w.few);
-      same =
-          ap (λ (j : ℕ). take j (set out end d) ++ rest) (add-one end)
-          ∙ ap (λ (t : List ℕ). t ++ rest) (take-suc-set out end d i)
-          ∙ append_assoc (take end out) (d ∷ []) rest
-          ∙ ap (λ (c : ℕ). take end out ++ (c ∷ rest)) g
-          ∙ ap (λ (j : ℕ). take end out ++ hex_text n j) (sym f)
-          ∙ w.same;
-    }
-
-pub written : (b : List ℕ) (at n k : ℕ) (out : List ℕ) (end left : ℕ) → Digits b at n k out end left → left ≤ 0 → Adds b at (hex_text n k) out end
-written b at n k out end left w h =
-    let z : left ≡ 0 = omega arith in
-    record {
-      end = omega (arith, w.place, length_hex n k);
-      bytes = sym (append-nil (take end out)) ∙ ap (λ (j : ℕ). take end out ++ hex_text n j) (sym z) ∙ w.same;
-    }
-
 -- ---- bytes: the first i of them are written, up to index `end`
 pub record Bytes (before : List ℕ) (at : ℕ) (bs : List ℕ) (out : List ℕ) (end i : ℕ) : Type 0 where
   pub size : length out ≡ length before
   pub few : i ≤ length bs
   pub place : end ≡ at + 2 * i
   pub same : take end out ++ bytes_text (drop i bs) ≡ take at before ++ bytes_text bs
-
-pub begun : (b : List ℕ) (at : ℕ) (bs : List ℕ) → Bytes b at bs b at 0
-begun b at bs = record { size = refl; few = omega arith; place = omega arith; same = refl }
 
 pub puts : (b : List ℕ) (at : ℕ) (bs out : List ℕ) (end i x : ℕ) (after : List ℕ) (r : ℕ) → Bytes b at bs out end i → i < length bs
     → x ≡ get_or bs i 0 → Adds out end (hex_text x 2) after r → length after ≡ length out → Bytes b at bs after r (i + 1)
@@ -135,5 +81,5 @@ pub put_all : (b : List ℕ) (at : ℕ) (bs out : List ℕ) (end i : ℕ) → By
 put_all b at bs out end i w h =
     record {
       end = omega (arith, w.place, w.few, length_bytes bs);
-      bytes = sym (append-nil (take end out)) ∙ ap (λ (t : List ℕ). take end out ++ bytes_text t) (sym (drop_past bs i h)) ∙ w.same;
+      bytes = sym (append-nil (take end out)) ∙ ap (λ (t : List ℕ). take end out ++ bytes_text t) (sym (drop_of_length-le bs h)) ∙ w.same;
     }

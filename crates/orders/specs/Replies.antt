@@ -1,12 +1,12 @@
 -- The lines that the probe writes, as lists of bytes with their line feed.
-use Rattle.std.specs.Prelude.{List, [], ◌∷◌, ◌++◌, ℕ}
+use Rattle.std.specs.Prelude.{List, [], ◌∷◌, ◌++◌, ℕ, Option, Some, None, Result, Ok, Err}
 use Rattle.lists.specs.Lists.{flat}
 use Rattle.chip.specs.declared.progress.Counts.{Counts}
 use Rattle.frames.specs.Frames.{hex_text}
 use Rattle.store.specs.declared.answer.Look.{Look}
-use Rattle.store.specs.declared.answer.Look.TheVariants as L
+use Rattle.store.specs.declared.answer.Refusal.{Refusal}
 use Rattle.store.specs.declared.answer.Report.{Report}
-use Rattle.store.specs.declared.answer.Report.TheVariants as R
+use Rattle.store.specs.Answers.{number_of}
 
 -- a line feed
 abbrev pub feed : List ℕ
@@ -29,18 +29,18 @@ abbrev pub found_line : ℕ → ℕ → List ℕ
 found_line value pages = hex_text 0 2 ++ (hex_text value 8 ++ short_line pages)
 
 -- a value and the pages read when found, 04 and the pages read when absent, a refusal alone
-abbrev pub look_line : Look → List ℕ
-look_line (L.Found value pages) = found_line value pages
-look_line (L.Absent pages) = hex_text 4 2 ++ short_line pages
-look_line L.Off = short_line 2
-look_line L.Size = short_line 1
+abbrev pub value_line : Option ℕ → ℕ → List ℕ
+value_line (Some value) pages = found_line value pages
+value_line None pages = hex_text 4 2 ++ short_line pages
+
+abbrev pub look_line : Result Look Refusal → List ℕ
+look_line (Ok l) = value_line l.value l.pages
+look_line (Err e) = short_line (number_of e)
 
 -- the free pages, the first of them and the erases of the block, or a refusal
-abbrev pub report_line : Report → List ℕ
-report_line (R.Free count first erases) = hex_text 0 2 ++ (hex_text count 2 ++ (hex_text first 2 ++ (hex_text erases 16 ++ feed)))
-report_line R.Off = short_line 2
-report_line R.Size = short_line 1
-report_line R.Absent = short_line 4
+abbrev pub report_line : Result Report Refusal → List ℕ
+report_line (Ok r) = hex_text 0 2 ++ (hex_text r.free 2 ++ (hex_text r.first 2 ++ (hex_text r.erases 16 ++ feed)))
+report_line (Err e) = short_line (number_of e)
 
 -- bytes, two digits each
 abbrev pub bytes_text : List ℕ → List ℕ

@@ -6,7 +6,7 @@ ghost use Rattle.orders.specs.Noises.{next_number, noise_byte, noise_of};
 fn next_number(x: u32) -> u32
     ensures { result ≡ next_number x }
 {
-    ((1664525 * (x as u64) + 1013904223) % 4294967296) as u32
+    x.wrapping_mul(1664525).wrapping_add(1013904223)
 }
 
 // The byte that a number gives: its bits 16 to 23.
@@ -21,10 +21,8 @@ pub fn fill(s: &mut [u8], seed: u32)
     ensures { s.new ≡ noise_of seed (length s.old) }
 {
     let mut x = seed;
-    let mut i = 0;
-    while i < s.len() {
+    for byte in s.iter_mut() {
         x = next_number(x);
-        s[i] = noise_byte(x);
-        i += 1;
+        *byte = noise_byte(x);
     }
 }

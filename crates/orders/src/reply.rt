@@ -7,20 +7,15 @@ ghost use Rattle.orders.specs.ReplyCode.{Adds};
 
 use chip::progress::Counts;
 use frames::text;
-use store::answer::{Look, Report};
+use store::answer::{Look, Refusal, Report};
 
 // The lowest `digits` digits of a number.
-fn put_number(out: &mut [u8], at: usize, n: u32, digits: u32) -> usize
+fn put_number(out: &mut [u8], at: usize, n: u32, digits: usize) -> usize
     requires { (at + digits ≤ length out.old) × (digits ≤ 8) }
     ensures { Adds out.old at (hex_text n digits) out.new result }
 {
-    let mut end = at;
-    let mut left = digits;
-    while left > 0 {
-        left -= 1;
-        out[end] = text::digit_text((n >> (4 * left)) % 16);
-        end += 1;
-    }
+    let end = at + digits;
+    text::put_hex(&mut out[at..end], n);
     end
 }
 
@@ -40,7 +35,7 @@ fn put_feed(out: &mut [u8], at: usize) -> usize
     requires { at + 1 ≤ length out.old }
     ensures { Adds out.old at (10 ∷ []) out.new result }
 {
-    out[at] = 10;
+    out[at] = b'\n';
     at + 1
 }
 
@@ -86,45 +81,37 @@ fn put_found(out: &mut [u8], at: usize, value: u32, pages: u32) -> usize
 }
 
 // What a look up answers.
-pub fn put_look(out: &mut [u8], at: usize, look: Look) -> usize
+pub fn put_look(out: &mut [u8], at: usize, look: Result<Look, Refusal>) -> usize
     requires { at + 13 ≤ length out.old }
     ensures { Adds out.old at (look_line look) out.new result }
 {
     match look {
-        Look::Found(value, pages) => put_found(out, at, value, pages),
-        Look::Absent(pages) => {
-            let a = put_number(out, at, 4, 2);
-            put_short(out, a, pages)
-        }
-        Look::Off => put_short(out, at, 2),
-        Look::Size => put_short(out, at, 1),
+        Ok(l) => match l.value {
+            Some(value) => put_found(out, at, value, l.pages),
+            None => {
+                let a = put_number(out, at, u32::from(Refusal::Absent), 2);
+                put_short(out, a, l.pages)
+            }
+        },
+        Err(refusal) => put_short(out, at, u32::from(refusal)),
     }
 }
 
 // What a block report answers.
-pub fn put_report(out: &mut [u8], at: usize, report: Report) -> usize
+pub fn put_report(out: &mut [u8], at: usize, report: Result<Report, Refusal>) -> usize
     requires { at + 23 ≤ length out.old }
     ensures { Adds out.old at (report_line report) out.new result }
 {
     match report {
-        Report::Free(count, first, erases) => {
+        Ok(r) => {
             let a = put_number(out, at, 0, 2);
-            let b = put_number(out, a, count, 2);
-            let c = put_number(out, b, first, 2);
-            let d = put_wide(out, c, erases);
+            let b = put_number(out, a, r.free, 2);
+            let c = put_number(out, b, r.first, 2);
+            let d = put_wide(out, c, r.erases);
             put_feed(out, d)
         }
-        Report::Off => put_short(out, at, 2),
-        Report::Size => put_short(out, at, 1),
-        Report::Absent => put_short(out, at, 4),
+        Err(refusal) => put_short(out, at, u32::from(refusal)),
     }
-}
-
-// A byte as a number of 32 bits.
-fn widen(byte: u8) -> u32
-    ensures { result ≡ byte }
-{
-    byte as u32
 }
 
 // Bytes, two digits each.
@@ -133,10 +120,8 @@ fn put_bytes(out: &mut [u8], at: usize, bytes: &[u8]) -> usize
     ensures { Adds out.old at (bytes_text bytes.now) out.new result }
 {
     let mut end = at;
-    let mut i = 0;
-    while i < bytes.len() {
-        end = put_number(out, end, widen(bytes[i]), 2);
-        i += 1;
+    for byte in bytes {
+        end = put_number(out, end, u32::from(*byte), 2);
     }
     end
 }

@@ -2,33 +2,24 @@
 ghost use Rattle.std.specs.Prelude.{◌≡◌};
 ghost use Rattle.orders.specs.Sums.{bit_step, byte_step, sum_of};
 
-// A byte as a number of 32 bits.
-fn widen(byte: u8) -> u32
-    ensures { result ≡ byte }
-{
-    byte as u32
-}
-
 // The remainder after one bit, the lowest.
 fn bit_step(c: u32) -> u32
     ensures { result ≡ bit_step c }
 {
-    let half = c / 2;
     if c % 2 == 1 {
-        return half ^ 3988292384;
+        c / 2 ^ 0xEDB8_8320
+    } else {
+        c / 2
     }
-    half
 }
 
 // The remainder after the 8 bits of a byte.
 fn byte_step(c: u32, byte: u8) -> u32
     ensures { result ≡ byte_step c byte }
 {
-    let mut x = c ^ widen(byte);
-    let mut left: u32 = 8;
-    while left > 0 {
+    let mut x = c ^ u32::from(byte);
+    for _ in 0..8u32 {
         x = bit_step(x);
-        left -= 1;
     }
     x
 }
@@ -37,11 +28,5 @@ fn byte_step(c: u32, byte: u8) -> u32
 pub fn sum(s: &[u8]) -> u32
     ensures { result ≡ sum_of s.now }
 {
-    let mut c: u32 = 4294967295;
-    let mut i = 0;
-    while i < s.len() {
-        c = byte_step(c, s[i]);
-        i += 1;
-    }
-    c ^ 4294967295
+    s.iter().fold(u32::MAX, |c, byte| byte_step(c, *byte)) ^ u32::MAX
 }

@@ -1,20 +1,22 @@
 -- Filling pages on arrays: a node written anew where a page has room, and what stays of the forms. Assumes nothing.
 use mathlib.Core.Path.{◌≡◌, refl, sym, ap, ap₂, ◌∙◌}
-use mathlib.Core.Bool.{Bool, true, false, cond}
-use mathlib.Core.List.{List, [], ◌∷◌}
+use mathlib.Core.Bool.{Bool, true, false}
+use mathlib.Core.List.{List, [], ◌∷◌, foldl}
 use Prim.Native.Nat.{ℕ, suc, ◌+◌, ◌-◌, ◌≤◌, ◌<◌}
 use native.Mathlib.Omega.{arith}
 use lib.Dec.{eqb, leb}
 use lib.ListN.{get_or, length, length-set, set, take}
 use lib.Seq.{get_or-set_other, get_or-set_same, get_or-take, length-take-le}
-use borrow.Author.Tests.{eqb-false, eqb-true, eq-eqb, ne_eqb, le-leb, lt-leb, lt-ltb}
+use borrow.Author.Tests.{eqb-false, eqb-true, ne_eqb, le-leb, lt-ltb}
+use Rattle.std.proofs.Common.{Some, None}
 use Rattle.lists.specs.Lists.{any, first, modify}
 use Rattle.lists.proofs.Tests.{cases}
+use Rattle.journal.specs.Plan.{count_from}
 use Rattle.journal.specs.Admissible.{in_page}
-use Rattle.journal.specs.Packing.{Packing, assign, changed_at, fill_node, widen_node, delta_packing, packed, widened, filled}
+use Rattle.journal.specs.Packing.{Packing, assign, changed_at, fill_node, widen_node, widened, filled}
 use Rattle.journal.specs.PlanCode.{target_in, is_marked, packing_of, sizes_in}
-use Rattle.packing.specs.PackingCode.{fills_delta, KeepsForms, Short, Ready, FirstFit, Packs, FillsPages, PacksDelta}
-use Rattle.packing.proofs.PackingArrays.{assign_arrays, assign_old, changed_set, modify_take, placed_set, target_beyond, target_none, target_some}
+use Rattle.packing.specs.PackingCode.{fills_delta, KeepsForms, Short, Ready, FirstFit, FillsPages}
+use Rattle.packing.proofs.PackingArrays.{fold_next, fold_done, assign_arrays, assign_old, changed_set, modify_take, placed_set, target_none, target_some}
 
 -- ---- forms
 pub keeps_same : {xs : List ℕ} → KeepsForms xs xs
@@ -34,10 +36,6 @@ keeps_both k l = record { form = λ n d. l.form n d ∙ k.form n (λ e. d (l.for
 pub keeps_short : (limit : ℕ) (wholes parts : List ℕ) {xs ys : List ℕ} → KeepsForms xs ys → Short limit wholes parts xs → Short limit wholes parts ys
 keeps_short limit wholes parts k s n l d = s n l (λ e. d (k.form n d ∙ e))
 
-keeps_bits : {xs ys : List ℕ} → KeepsForms xs ys → (n : ℕ) → get_or xs n 0 ≤ 1 → get_or ys n 0 ≤ 1
-keeps_bits {xs} {ys} k n l =
-    cases (eqb (get_or ys n 0) 1) (λ t. omega (arith, eqb-true (get_or ys n 0) 1 t)) (λ t. omega (arith, k.form n (eqb-false (get_or ys n 0) 1 t)))
-
 -- ---- some page has room
 module _ (p : ℕ → Bool) where
   any_yes : (xs : List ℕ) → first p xs < length xs → any p xs ≡ true
@@ -49,10 +47,6 @@ module _ (p : ℕ → Bool) where
   any_no (x ∷ xs) l =
       cases (p x) (λ t. let m : suc (length xs) ≤ 0 = rw t at l in absurd (omega arith))
       (λ t. let m : suc (length xs) ≤ suc (first p xs) = rw t at l in rw t (any_no xs (omega arith)))
-
-cond_same : {A : Type 0} (b : Bool) (x : A) → cond b x x ≡ x
-cond_same true x = refl
-cond_same false x = refl
 
 -- ---- one node
 module _ (n count : ℕ) (rooms targets forms : List ℕ) (ready : Ready count rooms targets forms) (on : n < 256) (few : count ≤ 512) where
@@ -71,28 +65,21 @@ module _ (n count : ℕ) (rooms targets forms : List ℕ) (ready : Ready count r
 
   -- ---- filled in
   module _ (wholes : List ℕ) where
-    pub fills_had : (get_or targets n 0 ≡ 65535 → ⊥) → FillsPages (λ (units : ℕ). fill_node (sizes_in units wholes []) (packing_of (take count rooms) targets forms) n) count forms rooms targets forms
-    fills_had d = fills_same (λ units. rw (target_some n targets inside d))
-
-    pub fills_none : get_or targets n 0 ≡ 65535 → get_or wholes n 0 ≡ 0
+    pub fills_full : get_or targets n 0 ≡ 65535 → 0 < get_or wholes n 0 → FirstFit (take count rooms) (get_or wholes n 0) None
         → FillsPages (λ (units : ℕ). fill_node (sizes_in units wholes []) (packing_of (take count rooms) targets forms) n) count forms rooms targets forms
-    fills_none e z = fills_same (λ units. rw (target_none n targets inside e, z))
-
-    pub fills_full : get_or targets n 0 ≡ 65535 → 0 < get_or wholes n 0 → (p : ℕ) → FirstFit rooms count (get_or wholes n 0) p → count ≤ p
-        → FillsPages (λ (units : ℕ). fill_node (sizes_in units wholes []) (packing_of (take count rooms) targets forms) n) count forms rooms targets forms
-    fills_full e z p f h =
-        let no : any (leb (get_or wholes n 0)) (take count rooms) ≡ false = any_no (leb (get_or wholes n 0)) (take count rooms) (omega (arith, f.is, wide)) in
+    fills_full e z f =
+        let no : any (leb (get_or wholes n 0)) (take count rooms) ≡ false = any_no (leb (get_or wholes n 0)) (take count rooms) (omega (arith, f.is)) in
         fills_same (λ units. rw (target_none n targets inside e, lt-ltb 0 (get_or wholes n 0) z, no))
 
-    pub fills_in : get_or targets n 0 ≡ 65535 → 0 < get_or wholes n 0 → (p : ℕ) → FirstFit rooms count (get_or wholes n 0) p → p < count
+    pub fills_in : get_or targets n 0 ≡ 65535 → 0 < get_or wholes n 0 → (p : ℕ) → FirstFit (take count rooms) (get_or wholes n 0) (Some p)
         → FillsPages (λ (units : ℕ). fill_node (sizes_in units wholes []) (packing_of (take count rooms) targets forms) n) count forms (set rooms p (get_or rooms p 0 - get_or wholes n 0)) (set targets n p) (set forms n 1)
-    fills_in e z p f h =
+    fills_in e z p f =
         let S = packing_of (take count rooms) targets forms in
-        let yes' : any (leb (get_or wholes n 0)) (take count rooms) ≡ true = any_yes (leb (get_or wholes n 0)) (take count rooms) (omega (arith, f.is, wide)) in
+        let yes' : any (leb (get_or wholes n 0)) (take count rooms) ≡ true = any_yes (leb (get_or wholes n 0)) (take count rooms) (rw f.is f.room.0) in
         record {
           is = λ units.
               let step : fill_node (sizes_in units wholes []) S n ≡ assign (sizes_in units wholes []) true n S = rw (target_none n targets inside e, lt-ltb 0 (get_or wholes n 0) z, yes') in
-              let a = assign_old units n (get_or wholes n 0) count rooms targets p f h (rw ready.pages few) in
+              let a = assign_old units n (get_or wholes n 0) count rooms targets p (rw ready.pages few) f in
               ap₂ (λ (rs ts : List ℕ). packing_of rs ts (set forms n 1)) a.free a.target
               ∙ assign_arrays (sizes_in units wholes []) true n (take count rooms) targets forms (set forms n 1) inside (omega (arith, a.page)) marked
               ∙ sym step;
@@ -101,30 +88,16 @@ module _ (n count : ℕ) (rooms targets forms : List ℕ) (ready : Ready count r
                 pages = simp length-set ready.pages;
                 nodes = simp length-set ready.nodes;
                 marks = simp length-set ready.marks;
-                placed = placed_set count count n p targets inside (omega arith) h ready.placed;
+                placed = placed_set count count n p targets inside (omega arith) (omega (arith, f.room.0, wide)) ready.placed;
               };
           keeps = keeps_set forms n (rw ready.marks on);
         }
 
   -- ---- widened
   module _ (wholes parts : List ℕ) where
-    pub widens_none : count ≤ get_or targets n 0 → FillsPages (λ (units : ℕ). widen_node (sizes_in units wholes parts) (packing_of (take count rooms) targets forms) n) count forms rooms targets forms
-    widens_none h = fills_same (λ units. rw (target_beyond n targets inside count ready.placed h) (sym (cond_same (is_marked forms n) (packing_of (take count rooms) targets forms))))
-
-    pub widens_anew : get_or forms n 0 ≡ 1 → FillsPages (λ (units : ℕ). widen_node (sizes_in units wholes parts) (packing_of (take count rooms) targets forms) n) count forms rooms targets forms
-    widens_anew e = fills_same (λ units. rw (eq-eqb (get_or forms n 0) 1 e))
-
     module _ (low : get_or targets n 0 < count) (d : get_or forms n 0 ≡ 1 → ⊥) (more : ℕ) (is : more ≡ get_or wholes n 0 - get_or parts n 0) where
       in_page_lem : target_in targets n ≡ in_page (get_or targets n 0)
       in_page_lem = target_some n targets inside (λ e. omega arith)
-
-      pub widens_full : get_or rooms (get_or targets n 0) 0 < more
-          → FillsPages (λ (units : ℕ). widen_node (sizes_in units wholes parts) (packing_of (take count rooms) targets forms) n) count forms rooms targets forms
-      widens_full h =
-          let p = get_or targets n 0 in
-          let no : leb (get_or wholes n 0) (get_or parts n 0 + get_or (take count rooms) p 0) ≡ false =
-          lt-leb (get_or wholes n 0) (get_or parts n 0 + get_or (take count rooms) p 0) (omega (arith, get_or-take count rooms p 0 low)) in
-          fills_same (λ units. rw (ne_eqb (get_or forms n 0) 1 d, in_page_lem, no))
 
       pub widens_in : more ≤ get_or rooms (get_or targets n 0) 0 → get_or parts n 0 ≤ get_or wholes n 0
           → FillsPages (λ (units : ℕ). widen_node (sizes_in units wholes parts) (packing_of (take count rooms) targets forms) n)
@@ -148,6 +121,21 @@ module _ (n count : ℕ) (rooms targets forms : List ℕ) (ready : Ready count r
             keeps = keeps_set forms n (rw ready.marks on);
           }
 
+-- ---- a turn of a loop that fills, and its end
+module _ (step : ℕ → Packing → ℕ → Packing) (n limit count : ℕ) (rooms targets : List ℕ) {before forms : List ℕ} {end : ℕ → Packing}
+    (keeps : KeepsForms before forms)
+    (left : (units : ℕ) → foldl (step units) (packing_of (take count rooms) targets forms) (count_from n (limit - n)) ≡ end units) where
+  pub fill_turn : {rooms' targets' forms' : List ℕ} → n < limit
+      → FillsPages (λ (units : ℕ). step units (packing_of (take count rooms) targets forms) n) count forms rooms' targets' forms'
+      → Ready count rooms' targets' forms' × KeepsForms before forms'
+      × ((units : ℕ) → foldl (step units) (packing_of (take count rooms') targets' forms') (count_from (n + 1) (limit - (n + 1))) ≡ end units)
+  fill_turn h f =
+      (f.ready, keeps_both keeps f.keeps, λ units. fold_next (step units) n limit (packing_of (take count rooms) targets forms) (left units) h (f.is units))
+
+  pub fill_ends : {S : ℕ → Packing} → limit ≤ n → Ready count rooms targets forms → ((units : ℕ) → end units ≡ S units) → FillsPages S count before rooms targets forms
+  fill_ends h r e =
+      record { is = λ units. fold_done (step units) n limit (packing_of (take count rooms) targets forms) (left units) h ∙ e units; ready = r; keeps = keeps }
+
 -- ---- the four passes, behind the packing
 module _ (wholes parts lens olds : List ℕ) (limit : ℕ) {count : ℕ} {forms forms₁ : List ℕ} where
   pub fills_delta_lem : (S : Packing) {rooms₁ rooms₂ rooms₃ rooms₄ targets₁ targets₂ forms₂ forms₃ forms₄ : List ℕ}
@@ -166,15 +154,4 @@ module _ (wholes parts lens olds : List ℕ) (limit : ℕ) {count : ℕ} {forms 
             (b.is units ∙ ap (filled (sizes_in units wholes []) (is_marked olds) limit) (a.is units)));
         ready = d.ready;
         keeps = keeps_both a.keeps (keeps_both b.keeps (keeps_both c.keeps d.keeps));
-      }
-
-  pub packs_delta : (units : ℕ) {most : ℕ} {rooms₁ rooms₂ targets₁ targets₂ : List ℕ}
-      → Packs (packed (sizes_in units wholes parts) (is_marked forms) limit) most count rooms₁ targets₁ forms
-      → FillsPages (λ (u : ℕ). fills_delta u wholes parts lens olds limit (packing_of (take count rooms₁) targets₁ forms)) count forms rooms₂ targets₂ forms₁
-      → PacksDelta (delta_packing (sizes_in units wholes parts) (is_marked forms) (λ (n : ℕ). get_or lens n 0) (is_marked olds) limit) most count forms rooms₂ targets₂ forms₁
-  packs_delta units p f =
-      record {
-        packs = record { is = f.is units ∙ ap (fills_delta units wholes parts lens olds limit) p.is; ready = f.ready; few = p.few };
-        keeps = f.keeps;
-        bits = keeps_bits f.keeps;
       }

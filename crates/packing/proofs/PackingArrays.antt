@@ -1,14 +1,18 @@
 -- Packing on arrays: a fold over some of the nodes is a loop over all with a test; a store in an array is a change of a function. Assumes nothing.
 use mathlib.Core.Path.{◌≡◌, refl, sym, ap, ap₂, ◌∙◌, fun_ext}
-use mathlib.Core.Bool.{Bool, true, false, cond, ◌||◌}
-use mathlib.Core.List.{List, [], ◌∷◌, ◌++◌, append-nil, foldl}
+use mathlib.Core.Bool.{Bool, true, false, cond}
+use mathlib.Core.List.{List, [], ◌∷◌, ◌++◌, foldl}
 use Prim.Native.Nat.{ℕ, zero, suc, ◌+◌, ◌-◌, ◌*◌, ◌≤◌, ◌<◌}
 use native.Mathlib.Numerals.{add-one}
 use native.Mathlib.Omega.{arith}
 use lib.Dec.{eqb, leb}
-use lib.ListN.{drop, drop_of_length-le, get_or, length, length-replicate, replicate, set, take}
-use lib.Seq.{drop-cons, get_or-set_other, get_or-set_same, get_or-take, length-take-le, take-set-lt, take-suc-set}
-use borrow.Author.Tests.{eqb-false, eqb-true, ne_eqb, le-leb, lt-leb, lt-ltb}
+use lib.ListN.{get_or, length, length-replicate, replicate, set, take}
+use lib.Seq.{get_or-set_other, get_or-set_same, get_or-take, length-take-le, take-set-lt, take-suc-set}
+use borrow.Author.Tests.{eqb-false, eqb-true, ne_eqb, le-leb, lt-leb}
+use Rattle.std.specs.List.{AllWithin, HoldsAt}
+use Rattle.std.specs.Option.{MatchOption, IfSome}
+use Rattle.std.proofs.Common.{Option, Some, None}
+use Rattle.std.proofs.lemmas.Iterator.{index_from_first}
 use Rattle.lists.specs.Lists.{filter, first, modify}
 use Rattle.lists.proofs.Tests.{cases}
 use Rattle.lists.proofs.Places.{get_d_default, get_d_same}
@@ -19,9 +23,6 @@ use Rattle.journal.specs.PlanCode.{target_of, target_in, is_marked, packing_of, 
 use Rattle.packing.specs.PackingCode.{pack_if, Placed, Ready, FirstFit, Assigns, Packs}
 
 -- ---- tests
-pub or_left : (a b : Bool) → a ≡ true → (a || b) ≡ true
-or_left a b e = rw e
-
 -- ---- a test in the loop
 pub fold_filter : {A : Type 0} (step : A → ℕ → A) (q : ℕ → Bool) (ns : List ℕ) (s : A)
     → foldl step s (filter q ns) ≡ foldl (λ (x : A) (n : ℕ). cond (q n) (step x n) x) s ns
@@ -44,9 +45,6 @@ fold_filter step q (n ∷ ns) s =
     skip_step t = rw t
 
 -- ---- a loop over the numbers below e: what is left to do at i
-pub fold_start : {A : Type 0} (step : A → ℕ → A) (e : ℕ) (s : A) → foldl step s (count_from 0 (e - 0)) ≡ foldl step s (count_from 0 e)
-fold_start step e s = let m : e - 0 ≡ e = omega arith in ap (λ (k : ℕ). foldl step s (count_from 0 k)) m
-
 module _ {A : Type 0} (step : A → ℕ → A) (i e : ℕ) (s : A) {end : A} (left : foldl step s (count_from i (e - i)) ≡ end) where
   pub fold_next : i < e → {s' : A} → s' ≡ step s i → foldl step s' (count_from (i + 1) (e - (i + 1))) ≡ end
   fold_next h q =
@@ -59,35 +57,22 @@ module _ {A : Type 0} (step : A → ℕ → A) (i e : ℕ) (s : A) {end : A} (le
   pub fold_done : e ≤ i → s ≡ end
   fold_done h = let m : e - i ≡ 0 = omega arith in sym (ap (λ (k : ℕ). foldl step s (count_from i k)) m) ∙ left
 
--- ---- all filled
-pub fill_done : (n v : ℕ) (d l : List ℕ) → l ≡ replicate n v ++ drop n d → n ≤ length d → length d ≤ n → l ≡ replicate (length d) v
-fill_done n v d l e h k =
-    let q : n ≡ length d = omega arith in
-    e ∙ ap₂ (λ (i : ℕ) (r : List ℕ). replicate i v ++ r) q (drop_of_length-le d {i = n} k) ∙ append-nil (replicate (length d) v)
-
--- ---- the first page that has room: what is left to look at from i on
-module _ (rooms : List ℕ) (count size i : ℕ) (long : count ≤ length rooms) (left : i + first (leb size) (drop i (take count rooms)) ≡ first (leb size) (take count rooms)) where
-  here : i < count → drop i (take count rooms) ≡ get_or rooms i 0 ∷ drop (suc i) (take count rooms)
-  here h =
-      drop-cons (take count rooms) i 0 (rw (length-take-le count rooms long) h)
-      ∙ ap (λ (x : ℕ). x ∷ drop (suc i) (take count rooms)) (get_or-take count rooms i 0 h)
-
-  pub first_next : i < count → get_or rooms i 0 < size → i + 1 + first (leb size) (drop (i + 1) (take count rooms)) ≡ first (leb size) (take count rooms)
-  first_next h l =
-      let q : first (leb size) (drop i (take count rooms)) ≡ suc (first (leb size) (drop (suc i) (take count rooms))) =
-      ap (first (leb size)) (here h) ∙ rw (lt-leb size (get_or rooms i 0) l) in
-      rw add-one (omega (arith, q, left))
-
-  pub first_found : i < count → size ≤ get_or rooms i 0 → FirstFit rooms count size i
-  first_found h l =
-      let q : first (leb size) (drop i (take count rooms)) ≡ 0 = ap (first (leb size)) (here h) ∙ rw (le-leb size (get_or rooms i 0) l) in
-      record { is = omega (arith, q, left); low = omega arith; room = λ k. l }
-
-  pub first_none : i ≤ count → count ≤ i → FirstFit rooms count size i
-  first_none l h =
-      let q : first (leb size) (drop i (take count rooms)) ≡ 0 =
-      ap (first (leb size)) (drop_of_length-le (take count rooms) {i = i} (rw (length-take-le count rooms long) h)) in
-      record { is = omega (arith, q, left); low = l; room = λ k. absurd (omega arith) }
+-- ---- the first page that has room, as a search of the pages finds it
+pub found_first : (rooms : List ℕ) (size : ℕ) (r : Option ℕ)
+    → MatchOption r (AllWithin (λ (x : ℕ). x < size) rooms 0 (length rooms)) (λ i. (i < length rooms) × HoldsAt (λ (x : ℕ). size ≤ x) rooms i × AllWithin (λ (x : ℕ). x < size) rooms 0 i)
+    → FirstFit rooms size r
+found_first rooms size r m =
+    record {
+      is = index_from_first (first (leb size)) (λ (x : ℕ). size ≤ x) (λ (x : ℕ). x < size) refl (λ x xs h. rw (le-leb size x h))
+          (λ x xs h. rw (lt-leb size x h) (sym (add-one (first (leb size) xs)))) rooms r m;
+      room = room r m;
+    }
+  where
+    room : (r : Option ℕ)
+        → MatchOption r (AllWithin (λ (x : ℕ). x < size) rooms 0 (length rooms)) (λ i. (i < length rooms) × HoldsAt (λ (x : ℕ). size ≤ x) rooms i × AllWithin (λ (x : ℕ). x < size) rooms 0 i)
+        → IfSome r (λ p. (p < length rooms) × (size ≤ get_or rooms p 0))
+    room None m = tt
+    room (Some p) m = (m.0, m.1 0)
 
 -- ---- first fit: one number altered, or one more
 module _ (units s : ℕ) where
@@ -116,33 +101,36 @@ modify_take f n count xs h l =
     ∙ ap (λ (x : ℕ). set (take count xs) n (f x)) (get_or-take count xs n 0 h)
     ∙ sym (take-set-lt count xs n (f (get_or xs n 0)) h)
 
-module _ (units n size count : ℕ) (rooms targets : List ℕ) (p : ℕ) (fits : FirstFit rooms count size p) where
-  -- the page has room
-  pub assign_old : p < count → count ≤ length rooms → Assigns units n size count rooms targets count (set rooms p (get_or rooms p 0 - size)) (set targets n p)
-  assign_old h l =
-      let at : first (leb size) (take count rooms) < count = rw fits.is at h in
+module _ (units n size count : ℕ) (rooms targets : List ℕ) where
+  -- a page has room
+  pub assign_old : (p : ℕ) → count ≤ length rooms → FirstFit (take count rooms) size (Some p)
+      → Assigns units n size count rooms targets count (set rooms p (get_or rooms p 0 - size)) (set targets n p)
+  assign_old p l f =
+      let w = length-take-le count rooms l in
+      let low : p < count = omega (arith, f.room.0, w) in
       record {
         free =
-            sym (fit_old units size (take count rooms) (rw (length-take-le count rooms l) at)
-            ∙ ap (λ (k : ℕ). modify k (λ (r : ℕ). r - size) (take count rooms)) (sym fits.is)
-            ∙ modify_take (λ (r : ℕ). r - size) p count rooms h l);
-        target = ap (set targets n) fits.is;
-        page = at;
+            sym (fit_old units size (take count rooms) (rw f.is f.room.0)
+            ∙ ap (λ (k : ℕ). modify k (λ (r : ℕ). r - size) (take count rooms)) f.is
+            ∙ modify_take (λ (r : ℕ). r - size) p count rooms low l);
+        target = ap (set targets n) (sym f.is);
+        page = rw f.is low;
         low = omega arith;
         high = omega arith;
       }
 
   -- no page has room
-  pub assign_new : (v : ℕ) → v ≡ units - size → count ≤ p → count < length rooms → Assigns units n size count rooms targets (count + 1) (set rooms count v) (set targets n p)
-  assign_new v q h l =
-      let e = fits.is in
-      let m = fits.low in
+  pub assign_new : (v : ℕ) → v ≡ units - size → count < length rooms → FirstFit (take count rooms) size None
+      → Assigns units n size count rooms targets (count + 1) (set rooms count v) (set targets n count)
+  assign_new v q l f =
+      let w = length-take-le count rooms (omega arith) in
+      let e : first (leb size) (take count rooms) ≡ count = f.is ∙ w in
       record {
         free =
             ap (λ (k : ℕ). take k (set rooms count v)) (add-one count) ∙ take-suc-set rooms count v l
-            ∙ sym (fit_new units size (take count rooms) (rw (length-take-le count rooms (omega arith)) (omega arith)) ∙ ap (λ (x : ℕ). take count rooms ++ (x ∷ [])) (sym q));
-        target = ap (set targets n) e;
-        page = omega arith;
+            ∙ sym (fit_new units size (take count rooms) (omega (arith, e, w)) ∙ ap (λ (x : ℕ). take count rooms ++ (x ∷ [])) (sym q));
+        target = ap (set targets n) (sym e);
+        page = omega (arith, e);
         low = omega arith;
         high = omega arith;
       }
@@ -154,9 +142,6 @@ changed_set h xs n x d l =
     fun_ext (λ m. cases (eqb m n)
     (λ t. let e = eqb-true m n t in rw (t, e, get_or-set_same xs n x d l))
     (λ t. rw (t, get_or-set_other xs n m x d (eqb-false m n t))))
-
-changed_self : {A : Type 0} (n : ℕ) (f : ℕ → A) → changed_at n (f n) f ≡ f
-changed_self n f = fun_ext (λ m. cases (eqb m n) (λ t. rw t (ap f (sym (eqb-true m n t)))) (λ t. rw t))
 
 -- a node put into a page
 pub assign_arrays : (z : Sizes) (a : Bool) (n : ℕ) (rooms targets forms forms' : List ℕ) → n < length targets
@@ -187,53 +172,6 @@ module _ (n : ℕ) (targets : List ℕ) (on : n < length targets) where
 
   pub target_some : (get_or targets n 0 ≡ 65535 → ⊥) → target_in targets n ≡ in_page (get_or targets n 0)
   target_some d = ap target_of (sym target_at) ∙ rw (ne_eqb (get_or targets n 0) 65535 d)
-
-  -- no page where it is not below count
-  pub target_beyond : (count : ℕ) → Placed count targets → count ≤ get_or targets n 0 → target_in targets n ≡ unwritten
-  target_beyond count k h =
-      cases (eqb (get_or targets n 65535) 65535) (λ t. rw t)
-      (λ t. let l = k n (eqb-false (get_or targets n 65535) 65535 t) in absurd (omega (arith, target_at)))
-
--- ---- a node packed
-module _ (units : ℕ) (wholes parts : List ℕ) (n count : ℕ) (rooms targets forms : List ℕ) (ready : Ready count rooms targets forms) (on : n < 256) where
-  inside : n < length targets
-  inside = rw ready.nodes on
-
-  -- nothing to do
-  packs_same : packing_of (take count rooms) targets forms ≡ pack_node (sizes_in units wholes parts) (packing_of (take count rooms) targets forms) n
-      → Packs (pack_node (sizes_in units wholes parts) (packing_of (take count rooms) targets forms) n) (count + 1) count rooms targets forms
-  packs_same e = record { is = e; ready = ready; few = omega arith }
-
-  pub packs_had : (get_or targets n 0 ≡ 65535 → ⊥) → Packs (pack_node (sizes_in units wholes parts) (packing_of (take count rooms) targets forms) n) (count + 1) count rooms targets forms
-  packs_had d = packs_same (rw (target_some n targets inside d))
-
-  pub packs_none : get_or targets n 0 ≡ 65535 → (size : ℕ) → size ≡ size_of (sizes_in units wholes parts) (is_marked forms n) n → size ≡ 0
-      → Packs (pack_node (sizes_in units wholes parts) (packing_of (take count rooms) targets forms) n) (count + 1) count rooms targets forms
-  packs_none e size q z = packs_same (rw (target_none n targets inside e, sym q ∙ z))
-
-  pub packs_assigned : {size r : ℕ} {rooms' targets' : List ℕ} → get_or targets n 0 ≡ 65535 → count < 512 → size ≡ size_of (sizes_in units wholes parts) (is_marked forms n) n → 0 < size
-      → length rooms' ≡ length rooms → length targets' ≡ length targets → Assigns units n size count rooms targets r rooms' targets'
-      → Packs (pack_node (sizes_in units wholes parts) (packing_of (take count rooms) targets forms) n) (count + 1) r rooms' targets' forms
-  packs_assigned {size} {r} {rooms'} {targets'} e low q some lr lt a =
-      let s = size_of (sizes_in units wholes parts) (is_marked forms n) n in
-      let S = packing_of (take count rooms) targets forms in
-      let b : Assigns units n s count rooms targets r rooms' targets' = rw q at a in
-      let t : 0 < s = rw q at some in
-      let step : pack_node (sizes_in units wholes parts) S n ≡ assign (sizes_in units wholes parts) (is_marked forms n) n S = rw (target_none n targets inside e, lt-ltb 0 s t) in
-      record {
-        is =
-            ap₂ (λ (rs ts : List ℕ). packing_of rs ts forms) b.free b.target
-            ∙ assign_arrays (sizes_in units wholes parts) (is_marked forms n) n (take count rooms) targets forms forms inside (omega (arith, b.page, b.high)) (changed_self n (is_marked forms))
-            ∙ sym step;
-        ready =
-            record {
-              pages = lr ∙ ready.pages;
-              nodes = lt ∙ ready.nodes;
-              marks = ready.marks;
-              placed = rw b.target (placed_set count r n (first (leb s) (take count rooms)) targets inside b.low b.page ready.placed);
-            };
-        few = b.high;
-      }
 
 -- ---- the two passes
 -- no node has a page

@@ -1,5 +1,5 @@
 -- How the code packs nodes into pages of `units` units: free units of 512 pages, for each of 256 nodes its page (65,535 for none) and its form (1 for anew).
-use Rattle.std.specs.Prelude.{◌≡◌, Bool, cond, ◌||◌, List, [], ℕ, ◌+◌, ◌<◌, ◌≤◌, eqb, leb, get_or, length, set, take}
+use Rattle.std.specs.Prelude.{◌≡◌, Bool, cond, ◌||◌, IfSome, List, [], ℕ, ◌+◌, ◌<◌, ◌≤◌, Option, eqb, leb, get_or, length, set, take, unwrap_or}
 use Rattle.lists.specs.Lists.{first}
 use Rattle.journal.specs.Packing.{Packing, fit, pack_node, fill_node, widen_node, filled, widened}
 use Rattle.journal.specs.PlanCode.{is_marked, packing_of, sizes_in}
@@ -43,11 +43,10 @@ pub record Ready (count : ℕ) (rooms targets forms : List ℕ) : Type 0 where
   pub placed : Placed count targets
 
 -- ---- what the functions answer
--- the first of the first count pages that has room for size units
-pub record FirstFit (rooms : List ℕ) (count size r : ℕ) : Type 0 where
-  pub is : r ≡ first (leb size) (take count rooms)
-  pub low : r ≤ count
-  pub room : r < count → size ≤ get_or rooms r 0
+-- the first page that has room for size units
+pub record FirstFit (rooms : List ℕ) (size : ℕ) (r : Option ℕ) : Type 0 where
+  pub is : first (leb size) rooms ≡ unwrap_or r (length rooms)
+  pub room : IfSome r (λ p. (p < length rooms) × (size ≤ get_or rooms p 0))
 
 -- size units of node n put into that page, else into a new one of `units` units
 pub record Assigns (units n size count : ℕ) (rooms targets : List ℕ) (r : ℕ) (rooms' targets' : List ℕ) : Type 0 where

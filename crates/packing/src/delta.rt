@@ -30,31 +30,8 @@ fn fill_pages(
     widen::widen_all(1, lens, limit, wholes, parts, forms, targets, rooms, count);
 }
 
-// The packing of a delta, with the arrays as slices.
-fn delta_in(
-    units: u32,
-    limit: u32,
-    wholes: &[u32],
-    parts: &[u32],
-    lens: &[u32],
-    olds: &[u32],
-    forms: &mut [u32],
-    targets: &mut [u32],
-    rooms: &mut [u32],
-) -> usize
-    requires { (limit ≤ 256) × (length wholes.now ≡ 256) × (length parts.now ≡ 256) × (length lens.now ≡ 256) × (length olds.now ≡ 256)
-        × (length forms.old ≡ 256) × (length targets.old ≡ 256) × (length rooms.old ≡ 512) × Short limit wholes.now parts.now forms.old }
-    ensures { PacksDelta (delta_packing (sizes_in units wholes.now parts.now) (is_marked forms.old) (λ (n : ℕ). get_or lens.now n 0) (is_marked olds.now) limit)
-        (2 * limit) result forms.old rooms.new targets.new forms.new }
-{
-    let count = pack::pack_in(units, limit, wholes, parts, forms, targets, rooms);
-    fill_pages(
-        limit, wholes, parts, lens, olds, forms, targets, rooms, count,
-    );
-    count
-}
-
 // The pages of a delta: their number, the free units of each, the page of each node, and in `forms` the nodes that are written anew.
+// No heap: `rooms` has a fixed size, and the number of pages goes beside it.
 pub fn pack_delta(
     units: u32,
     limit: u32,
@@ -70,7 +47,9 @@ pub fn pack_delta(
     ensures { PacksDelta (delta_packing (sizes_in units wholes.now parts.now) (is_marked forms.old) (λ (n : ℕ). get_or lens.now n 0) (is_marked olds.now) limit)
         (2 * limit) result forms.old rooms.new targets.new forms.new }
 {
-    delta_in(
-        units, limit, wholes, parts, lens, olds, forms, targets, rooms,
-    )
+    let count = pack::pack_nodes(units, limit, wholes, parts, forms, targets, rooms);
+    fill_pages(
+        limit, wholes, parts, lens, olds, forms, targets, rooms, count,
+    );
+    count
 }

@@ -1,5 +1,5 @@
 // Nodes without a page filled in: each is written anew where a page has room.
-ghost use Rattle.std.specs.Prelude.{◌≡◌, cond, [], ℕ, ◌<◌, ◌≤◌, length, take};
+ghost use Rattle.std.specs.Prelude.{◌≡◌, [], ℕ, ◌<◌, ◌≤◌, length, take};
 ghost use Rattle.journal.specs.Packing.{fill_node, filled};
 ghost use Rattle.journal.specs.PlanCode.{is_marked, packing_of, sizes_in};
 ghost use Rattle.packing.specs.PackingCode.{Ready, FillsPages};
@@ -21,37 +21,13 @@ fn fill_node(
         count forms.old rooms.new targets.new forms.new }
 {
     let size = wholes[n];
-    if targets[n] != NONE {
+    if targets[n] != NONE || size == 0 {
         return;
     }
-    if size == 0 {
-        return;
-    }
-    let page = fit::first_fit(rooms, count, size);
-    if page < count {
-        rooms[page] = rooms[page] - size;
+    if let Some(page) = fit::first_fit(&rooms[..count], size) {
+        rooms[page] -= size;
         targets[n] = page as u32;
         forms[n] = 1;
-    }
-}
-
-// The same where `here` says so.
-fn fill_if(
-    here: bool,
-    n: usize,
-    wholes: &[u32],
-    forms: &mut [u32],
-    targets: &mut [u32],
-    rooms: &mut [u32],
-    count: usize,
-)
-    requires { (length wholes.now ≡ 256) × (n < 256) × (count ≤ 512) × Ready count rooms.old targets.old forms.old }
-    ensures { FillsPages (λ (units : ℕ). cond here (fill_node (sizes_in units wholes.now []) (packing_of (take count rooms.old) targets.old forms.old) n)
-        (packing_of (take count rooms.old) targets.old forms.old))
-        count forms.old rooms.new targets.new forms.new }
-{
-    if here {
-        fill_node(n, wholes, forms, targets, rooms, count);
     }
 }
 
@@ -70,10 +46,9 @@ pub fn fill_all(
         (packing_of (take count rooms.old) targets.old forms.old))
         count forms.old rooms.new targets.new forms.new }
 {
-    let end = limit as usize;
-    let mut n = 0;
-    while n < end {
-        fill_if(olds[n] == 1, n, wholes, forms, targets, rooms, count);
-        n += 1;
+    for n in 0..limit as usize {
+        if olds[n] == 1 {
+            fill_node(n, wholes, forms, targets, rooms, count);
+        }
     }
 }

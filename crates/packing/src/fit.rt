@@ -1,31 +1,17 @@
 // First fit: the units of a node go into the first page that has room, else into a new one.
-ghost use Rattle.std.specs.Prelude.{◌≡◌, cond, ◌-◌, ◌<◌, ◌≤◌, get_or, length};
+ghost use Rattle.std.specs.Prelude.{◌≡◌, cond, ◌-◌, ◌<◌, get_or, length};
 ghost use Rattle.journal.specs.PlanCode.{is_marked};
 ghost use Rattle.packing.specs.PackingCode.{FirstFit, Assigns};
 
-// The page of a node that has none.
+// The page of a node that has none. No Option: the pages of nodes are an array of words that `plan`, `execution` and `renewal` read
+// (docs/DECISIONS.md, 63).
 pub const NONE: u32 = 65535;
 
-// By how much `a` exceeds `b`, 0 where it does not.
-pub fn excess(a: u32, b: u32) -> u32
-    ensures { result ≡ a - b }
+// The first page that has room for `size` units.
+pub fn first_fit(rooms: &[u32], size: u32) -> Option<usize>
+    ensures { FirstFit rooms.now size result }
 {
-    if a < b { 0 } else { a - b }
-}
-
-// The first of the first `count` pages that has room for `size` units; `count` where none has.
-pub fn first_fit(rooms: &[u32], count: usize, size: u32) -> usize
-    requires { count ≤ length rooms.now }
-    ensures { FirstFit rooms.now count size result }
-{
-    let mut i = 0;
-    while i < count {
-        if size <= rooms[i] {
-            return i;
-        }
-        i += 1;
-    }
-    i
+    rooms.iter().position(|room| size <= *room)
 }
 
 // The units that are written of a node: all where it is written anew, else its own.
@@ -48,12 +34,16 @@ pub fn assign(
     requires { (n < length targets.old) × (count < length rooms.old) × (length rooms.old ≡ 512) }
     ensures { Assigns units n size count rooms.old targets.old result rooms.new targets.new }
 {
-    let page = first_fit(rooms, count, size);
-    targets[n] = page as u32;
-    if page < count {
-        rooms[page] = rooms[page] - size;
-        return count;
+    match first_fit(&rooms[..count], size) {
+        Some(page) => {
+            rooms[page] -= size;
+            targets[n] = page as u32;
+            count
+        }
+        None => {
+            rooms[count] = units.saturating_sub(size);
+            targets[n] = count as u32;
+            count + 1
+        }
     }
-    rooms[count] = excess(units, size);
-    count + 1
 }

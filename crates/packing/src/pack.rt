@@ -1,5 +1,5 @@
 // The nodes packed into pages of `units` units: those that are written anew, then the others.
-ghost use Rattle.std.specs.Prelude.{◌≡◌, ◌+◌, ◌*◌, ◌<◌, ◌≤◌, length, take, replicate};
+ghost use Rattle.std.specs.Prelude.{◌≡◌, ◌+◌, ◌*◌, ◌<◌, ◌≤◌, length, take};
 ghost use mathlib.Core.List.{foldl};
 ghost use Rattle.journal.specs.Plan.{count_from};
 ghost use Rattle.journal.specs.Packing.{pack_node, packed};
@@ -24,41 +24,15 @@ fn pack_node(
     ensures { Packs (pack_node (sizes_in units wholes.now parts.now) (packing_of (take count rooms.old) targets.old forms.now) n)
         (count + 1) result rooms.new targets.new forms.now }
 {
-    if targets[n] != NONE {
-        return count;
-    }
     let size = fit::size_of(n, wholes, parts, forms);
-    if size == 0 {
+    if targets[n] != NONE || size == 0 {
         return count;
     }
     fit::assign(units, n, size, targets, rooms, count)
 }
 
-// The same if its form is 1, or in any case.
-fn pack_if(
-    units: u32,
-    always: bool,
-    n: usize,
-    wholes: &[u32],
-    parts: &[u32],
-    forms: &[u32],
-    targets: &mut [u32],
-    rooms: &mut [u32],
-    count: usize,
-) -> usize
-    requires { (length wholes.now ≡ 256) × (length parts.now ≡ 256) × (n < 256) × (count < 512) × Ready count rooms.old targets.old forms.now }
-    ensures { Packs (pack_if units always wholes.now parts.now forms.now (packing_of (take count rooms.old) targets.old forms.now) n)
-        (count + 1) result rooms.new targets.new forms.now }
-{
-    if !always {
-        if forms[n] != 1 {
-            return count;
-        }
-    }
-    pack_node(units, n, wholes, parts, forms, targets, rooms, count)
-}
-
 // The nodes below `limit` packed, those whose form is 1 or all; the number of pages after them.
+// No closure in place of `always`: it would be asked in one test, and owe a promise on each node.
 fn pack_pass(
     units: u32,
     always: bool,
@@ -75,50 +49,17 @@ fn pack_pass(
         (packing_of (take count rooms.old) targets.old forms.now) (count_from 0 limit))
         (count + limit) result rooms.new targets.new forms.now }
 {
-    let end = limit as usize;
     let mut k = count;
-    let mut n = 0;
-    while n < end {
-        k = pack_if(units, always, n, wholes, parts, forms, targets, rooms, k);
-        n += 1;
+    for n in 0..limit as usize {
+        if always || forms[n] == 1 {
+            k = pack_node(units, n, wholes, parts, forms, targets, rooms, k);
+        }
     }
     k
 }
 
-// No node has a page.
-fn clear(targets: &mut [u32])
-    ensures { targets.new ≡ replicate (length targets.old) 65535 }
-{
-    let mut n = 0;
-    while n < targets.len() {
-        targets[n] = NONE;
-        n += 1;
-    }
-}
-
-// First fit, with the arrays as slices.
-pub fn pack_in(
-    units: u32,
-    limit: u32,
-    wholes: &[u32],
-    parts: &[u32],
-    forms: &[u32],
-    targets: &mut [u32],
-    rooms: &mut [u32],
-) -> usize
-    requires { (limit ≤ 256) × (length wholes.now ≡ 256) × (length parts.now ≡ 256) × (length forms.now ≡ 256)
-        × (length targets.old ≡ 256) × (length rooms.old ≡ 512) }
-    ensures { Packs (packed (sizes_in units wholes.now parts.now) (is_marked forms.now) limit)
-        (2 * limit) result rooms.new targets.new forms.now }
-{
-    clear(targets);
-    let marked = pack_pass(units, false, limit, wholes, parts, forms, targets, rooms, 0);
-    pack_pass(
-        units, true, limit, wholes, parts, forms, targets, rooms, marked,
-    )
-}
-
 // The pages of the nodes below `limit` in their forms, by first fit: their number, the free units of each, and the page of each node.
+// No heap: `rooms` has a fixed size, and the number of pages goes beside it.
 pub fn pack_nodes(
     units: u32,
     limit: u32,
@@ -132,5 +73,9 @@ pub fn pack_nodes(
     ensures { Packs (packed (sizes_in units wholes.now parts.now) (is_marked forms.now) limit)
         (2 * limit) result rooms.new targets.new forms.now }
 {
-    pack_in(units, limit, wholes, parts, forms, targets, rooms)
+    targets.fill(NONE);
+    let marked = pack_pass(units, false, limit, wholes, parts, forms, targets, rooms, 0);
+    pack_pass(
+        units, true, limit, wholes, parts, forms, targets, rooms, marked,
+    )
 }

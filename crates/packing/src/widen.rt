@@ -1,10 +1,8 @@
 // Nodes that are packed in their own units turned to whole nodes where their pages have room.
-ghost use Rattle.std.specs.Prelude.{◌≡◌, cond, ℕ, ◌<◌, ◌≤◌, get_or, length, take};
+ghost use Rattle.std.specs.Prelude.{◌≡◌, ℕ, ◌<◌, ◌≤◌, get_or, length, take};
 ghost use Rattle.journal.specs.Packing.{widen_node, widened};
 ghost use Rattle.journal.specs.PlanCode.{packing_of, sizes_in};
 ghost use Rattle.packing.specs.PackingCode.{Short, Ready, FillsPages};
-
-use crate::fit;
 
 // A node in its own units written anew if its page has room for the units that it lacks.
 fn widen_node(
@@ -22,38 +20,12 @@ fn widen_node(
         count forms.old rooms.new targets.now forms.new }
 {
     let page = targets[n] as usize;
-    if page >= count {
-        return;
-    }
-    if forms[n] == 1 {
-        return;
-    }
-    let more = fit::excess(wholes[n], parts[n]);
-    if more <= rooms[page] {
-        rooms[page] = rooms[page] - more;
-        forms[n] = 1;
-    }
-}
-
-// The same where `here` says so.
-fn widen_if(
-    here: bool,
-    n: usize,
-    wholes: &[u32],
-    parts: &[u32],
-    forms: &mut [u32],
-    targets: &[u32],
-    rooms: &mut [u32],
-    count: usize,
-)
-    requires { (length wholes.now ≡ 256) × (length parts.now ≡ 256) × (n < 256) × (count ≤ 512) × Ready count rooms.old targets.now forms.old
-        × ((get_or forms.old n 0 ≡ 1 → ⊥) → get_or parts.now n 0 ≤ get_or wholes.now n 0) }
-    ensures { FillsPages (λ (units : ℕ). cond here (widen_node (sizes_in units wholes.now parts.now) (packing_of (take count rooms.old) targets.now forms.old) n)
-        (packing_of (take count rooms.old) targets.now forms.old))
-        count forms.old rooms.new targets.now forms.new }
-{
-    if here {
-        widen_node(n, wholes, parts, forms, targets, rooms, count);
+    if page < count && forms[n] != 1 {
+        let more = wholes[n] - parts[n];
+        if more <= rooms[page] {
+            rooms[page] -= more;
+            forms[n] = 1;
+        }
     }
 }
 
@@ -75,10 +47,9 @@ pub fn widen_all(
         (packing_of (take count rooms.old) targets.now forms.old))
         count forms.old rooms.new targets.now forms.new }
 {
-    let end = limit as usize;
-    let mut n = 0;
-    while n < end {
-        widen_if(lens[n] == d, n, wholes, parts, forms, targets, rooms, count);
-        n += 1;
+    for n in 0..limit as usize {
+        if lens[n] == d {
+            widen_node(n, wholes, parts, forms, targets, rooms, count);
+        }
     }
 }

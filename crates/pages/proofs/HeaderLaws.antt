@@ -15,10 +15,8 @@ use Rattle.lists.proofs.Alls.{All-replicate, All-all}
 use Rattle.chip.specs.Geometry.{Geometry}
 use Rattle.chip.specs.Page.{is_free}
 use Rattle.pages.specs.declared.unit.Unit.{Unit}
-use Rattle.pages.specs.declared.unit.Decoded.TheVariants.{Good}
+use Rattle.std.proofs.Common.{Option, Some, None}
 use Rattle.pages.specs.declared.header.Head.{Head}
-use Rattle.pages.specs.declared.header.Header.{Header}
-use Rattle.pages.specs.declared.header.Header.TheVariants.{Obeys, Breaks}
 use Rattle.pages.specs.Units.{encode, decodes, Valid}
 use Rattle.pages.specs.Data.{head_of, obeys, header_of, head_bytes, laid, data_of}
 use Rattle.pages.proofs.UnitLaws.{word_back, half_back, byte_below, word_below, half_below, decodes_units}
@@ -83,11 +81,11 @@ head_bounds h = record { commit = word_below 0 h; index = byte_below 4 h; count 
 -- ---- the answers of read_header
 module _ (g : Geometry) (h : Head) (d : List ℕ) (e : h ≡ head_of d) where
   -- each rule is kept
-  pub kept : Own g h d → Obeys h ≡ header_of g d
+  pub kept : Own g h d → Some h ≡ header_of g d
   kept o = rw (e, is_obeys g d (subst (λ (x : Head). Own g x d) e o))
 
   -- a rule is broken
-  pub broken : (Own g h d → ⊥) → Breaks ≡ header_of g d
+  pub broken : (Own g h d → ⊥) → None ≡ header_of g d
   broken f = cases (obeys g d) (λ t. absurd (f (rw e (obeys_is g d t)))) (λ t. rw t)
 
 -- the test of the part from a on is the test of the rest
@@ -96,7 +94,7 @@ unfolding is_free
 rest_free d a t e = rw e (rw (take_all (length d - a) (drop a d) (omega (arith, length-drop a d))))
 
 -- the data area of the page x, as a part of it
-pub header_part : (g : Geometry) (x : List ℕ) (r : Header) → r ≡ header_of g (take (g.area - 0) x) → r ≡ header_of g (take g.area x)
+pub header_part : (g : Geometry) (x : List ℕ) (r : Option Head) → r ≡ header_of g (take (g.area - 0) x) → r ≡ header_of g (take g.area x)
 header_part g x r e = e ∙ ap (λ (n : ℕ). header_of g (take n x)) (sub-zero g.area)
 
 -- ---- the steps of lay_out: the bytes behind the units made 255, the units copied, the header copied
@@ -158,20 +156,20 @@ module _ (g : Geometry) (c i n k : ℕ) (units : List ℕ) where
 
 -- the units of a page that is laid out with them
 pub data_units : (g : Geometry) (limit c i n : ℕ) (us : List Unit) → All (Valid limit) us
-    → decodes limit (length us) (drop 8 (data_of g c i n us)) ≡ map Good us
+    → decodes limit (length us) (drop 8 (data_of g c i n us)) ≡ map Some us
 data_units g limit c i n us h =
     rw (laid_behind g c i n (length us) (flat encode us)) (decodes_units (replicate (g.area - (8 + 12 * length us)) 255) h)
 
 -- ---- a page's header
 -- a page that obeys its rules is read with its header, one that breaks a rule is not
-pub header_obeys : (g : Geometry) (h : Head) (d : List ℕ) → Obeys h ≡ header_of g d → (obeys g d ≡ true) × (h ≡ head_of d)
+pub header_obeys : (g : Geometry) (h : Head) (d : List ℕ) → Some h ≡ header_of g d → (obeys g d ≡ true) × (h ≡ head_of d)
 header_obeys g h d e =
     cases (obeys g d)
-    (λ t. let k : Obeys h ≡ Obeys (head_of d) = (rw t at e) in (t, cc))
-    (λ t. let k : Obeys h ≡ Breaks = (rw t at e) in let z : ◌≡◌ {A = ℕ} 0 1 = cc in absurd (omega arith))
+    (λ t. let k : Some h ≡ Some (head_of d) = (rw t at e) in (t, cc))
+    (λ t. let k : Some h ≡ None = (rw t at e) in let z : ◌≡◌ {A = ℕ} 0 1 = cc in absurd (omega arith))
 
-pub header_breaks : (g : Geometry) (d : List ℕ) → Breaks ≡ header_of g d → obeys g d ≡ false
+pub header_breaks : (g : Geometry) (d : List ℕ) → None ≡ header_of g d → obeys g d ≡ false
 header_breaks g d e =
     cases (obeys g d)
-    (λ t. let k : Breaks ≡ Obeys (head_of d) = (rw t at e) in let z : ◌≡◌ {A = ℕ} 0 1 = cc in absurd (omega arith))
+    (λ t. let k : None ≡ Some (head_of d) = (rw t at e) in let z : ◌≡◌ {A = ℕ} 0 1 = cc in absurd (omega arith))
     (λ t. t)

@@ -14,8 +14,7 @@ use Rattle.lists.proofs.Tests.{cases, same_or_not}
 use Rattle.pages.specs.declared.unit.Update.{Update}
 use Rattle.pages.specs.declared.unit.Update.TheVariants.{Insert, Delete, Reset}
 use Rattle.pages.specs.declared.unit.Unit.{Unit}
-use Rattle.pages.specs.declared.unit.Decoded.{Decoded}
-use Rattle.pages.specs.declared.unit.Decoded.TheVariants.{Good, Bad}
+use Rattle.std.proofs.Common.{Option, Some, None}
 use Rattle.pages.specs.Units.{half, word, good, is_reset_value, decode_kind, decode, bytes_of, encode_update, encode, ValidUpdate, Valid, decodes}
 
 -- ---- the value of a reset: a level, or the value that frees the node
@@ -38,12 +37,12 @@ value_below l h = ⊎_elim (λ (e : l ≡ 255). omega arith) (λ (k : l ≡ 255 
 -- ---- the answers of decode_unit
 module _ (limit : ℕ) (b : List ℕ) (n : ℕ) (z : get_or b 1 0 ≡ 0) (en : n ≡ half b 2) where
   -- a node number below limit: the kind decides
-  pub decoded : (k v : ℕ) (r : Decoded) → n < limit → k ≡ word b 4 → v ≡ word b 8 → r ≡ decode_kind n (get_or b 0 0) k v → r ≡ decode limit b
+  pub decoded : (k v : ℕ) (r : Option Unit) → n < limit → k ≡ word b 4 → v ≡ word b 8 → r ≡ decode_kind n (get_or b 0 0) k v → r ≡ decode limit b
   unfolding decode
   decoded k v r h ek ev er = er ∙ rw (ek, ev, eq-eqb (get_or b 1 0) 0 z, ← en, lt-ltb n limit h)
 
   -- a node number not below limit
-  pub above : limit ≤ n → Bad ≡ decode limit b
+  pub above : limit ≤ n → None ≡ decode limit b
   unfolding decode
   above h = rw (eq-eqb (get_or b 1 0) 0 z, ← en, le-ltb n limit h)
 
@@ -68,11 +67,11 @@ update_back limit n (Delete k) r h w = back limit 2 n k 0 r h w (omega arith)
 update_back limit n (Reset l) r h w = back limit 3 n 0 l r h (omega arith) (value_below l w) ∙ rw w
 
 -- the bytes of a unit, whatever stands behind them, and alone
-pub decode_front : (limit : ℕ) (u : Unit) (r : List ℕ) → Valid limit u → decode limit (encode u ++ r) ≡ Good u
+pub decode_front : (limit : ℕ) (u : Unit) (r : List ℕ) → Valid limit u → decode limit (encode u ++ r) ≡ Some u
 unfolding encode
 decode_front limit u r h = update_back limit u.node u.update r h.node h.update
 
-pub decode_encode : {limit : ℕ} {u : Unit} → Valid limit u → decode limit (encode u) ≡ Good u
+pub decode_encode : {limit : ℕ} {u : Unit} → Valid limit u → decode limit (encode u) ≡ Some u
 decode_encode {limit} {u} h = ap (decode limit) (sym (append-nil (encode u))) ∙ decode_front limit u [] h
 
 -- ---- a unit has one form
@@ -136,15 +135,15 @@ record Of (n kind k v : ℕ) (u : Unit) : Type 0 where
   update : k < 2 ^ 32 → v < 2 ^ 32 → ValidUpdate u.update
 
 -- a unit that was read is the one that stands there
-this : {n kind k v : ℕ} {u w : Unit} → Good w ≡ Good u → Of n kind k v w → Of n kind k v u
+this : {n kind k v : ℕ} {u w : Unit} → Some w ≡ Some u → Of n kind k v w → Of n kind k v u
 this {n} {kind} {k} {v} {u} {w} e h = let s : w ≡ u = cc in subst (Of n kind k v) s h
 
 -- bytes that are no unit are not read as one
-never : {Q : Type 0} {u : Unit} → Bad ≡ Good u → Q
+never : {Q : Type 0} {u : Unit} → None ≡ Some u → Q
 never e = let z : ◌≡◌ {A = ℕ} 0 1 = cc in absurd (omega arith)
 
 -- every answer of decode_kind that is a unit
-kind_of_lem : (n kind k v : ℕ) (u : Unit) → decode_kind n kind k v ≡ Good u → Of n kind k v u
+kind_of_lem : (n kind k v : ℕ) (u : Unit) → decode_kind n kind k v ≡ Some u → Of n kind k v u
 unfolding encode
 kind_of_lem n kind k v u e =
     cases (eqb kind 1)
@@ -170,7 +169,7 @@ pub record Told (limit : ℕ) (b : List ℕ) (u : Unit) : Type 0 where
   pub reset : ValidReset u.update
   pub update : word b 4 < 2 ^ 32 → word b 8 < 2 ^ 32 → ValidUpdate u.update
 
-pub told : (limit : ℕ) (b : List ℕ) (u : Unit) → decode limit b ≡ Good u → Told limit b u
+pub told : (limit : ℕ) (b : List ℕ) (u : Unit) → decode limit b ≡ Some u → Told limit b u
 unfolding decode
 told limit b u e =
     cases (eqb (get_or b 1 0) 0)
@@ -196,7 +195,7 @@ pub record Coded (limit : ℕ) (b : List ℕ) (u : Unit) : Type 0 where
   pub valid : Valid limit u
 
 -- 12 bytes that are a unit are its bytes, and the unit is valid
-pub encode_decode : (limit : ℕ) (b : List ℕ) (u : Unit) → length b ≡ 12 → All (λ (x : ℕ). x < 256) b → decode limit b ≡ Good u → Coded limit b u
+pub encode_decode : (limit : ℕ) (b : List ℕ) (u : Unit) → length b ≡ 12 → All (λ (x : ℕ). x < 256) b → decode limit b ≡ Some u → Coded limit b u
 encode_decode limit b u l h e =
     let t = told limit b u e in
     record { bytes = t.bytes ∙ bytes_back b l h t.zero; valid = told_valid h t }
@@ -217,7 +216,7 @@ length_units [] = refl
 length_units (u ∷ us) = length-append (encode u) (flat encode us) ∙ omega (arith, length_encode u, length_units us)
 
 -- units written one after the other are read, whatever stands behind them
-pub decodes_units : {limit : ℕ} {us : List Unit} (rest : List ℕ) → All (Valid limit) us → decodes limit (length us) (flat encode us ++ rest) ≡ map Good us
+pub decodes_units : {limit : ℕ} {us : List Unit} (rest : List ℕ) → All (Valid limit) us → decodes limit (length us) (flat encode us ++ rest) ≡ map Some us
 decodes_units rest none = refl
 decodes_units {limit} rest (more {x = u} {xs = us} h hs) =
     let r : List ℕ = flat encode us ++ rest in

@@ -1,11 +1,9 @@
 -- The data area of a page: a header of 8 bytes, units of 12 bytes, the rest 255.
-use Rattle.std.specs.Prelude.{Bool, cond, ◌&&◌, List, [], ◌∷◌, ◌++◌, ℕ, ◌+◌, ◌-◌, ◌*◌, ◌/◌, ◌%◌, ltb, leb, eqb, length, drop, get_or, replicate}
+use Rattle.std.specs.Prelude.{Bool, cond, ◌&&◌, List, [], ◌∷◌, ◌++◌, ℕ, ◌+◌, ◌-◌, ◌*◌, ◌/◌, ◌%◌, ltb, leb, eqb, length, drop, get_or, replicate, Option, Some, None}
 use Rattle.lists.specs.Lists.{all, flat}
 use Rattle.chip.specs.Geometry.{Geometry}
 use Rattle.pages.specs.declared.unit.Unit.{Unit}
 use Rattle.pages.specs.declared.header.Head.{Head}
-use Rattle.pages.specs.declared.header.Header.{Header}
-use Rattle.pages.specs.declared.header.Header.TheVariants.{Obeys, Breaks}
 use Rattle.pages.specs.Units.{half, word, encode}
 
 -- bytes 0-3 commit number, 4 page index, 5 page count of that commit, 6-7 unit count
@@ -20,8 +18,8 @@ obeys g d =
     && all (λ (b : ℕ). eqb b 255) (drop (8 + 12 * (head_of d).units) d)))))
 
 -- what a function that reads a page's data answers
-abbrev pub header_of : Geometry → List ℕ → Header
-header_of g d = cond (obeys g d) (Obeys (head_of d)) Breaks
+abbrev pub header_of : Geometry → List ℕ → Option Head
+header_of g d = cond (obeys g d) (Some (head_of d)) None
 
 -- ---- laying out a page's data
 abbrev pub head_bytes : ℕ → ℕ → ℕ → ℕ → List ℕ

@@ -16,21 +16,14 @@ pub struct Head {
     pub units: u32,
 }
 
-// A page's data obeys the page's own rules of step 2, with this header, or breaks one.
-#[derive(Clone, Copy)]
-pub enum Header {
-    Obeys(Head),
-    Breaks,
-}
-
 // The four numbers of the first 8 bytes.
 fn read_head(page: &[u8]) -> Head
     requires { 8 ≤ length page.now }
     ensures { result ≡ head_of page.now }
 {
     let commit = unit::read_word(page, 0);
-    let index = unit::wide(page[4]);
-    let count = unit::wide(page[5]);
+    let index = u32::from(page[4]);
+    let count = u32::from(page[5]);
     let units = unit::read_half(page, 6);
     Head {
         commit,
@@ -41,28 +34,16 @@ fn read_head(page: &[u8]) -> Head
 }
 
 // The header of a page's data, where the data obeys the page's own rules.
-pub fn read_header(geometry: Geometry, page: &[u8]) -> Header
+pub fn read_header(geometry: Geometry, page: &[u8]) -> Option<Head>
     requires { (length page.now ≡ geometry.area) × Fits geometry }
     ensures { result ≡ header_of geometry page.now }
 {
     let head = read_head(page);
     let units = head.units as usize;
-    if head.commit == 0 {
-        return Header::Breaks;
+    if head.commit == 0 || head.count <= head.index || units == 0 || geometry.units < units {
+        return None;
     }
-    if head.count <= head.index {
-        return Header::Breaks;
-    }
-    if units == 0 {
-        return Header::Breaks;
-    }
-    if geometry.units < units {
-        return Header::Breaks;
-    }
-    if page::is_free(&page[8 + 12 * units..]) {
-        return Header::Obeys(head);
-    }
-    Header::Breaks
+    page::is_free(&page[8 + 12 * units..]).then_some(head)
 }
 
 // The 8 bytes of a header.
@@ -70,16 +51,9 @@ fn head_bytes(commit: u32, index: u32, count: u32, units: usize) -> [u8; 8]
     requires { (index < 256) × (count < 256) × (units < 65536) }
     ensures { result ≡ head_bytes commit index count units }
 {
-    [
-        (commit % 256) as u8,
-        (commit / 256 % 256) as u8,
-        (commit / 65536 % 256) as u8,
-        (commit / 16777216) as u8,
-        index as u8,
-        count as u8,
-        (units % 256) as u8,
-        (units / 256) as u8,
-    ]
+    let [c0, c1, c2, c3] = commit.to_le_bytes();
+    let [u0, u1] = (units as u16).to_le_bytes();
+    [c0, c1, c2, c3, index as u8, count as u8, u0, u1]
 }
 
 // A page's data written whole: page `index` of `count` of commit `commit`, with `k` units whose bytes are `units`.

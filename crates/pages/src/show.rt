@@ -5,7 +5,6 @@ ghost use Rattle.chip.specs.Geometry.{Fits, page_size};
 ghost use Rattle.pages.specs.Show.{show_length, shown_units, show_refusal, show_start};
 
 use crate::header;
-use crate::header::Header;
 use chip::geometry::Geometry;
 use chip::{geometry, page};
 
@@ -19,23 +18,23 @@ fn shown_units(geometry: Geometry, page: &[u8]) -> usize
         return 0;
     }
     match header::read_header(geometry, &page[0..area]) {
-        Header::Obeys(head) => head.units as usize,
-        Header::Breaks => 0,
+        Some(head) => head.units as usize,
+        None => 0,
     }
 }
 
 // The units of page `at`, as that part of the image; an empty part where there are none and with a refusal, 1 or 4.
+// The refusal is a number beside the part: docs/DECISIONS.md 14 promises this form.
 pub fn show<'a>(geometry: Geometry, image: &'a [u8], at: u32, refusal: &mut u32) -> &'a [u8]
     requires { Fits geometry }
     ensures shown { result.now ≡ part (show_start geometry image.now at) (show_length geometry image.now at) image.now }
     ensures number { refusal.new ≡ show_refusal geometry (length image.now) at }
 {
     let size = geometry.area + geometry.spare;
-    let blocks = geometry::blocks_of(geometry, image.len());
-    if blocks == 0 {
+    let Some(blocks) = geometry::blocks_of(geometry, image.len()) else {
         *refusal = 1;
         return &image[0..0];
-    }
+    };
     let p = at as usize;
     if p >= blocks * geometry.pages {
         *refusal = 4;

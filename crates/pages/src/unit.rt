@@ -18,28 +18,12 @@ pub struct Unit {
     pub update: Update,
 }
 
-// What 12 bytes are: a unit, or none.
-#[derive(Clone, Copy)]
-pub enum Decoded {
-    Good(Unit),
-    Bad,
-}
-
-// A byte as a number.
-pub fn wide(x: u8) -> u32
-    ensures { (result ≡ x) × (result < 256) }
-{
-    x as u32
-}
-
 // The little-endian number of the two bytes that start at `at`.
 pub fn read_half(b: &[u8], at: usize) -> u32
     requires { at + 2 ≤ length b.now }
     ensures { (result ≡ half b.now at) × (result < 65536) }
 {
-    let b0 = wide(b[at]);
-    let b1 = wide(b[at + 1]);
-    b0 + 256 * b1
+    u32::from(u16::from_le_bytes([b[at], b[at + 1]]))
 }
 
 // The little-endian number of the four bytes that start at `at`.
@@ -47,62 +31,36 @@ pub fn read_word(b: &[u8], at: usize) -> u32
     requires { at + 4 ≤ length b.now }
     ensures { result ≡ word b.now at }
 {
-    let b0 = wide(b[at]);
-    let b1 = wide(b[at + 1]);
-    let b2 = wide(b[at + 2]);
-    let b3 = wide(b[at + 3]);
-    b0 + 256 * b1 + 65536 * b2 + 16777216 * b3
+    u32::from_le_bytes([b[at], b[at + 1], b[at + 2], b[at + 3]])
 }
 
 // Is this the value of a reset: a level, 0 to 3, or 255, which frees the node?
 pub fn is_reset_value(value: u32) -> bool
     ensures { result ≡ is_reset_value value }
 {
-    if value <= 3 {
-        return true;
-    }
-    value == 255
+    value <= 3 || value == 255
 }
 
 // The unit of a node, a kind, a key and a value, where they obey the layout.
-fn decode_kind(node: u32, kind: u8, key: u32, value: u32) -> Decoded
+fn decode_kind(node: u32, kind: u8, key: u32, value: u32) -> Option<Unit>
     ensures { result ≡ decode_kind node kind key value }
 {
-    if kind == 1 {
-        return Decoded::Good(Unit {
-            node,
-            update: Update::Insert(key, value),
-        });
-    }
-    if kind == 2 {
-        if value == 0 {
-            return Decoded::Good(Unit {
-                node,
-                update: Update::Delete(key),
-            });
-        }
-        return Decoded::Bad;
-    }
-    if kind == 3 {
-        if key == 0 {
-            if is_reset_value(value) {
-                return Decoded::Good(Unit {
-                    node,
-                    update: Update::Reset(value),
-                });
-            }
-        }
-    }
-    Decoded::Bad
+    let update = match kind {
+        1 => Update::Insert(key, value),
+        2 if value == 0 => Update::Delete(key),
+        3 if key == 0 && is_reset_value(value) => Update::Reset(value),
+        _ => return None,
+    };
+    Some(Unit { node, update })
 }
 
 // The unit that the first 12 bytes are, where they obey the layout and the node number is below `limit`.
-pub fn decode_unit(bytes: &[u8], limit: u32) -> Decoded
+pub fn decode_unit(bytes: &[u8], limit: u32) -> Option<Unit>
     requires { 12 ≤ length bytes.now }
     ensures { result ≡ decode limit bytes.now }
 {
     if bytes[1] != 0 {
-        return Decoded::Bad;
+        return None;
     }
     let node = read_half(bytes, 2);
     if node < limit {
@@ -110,7 +68,7 @@ pub fn decode_unit(bytes: &[u8], limit: u32) -> Decoded
         let value = read_word(bytes, 8);
         decode_kind(node, bytes[0], key, value)
     } else {
-        Decoded::Bad
+        None
     }
 }
 
@@ -119,20 +77,10 @@ fn fill(kind: u8, node: u32, key: u32, value: u32) -> [u8; 12]
     requires { node < 65536 }
     ensures { result ≡ bytes_of kind node key value }
 {
-    [
-        kind,
-        0,
-        (node % 256) as u8,
-        (node / 256) as u8,
-        (key % 256) as u8,
-        (key / 256 % 256) as u8,
-        (key / 65536 % 256) as u8,
-        (key / 16777216) as u8,
-        (value % 256) as u8,
-        (value / 256 % 256) as u8,
-        (value / 65536 % 256) as u8,
-        (value / 16777216) as u8,
-    ]
+    let [n0, n1, _, _] = node.to_le_bytes();
+    let [k0, k1, k2, k3] = key.to_le_bytes();
+    let [v0, v1, v2, v3] = value.to_le_bytes();
+    [kind, 0, n0, n1, k0, k1, k2, k3, v0, v1, v2, v3]
 }
 
 // The 12 bytes of a unit.

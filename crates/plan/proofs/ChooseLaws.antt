@@ -9,23 +9,24 @@ use lib.Dec.{eqb, leb, ltb}
 use lib.ListN.{get_or, length, take}
 use lib.Seq.{length-take-le, take_all}
 use borrow.Author.Tests.{eq-eqb, eqb-false, le-leb, lt-leb, lt-ltb, ltb-true, ne_eqb}
-use Rattle.lists.specs.Lists.{any, part}
+use Rattle.std.specs.Prelude.{Option, Some, None}
+use Rattle.std.proofs.lemmas.Option.{none-some, same_Some}
+use Rattle.lists.specs.Lists.{part}
 use Rattle.lists.proofs.Parts.{length_part}
 use Rattle.lists.proofs.Tests.{and_left, below_or_not}
 use Rattle.chip.specs.Geometry.{Geometry}
 use Rattle.chip.specs.Page.{Page}
-use Rattle.chip.specs.Chip.{in_block}
 use Rattle.views.specs.Stored.{stored_list}
 use Rattle.journal.specs.Plan.{places, rewrite}
-use Rattle.journal.specs.Admissible.{Assignment, Contents, written_of}
+use Rattle.journal.specs.Admissible.{Contents, written_of}
 use Rattle.journal.specs.Packing.{Packing, delta_packing, is_unwritten, packed, snapshot_packing}
-use Rattle.journal.specs.Policy.{delta_assignment, follow, in_first, is_forced, nothing, sizes_of, snapshot_assignment}
+use Rattle.journal.specs.Policy.{Decision, delta_assignment, in_first, is_forced, sizes_of, snapshot_assignment}
 use Rattle.journal.specs.PlanCode.{KeepsWritten, is_marked, packing_of, sizes_in, target_in}
-use Rattle.contents.specs.ContentsCode.{AllRead, Measured, Readies, Tallied, WritesForms, contents_in, is_read}
+use Rattle.contents.specs.ContentsCode.{AllRead, Measured, Readies, Tallied, WritesForms, contents_in, in_oldest, is_read}
 use Rattle.contents.proofs.WrittenLaws.{ready_delta, ready_snapshot}
 use Rattle.packing.specs.PackingCode.{Packs, PacksDelta}
 use Rattle.plan.specs.PlacesCode.{free_pages}
-use Rattle.plan.specs.MakeCode.{HoldsAssignment, HoldsDecision, chosen, page_count}
+use Rattle.plan.specs.MakeCode.{HoldsAssignment, HoldsDecision, HoldsFollowed, chosen}
 use Rattle.journal.proofs.ContentsLaws.{SamePacking, delta_same, delta_seen, packed_same, written_same}
 use Rattle.plan.proofs.PlaceLaws.{places_size}
 use Rattle.plan.proofs.FewLaws.{node_few}
@@ -132,11 +133,8 @@ read_by parts olds n (inr t) = either (ltb 0 (get_or parts n 0)) (is_marked olds
     either true b e = refl
     either false b e = e
 
-follow_is : {A C : Assignment} → follow A ≡ follow C → A ≡ C
-follow_is {A} {C} e = cc
-
 -- ---- a choice
-module _ (g : Geometry) (big : 34 ≤ g.units) (limit oldest : ℕ) (ps : List Page) (lens slots : List ℕ) (count : ℕ) (bytes parts resets forms₀ wholes olds units₀ : List ℕ) (most : limit ≤ 256)
+module _ (g : Geometry) (big : 34 ≤ g.units) (limit : ℕ) (oldest : Option ℕ) (ps : List Page) (lens slots : List ℕ) (count : ℕ) (bytes parts resets forms₀ wholes olds units₀ : List ℕ) (most : limit ≤ 256)
     (long-slots : length slots ≡ 1024) (tallied : Tallied limit count bytes parts resets)
     (measured : Measured g limit oldest (contents_in g limit ps lens slots count bytes) parts resets forms₀ wholes olds units₀) where
   abbrev N : Contents
@@ -159,7 +157,7 @@ module _ (g : Geometry) (big : 34 ≤ g.units) (limit oldest : ℕ) (ps : List P
       let b = ltb-true 0 (length (N.buffered n)) (and_left (ltb 0 (length (N.buffered n))) _ (sym (measured.form n l) ∙ f)) in
       subst (λ (k : ℕ). 0 < k) (sym (part_of n l)) b
 
-  module _ (us : List ℕ) (first : (n : ℕ) → n < limit → in_first g N us n ≡ any (in_block g oldest) (N.listed n)) where
+  module _ (us : List ℕ) (first : (n : ℕ) → n < limit → in_first g N us n ≡ in_oldest g oldest (N.listed n)) where
     same_delta : SamePacking (λ n. n < limit) S (delta_packing (sizes_of g N) (is_forced N) (λ (n : ℕ). length (N.listed n)) (in_first g N us) limit)
     same_delta =
         delta_arrays g limit us N wholes parts forms₀ lens olds part_of measured.form (λ n l. measured.old n l ∙ sym (first n l))
@@ -228,18 +226,18 @@ module _ (g : Geometry) (big : 34 ≤ g.units) (limit : ℕ) (ps : List Page) (l
       (w (λ (n : ℕ). rewrite (M.after n)) (ready_snapshot limit M targets parts forms wholes units₀ read)) same_snapshot
 
 -- ---- the decision
+module _ {g : Geometry} {limit : ℕ} {N : Contents} {targets sizes units : List ℕ} {D : Decision} where
+  decision_some : (d : ℕ) → HoldsFollowed g limit N targets sizes units D d → HoldsDecision g limit N targets sizes units (Some d) D
+  decision_some d h =
+      record { none = λ e. absurd (none-some d (sym e)); some = λ n e. subst (HoldsFollowed g limit N targets sizes units D) (same_Some d n e) h }
+
 module _ (g : Geometry) (limit wide narrow : ℕ) (us : List ℕ) (N : Contents) where
   -- a delta that has places
   pub chose_delta : (targets sizes units : List ℕ) (d : ℕ) → HoldsAssignment g limit N targets sizes units d (delta_assignment g limit us N) → d + 1 ≤ wide
-      → HoldsDecision g limit N targets sizes units d (chosen g limit wide narrow us N)
+      → HoldsDecision g limit N targets sizes units (Some d) (chosen g limit wide narrow us N)
   chose_delta targets sizes units d h l =
       let t : leb (suc (delta_assignment g limit us N).count) wide ≡ true = le-leb (suc (delta_assignment g limit us N).count) wide (fits (delta_assignment g limit us N).count h.count) in
-      let e : chosen g limit wide narrow us N ≡ follow (delta_assignment g limit us N) = rw t in
-      record {
-        count = sym (ap page_count e ∙ h.count);
-        few = h.few;
-        is = λ A q. subst (HoldsAssignment g limit N targets sizes units d) (follow_is (sym e ∙ q)) h;
-      }
+      decision_some d (delta_assignment g limit us N, rw t, h)
     where
       fits : (c : ℕ) → c ≡ d → suc c ≤ wide
       fits c e = omega arith
@@ -253,29 +251,20 @@ module _ (g : Geometry) (limit wide narrow : ℕ) (us : List ℕ) (N : Contents)
 
     -- none, and a snapshot that has places
     pub chose_snapshot : (targets sizes units : List ℕ) (s : ℕ) → HoldsAssignment g limit N targets sizes units s (snapshot_assignment g limit N) → s + 1 ≤ narrow
-        → HoldsDecision g limit N targets sizes units s (chosen g limit wide narrow us N)
+        → HoldsDecision g limit N targets sizes units (Some s) (chosen g limit wide narrow us N)
     chose_snapshot targets sizes units s h l =
         let t : leb (suc (snapshot_assignment g limit N).count) narrow ≡ true = le-leb (suc (snapshot_assignment g limit N).count) narrow (fits (snapshot_assignment g limit N).count h.count) in
-        let e : chosen g limit wide narrow us N ≡ follow (snapshot_assignment g limit N) = rw (no_delta, t) in
-        record {
-          count = sym (ap page_count e ∙ h.count);
-          few = h.few;
-          is = λ A q. subst (HoldsAssignment g limit N targets sizes units s) (follow_is (sym e ∙ q)) h;
-        }
+        decision_some s (snapshot_assignment g limit N, rw (no_delta, t), h)
       where
         fits : (c : ℕ) → c ≡ s → suc c ≤ narrow
         fits c e = omega arith
 
     -- neither
     pub chose_nothing : (targets sizes units : List ℕ) (s : ℕ) → (snapshot_assignment g limit N).count ≡ s → narrow < s + 1
-        → HoldsDecision g limit N targets sizes units 0 (chosen g limit wide narrow us N)
+        → HoldsDecision g limit N targets sizes units None (chosen g limit wide narrow us N)
     chose_nothing targets sizes units s sc l =
         let t : leb (suc (snapshot_assignment g limit N).count) narrow ≡ false = lt-leb (suc (snapshot_assignment g limit N).count) narrow (over (snapshot_assignment g limit N).count sc) in
-        let e : chosen g limit wide narrow us N ≡ nothing = rw (no_delta, t) in
-        record { count = sym (ap page_count e); few = omega arith; is = λ A q. absurd (not_both A (sym e ∙ q)) }
+        record { none = λ e. rw (no_delta, t); some = λ n e. absurd (none-some n e) }
       where
         over : (c : ℕ) → c ≡ s → narrow < suc c
         over c e = omega arith
-
-        not_both : (A : Assignment) → nothing ≡ follow A → ⊥
-        not_both A e = let y : ◌≡◌ {A = ℕ} 0 1 = cc in omega arith

@@ -8,7 +8,8 @@ use native.Mathlib.Omega.{arith}
 use lib.Dec.{eqb}
 use lib.ListN.{length, take, drop, get_or, drop_of_length-le}
 use lib.Seq.{drop-cons, get_or-take}
-use borrow.Author.Tests.{le-ltb, lt-ltb, eq-eqb, ne_eqb, eqb-true, eqb-false}
+use borrow.Author.Tests.{eqb-true, eqb-false}
+use Rattle.std.specs.Prelude.{Option, Some, None}
 use Rattle.lists.specs.Lists.{part, All, none, more, insert}
 use Rattle.lists.proofs.Tests.{cases}
 use Rattle.lists.proofs.Alls.{All-map}
@@ -29,15 +30,15 @@ use Rattle.plan.specs.declared.survey.Newest.{Newest}
 use Rattle.plan.specs.SurveyCode.{mark, mark_held, noted, last_in, is_behind, later, LooksAtPage}
 
 -- ---- one page more in front
-behind_is : (w x : Live) → is_behind (noted w) (commit x) (index x) ≡ before w x
+behind_is : (w x : Live) → is_behind (noted w) (noted x) ≡ before w x
 unfolding before
 behind_is w x = refl
 
-newer : (w x : Live) → before w x ≡ true → later (noted w) (commit x) (index x) x.place ≡ noted x
-newer w x e = let b : is_behind (noted w) (commit x) (index x) ≡ true = behind_is w x ∙ e in rw b
+newer : (w x : Live) → before w x ≡ true → later (Some (noted w)) (noted x) ≡ noted x
+newer w x e = let b : is_behind (noted w) (noted x) ≡ true = behind_is w x ∙ e in rw b
 
-older : (w x : Live) → before w x ≡ false → later (noted w) (commit x) (index x) x.place ≡ noted w
-older w x e = let b : is_behind (noted w) (commit x) (index x) ≡ false = behind_is w x ∙ e in rw b
+older : (w x : Live) → before w x ≡ false → later (Some (noted w)) (noted x) ≡ noted w
+older w x e = let b : is_behind (noted w) (noted x) ≡ false = behind_is w x ∙ e in rw b
 
 last_has : {P : Live → Type 0} (y : Live) {ys : List Live} → P y → All P ys → P (last_from y ys)
 last_has y h none = h
@@ -48,45 +49,29 @@ skip : (y x : Live) (s : List Live) → last_in (y ∷ insert before x s) ≡ la
 skip y x [] = refl
 skip y x (w ∷ ws) = cases (before w x) (λ t. rw t) (λ t. rw t)
 
-last_insert : (x : Live) {s : List Live} → Sorted before s → last_in (insert before x s) ≡ later (last_in s) (commit x) (index x) x.place
+last_insert : (x : Live) {s : List Live} → Sorted before s → last_in (insert before x s) ≡ Some (later (last_in s) (noted x))
 last_insert x end = refl
 last_insert x (then {x = y} {xs = []} h s) =
-    cases (before y x) (λ t. rw t (sym (newer y x t))) (λ t. rw t (sym (older y x t)))
+    cases (before y x) (λ t. rw t (ap Some (sym (newer y x t)))) (λ t. rw t (ap Some (sym (older y x t))))
 last_insert x (then {x = y} {xs = w ∷ ws} h s) =
     cases (before y x)
     (λ t. rw t (skip y x (w ∷ ws) ∙ last_insert x s))
-    (λ t. rw t (sym (older (last_from w ws) x
-    (last_has {P = λ (z : Live). before z x ≡ false} y t (All-map (λ z k. trans x y z t k) h)))))
+    (λ t. rw t (ap Some (sym (older (last_from w ws) x
+    (last_has {P = λ (z : Live). before z x ≡ false} y t (All-map (λ z k. trans x y z t k) h))))))
 
 -- of pages by place: of two that are equal in the order the one on the higher place is last
-pub last_more : (x : Live) (xs : List Live) → last_in (ordered (x ∷ xs)) ≡ later (last_in (ordered xs)) (commit x) (index x) x.place
+pub last_more : (x : Live) (xs : List Live) → last_in (ordered (x ∷ xs)) ≡ Some (later (last_in (ordered xs)) (noted x))
 last_more x xs = last_insert x (sorted before asym trans xs)
-
--- ---- by the outcomes of the comparisons
-module _ (z : Newest) (c i p : ℕ) where
-  abbrev page : Newest
-  page = record { found = true; commit = c; index = i; place = p }
-
-  pub later_lower : z.found ≡ true → c < z.commit → z ≡ later z c i p
-  later_lower f h = rw (f, le-ltb z.commit c (omega arith), ne_eqb z.commit c (λ e. omega arith))
-
-  pub later_same : z.found ≡ true → c ≡ z.commit → i ≤ z.index → z ≡ later z c i p
-  later_same f h k = rw (f, le-ltb z.commit c (omega arith), eq-eqb z.commit c (omega arith), le-ltb z.index i k)
-
-  pub later_index : z.found ≡ true → c ≡ z.commit → z.index < i → page ≡ later z c i p
-  later_index f h k = rw (f, le-ltb z.commit c (omega arith), eq-eqb z.commit c (omega arith), lt-ltb z.index i k)
-
-  pub later_higher : z.found ≡ true → z.commit < c → page ≡ later z c i p
-  later_higher f h = rw (f, lt-ltb z.commit c h)
-
-  pub later_first : z.found ≡ false → page ≡ later z c i p
-  later_first f = rw f
 
 pub above : (a b : ℕ) → b ≤ a → (a ≡ b → ⊥) → b < a
 above a b h d = cases (eqb a b) (λ t. absurd (d (eqb-true a b t))) (λ t. omega (arith, eqb-false a b t))
 
 -- ---- the place of the last page
-pub last_place_lem : (s : List Live) → last_place s ≡ (last_in s).place
+abbrev pub place_of : Option Newest → ℕ
+place_of None = 0
+place_of (Some z) = z.place
+
+pub last_place_lem : (s : List Live) → last_place s ≡ place_of (last_in s)
 last_place_lem [] = refl
 last_place_lem (x ∷ xs) = refl
 
@@ -121,14 +106,14 @@ module _ (g : Geometry) (ps : List Page) (n : ℕ) where
   look_start h = rw (drop_of_length-le ps {i = n} h)
 
 -- the marks of a live page
-one_mark : (g : Geometry) (c n : ℕ) (x : Page) (m : List ℕ) → is_live g x ≡ true
+one_mark : (g : Geometry) (c n : ℕ) (x : Page) (m : List Bool) → is_live g x ≡ true
     → cond (is_of g c x) (mark g m n) m ≡ cond (eqb (commit (live g n x)) c) (mark g m n) m
 unfolding commit
 one_mark g c n x m t = rw t
 
-module _ (g : Geometry) (c : ℕ) (ps : List Page) (m₀ : List ℕ) (n at : ℕ) (e : at ≡ suc n) (h : n < length ps) (z : Newest) (m : List ℕ)
+module _ (g : Geometry) (c : ℕ) (ps : List Page) (m₀ : List Bool) (n at : ℕ) (e : at ≡ suc n) (h : n < length ps) (z : Option Newest) (m : List Bool)
     (ez : z ≡ last_in (ordered (live_at g ps at))) (em : m ≡ mark_held g c (live_at g ps at) m₀)
-    (r : Newest) (m' : List ℕ) (k : LooksAtPage g c n (get_or ps n []) z m r m') where
+    (r : Option Newest) (m' : List Bool) (k : LooksAtPage g c n (get_or ps n []) z m r m') where
   was_z : z ≡ last_in (ordered (live_at g ps (suc n)))
   was_z = ez ∙ ap (λ (i : ℕ). last_in (ordered (live_at g ps i))) e
 
@@ -139,10 +124,10 @@ module _ (g : Geometry) (c : ℕ) (ps : List Page) (m₀ : List ℕ) (n at : ℕ
   look_newest =
       let x : Page = get_or ps n [] in
       let y : Live = live g n x in
-      let to : (b : Bool) → is_live g x ≡ b → r ≡ cond b (later z (commit y) (index y) n) z =
-      λ b t. k.newest ∙ ap (λ (b : Bool). cond b (later z (commit y) (index y) n) z) t in
+      let to : (b : Bool) → is_live g x ≡ b → r ≡ cond b (Some (later z (noted y))) z =
+      λ b t. k.newest ∙ ap (λ (b : Bool). cond b (Some (later z (noted y))) z) t in
       cases (is_live g x)
-      (λ t. to true t ∙ ap (λ (w : Newest). later w (commit y) (index y) n) was_z ∙ sym (last_more y (live_at g ps (suc n)))
+      (λ t. to true t ∙ ap (λ (w : Option Newest). Some (later w (noted y))) was_z ∙ sym (last_more y (live_at g ps (suc n)))
       ∙ ap (λ (l : List Live). last_in (ordered l)) (sym (live_on g ps n h t)))
       (λ t. to false t ∙ was_z ∙ ap (λ (l : List Live). last_in (ordered l)) (sym (live_off g ps n h t)))
 
@@ -151,20 +136,20 @@ module _ (g : Geometry) (c : ℕ) (ps : List Page) (m₀ : List ℕ) (n at : ℕ
       let x : Page = get_or ps n [] in
       let y : Live = live g n x in
       cases (is_live g x)
-      (λ t. k.marks ∙ one_mark g c n x m t ∙ ap (λ (w : List ℕ). cond (eqb (commit y) c) (mark g w n) w) was_m
+      (λ t. k.marks ∙ one_mark g c n x m t ∙ ap (λ (w : List Bool). cond (eqb (commit y) c) (mark g w n) w) was_m
       ∙ ap (λ (l : List Live). mark_held g c l m₀) (sym (live_on g ps n h t)))
       (λ t. k.marks ∙ ap (λ (b : Bool). cond (b && eqb (head_of (take g.area x)).commit c) (mark g m n) m) t ∙ was_m
       ∙ ap (λ (l : List Live). mark_held g c l m₀) (sym (live_off g ps n h t)))
 
 -- ---- one page
-module _ (g : Geometry) (c p : ℕ) (x : Page) (z : Newest) (m : List ℕ) where
+module _ (g : Geometry) (c p : ℕ) (x : Page) (z : Option Newest) (m : List Bool) where
   -- it is not live
   pub look_dead : is_live g x ≡ false → LooksAtPage g c p x z m z m
   look_dead t = record { newest = rw t; marks = rw t }
 
   -- it is live, with commit number w and index i
-  pub look_live : Fits g → (r : Newest) (m' : List ℕ) (w i : ℕ) → is_live g x ≡ true → w ≡ word x 0 → i ≡ get_or x 4 0
-      → m' ≡ cond (eqb w c) (mark g m p) m → r ≡ later z w i p → LooksAtPage g c p x z m r m'
+  pub look_live : Fits g → (r : Option Newest) (m' : List Bool) (w i : ℕ) → is_live g x ≡ true → w ≡ word x 0 → i ≡ get_or x 4 0
+      → m' ≡ cond (eqb w c) (mark g m p) m → r ≡ Some (later z (record { commit = w; index = i; place = p })) → LooksAtPage g c p x z m r m'
   unfolding commit index
   look_live f r m' w i t ew ei em er =
       let d : List ℕ = take g.area x in
@@ -172,8 +157,8 @@ module _ (g : Geometry) (c p : ℕ) (x : Page) (z : Newest) (m : List ℕ) where
       let eo : get_or d 4 0 ≡ i = get_or-take g.area x 4 0 (omega (arith, f.holds)) ∙ sym ei in
       record {
         newest =
-            er ∙ ap₂ (λ (a b : ℕ). later z a b p) (sym ec) (sym eo)
-            ∙ ap (λ (b : Bool). cond b (later z (head_of d).commit (get_or d 4 0) p) z) (sym t);
+            er ∙ ap₂ (λ (a b : ℕ). Some (later z (record { commit = a; index = b; place = p }))) (sym ec) (sym eo)
+            ∙ ap (λ (b : Bool). cond b (Some (later z (record { commit = (head_of d).commit; index = get_or d 4 0; place = p }))) z) (sym t);
         marks =
             em ∙ ap (λ (a : ℕ). cond (eqb a c) (mark g m p) m) (sym ec)
             ∙ ap (λ (b : Bool). cond (b && eqb (head_of d).commit c) (mark g m p) m) (sym t);
@@ -186,9 +171,9 @@ page_is g image n h =
     ap (λ (k : ℕ). part (n * page_size g) k image) (add-sub_cancel_left (n * page_size g) (page_size g)) ∙ sym (page_at_lem g image n h)
 
 -- a turn of the pass over an image
-module _ (g : Geometry) (c : ℕ) (image : List ℕ) (m₀ : List ℕ) (n at : ℕ) (e : at ≡ suc n) (h : n < length image / page_size g) (z : Newest) (m : List ℕ)
+module _ (g : Geometry) (c : ℕ) (image : List ℕ) (m₀ : List Bool) (n at : ℕ) (e : at ≡ suc n) (h : n < length image / page_size g) (z : Option Newest) (m : List Bool)
     (ez : z ≡ last_in (ordered (live_at g (pages_of g image) at))) (em : m ≡ mark_held g c (live_at g (pages_of g image) at) m₀)
-    (r : Newest) (m' : List ℕ) (k : LooksAtPage g c n (part (n * page_size g) (n * page_size g + page_size g - n * page_size g) image) z m r m') where
+    (r : Option Newest) (m' : List Bool) (k : LooksAtPage g c n (part (n * page_size g) (n * page_size g + page_size g - n * page_size g) image) z m r m') where
   on_chip : n < length (pages_of g image)
   on_chip = omega (arith, length_pages g image)
 

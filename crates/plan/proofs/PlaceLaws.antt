@@ -140,12 +140,15 @@ flat_at g pos (b ∷ bs) j h =
     ∙ flat_at g pos bs i (omega arith) ∙ ap₂ (λ (a r : ℕ). get_or (b ∷ bs) a 0 * k + r) (sym z) (sym y))
     (below_or_not j k)
 
+-- an element of a list
+pub all_at : {P : ℕ → Type 0} (xs : List ℕ) (k : ℕ) → k < length xs → All P xs → P (get_or xs k 0)
+all_at [] k l a = absurd (omega arith)
+all_at (x ∷ xs) zero l a = All-head a
+all_at (x ∷ xs) (suc k) l a = all_at xs k (omega arith) (All-tail a)
+
 -- an element of the first w
 pub take_at_all : {P : ℕ → Type 0} (xs : List ℕ) (w k : ℕ) → w ≤ length xs → k < w → All P (take w xs) → P (get_or xs k 0)
-take_at_all [] w k h l a = absurd (omega arith)
-take_at_all (x ∷ xs) zero k h l a = absurd (omega arith)
-take_at_all (x ∷ xs) (suc w) zero h l a = All-head a
-take_at_all (x ∷ xs) (suc w) (suc k) h l a = take_at_all xs w k (omega arith) (omega arith) (All-tail a)
+take_at_all {P} xs w k h l a = subst P (get_or-take w xs k 0 l) (all_at (take w xs) k (rw (length-take-le w xs h) l) a)
 
 -- place j of the first w blocks of the ring is on one of them
 pub ring_block : (g : Geometry) → 0 < g.pages → (B head w : ℕ) (ring : List ℕ) → length ring ≡ 32 → w ≤ 32 → B ≤ 32 → Spare B head (take w ring)
@@ -208,19 +211,17 @@ places_on g B head n ps bs h s = All-take n (All-map (λ p o. go p o) (places_fr
 
 -- ---- the blocks to erase
 -- the next block
-module _ (g : Geometry) (ps : List Page) (w : ℕ) (ring : List ℕ) (lr : length ring ≡ 32) (lw : w ≤ 32) (j : ℕ) where
-  pub erase_next : (left n r : ℕ) (before after target : List ℕ) → j < w
-      → take n before ++ erases_from g ps left (drop j (take w ring)) ≡ target
-      → (keep : Bool) → keep ≡ (ltb 0 left && not (wholly_free g ps (get_or ring j 0)))
-      → take r after ≡ take n before ++ cond keep (get_or ring j 0 ∷ []) []
-      → take r after ++ erases_from g ps (left - g.pages) (drop (j + 1) (take w ring)) ≡ target
+module _ (g : Geometry) (ps : List Page) (bs : List ℕ) (j : ℕ) where
+  pub erase_next : (left n r : ℕ) (before after target : List ℕ) → j < length bs
+      → take n before ++ erases_from g ps left (drop j bs) ≡ target
+      → (keep : Bool) → keep ≡ (ltb 0 left && not (wholly_free g ps (get_or bs j 0)))
+      → take r after ≡ take n before ++ cond keep (get_or bs j 0 ∷ []) []
+      → take r after ++ erases_from g ps (left - g.pages) (drop (j + 1) bs) ≡ target
   erase_next left n r before after target h e keep k is =
-      let b : ℕ = get_or ring j 0 in
-      let l : List ℕ = take w ring in
-      let rest : List ℕ = erases_from g ps (left - g.pages) (drop (suc j) l) in
-      let next : drop j l ≡ b ∷ drop (suc j) l =
-      drop-cons l j 0 (rw (length-take-le w ring (omega arith)) h) ∙ ap (λ (a : ℕ). a ∷ drop (suc j) l) (get_or-take w ring j 0 h) in
-      ap (λ (a : ℕ). take r after ++ erases_from g ps (left - g.pages) (drop a l)) (add-one j)
+      let b : ℕ = get_or bs j 0 in
+      let rest : List ℕ = erases_from g ps (left - g.pages) (drop (suc j) bs) in
+      let next : drop j bs ≡ b ∷ drop (suc j) bs = drop-cons bs j 0 h in
+      ap (λ (a : ℕ). take r after ++ erases_from g ps (left - g.pages) (drop a bs)) (add-one j)
       ∙ ap (λ (a : List ℕ). a ++ rest) is ∙ append_assoc (take n before) (cond keep (b ∷ []) []) rest
       ∙ ap (λ (a : List ℕ). take n before ++ a) (one keep b rest ∙ ap (λ (t : Bool). cond t (b ∷ rest) rest) k)
       ∙ ap (λ (a : List ℕ). take n before ++ erases_from g ps left a) (sym next) ∙ e
@@ -229,10 +230,10 @@ module _ (g : Geometry) (ps : List Page) (w : ℕ) (ring : List ℕ) (lr : lengt
       one true b rest = refl
       one false b rest = refl
 
-  pub erase_done : (left : ℕ) (list target : List ℕ) → w ≤ j → list ++ erases_from g ps left (drop j (take w ring)) ≡ target → list ≡ target
+  pub erase_done : (left : ℕ) (list target : List ℕ) → length bs ≤ j → list ++ erases_from g ps left (drop j bs) ≡ target → list ≡ target
   erase_done left list target h e =
       sym (append-nil list)
-      ∙ ap (λ (a : List ℕ). list ++ erases_from g ps left a) (sym (drop_of_length-le (take w ring) {i = j} (omega (arith, length-take-le w ring (omega arith))))) ∙ e
+      ∙ ap (λ (a : List ℕ). list ++ erases_from g ps left a) (sym (drop_of_length-le bs {i = j} h)) ∙ e
 
 -- the erases of the plan
 erases_first : (g : Geometry) → 0 < g.pages → (head n : ℕ) (ps : List Page) (bs : List ℕ) → Diff bs → All (λ b. b ≡ head → ⊥) bs

@@ -1,16 +1,16 @@
 -- How the code of choose.rt and make.rt holds the decision of the policy and its places, whatever image and arrays hold.
-use Rattle.std.specs.Prelude.{◌≡◌, cond, List, ℕ, suc, ◌+◌, ◌*◌, ◌<◌, ◌≤◌, leb, length, take}
-use Rattle.lists.specs.Lists.{All, any}
+use Rattle.std.specs.Prelude.{◌≡◌, Option, cond, List, ℕ, suc, ◌+◌, ◌*◌, ◌<◌, ◌≤◌, leb, length, take}
+use Rattle.std.specs.Option.{ForNone, ForSome}
+use Rattle.lists.specs.Lists.{All}
 use Rattle.chip.specs.Geometry.{Geometry}
 use Rattle.chip.specs.Page.{Page}
-use Rattle.chip.specs.Chip.{in_block}
 use Rattle.pages.specs.Steps.{live_from}
 use Rattle.journal.specs.Commit.{units_of_packs}
 use Rattle.journal.specs.Plan.{head_block, places, spare_blocks}
 use Rattle.journal.specs.Admissible.{Assignment, Contents, page_packs, written_of}
 use Rattle.journal.specs.Policy.{Decision, decide_on, delta_assignment, follow, in_first, nothing, snapshot_assignment}
 use Rattle.journal.specs.PlanCode.{KeepsWritten, target_in}
-use Rattle.contents.specs.ContentsCode.{contents_in}
+use Rattle.contents.specs.ContentsCode.{contents_in, in_oldest}
 use Rattle.plan.specs.SurveyCode.{unused_in, used_around}
 use Rattle.plan.specs.PlacesCode.{first_erases, first_places}
 use Rattle.plan.specs.declared.make.Plan.{Plan}
@@ -30,21 +30,19 @@ chosen g limit wide narrow us N =
     cond (leb (suc (delta_assignment g limit us N).count) wide) (follow (delta_assignment g limit us N))
     (cond (leb (suc (snapshot_assignment g limit N).count) narrow) (follow (snapshot_assignment g limit N)) nothing)
 
--- no page of nothing
-abbrev pub page_count : Decision → ℕ
-page_count nothing = 0
-page_count (follow A) = A.count
+-- the decision D is to follow an assignment of r pages, and the arrays hold it
+abbrev pub HoldsFollowed : Geometry → ℕ → Contents → List ℕ → List ℕ → List ℕ → Decision → ℕ → Type 0
+HoldsFollowed g limit N targets sizes units D r = (A : Assignment) × (D ≡ follow A) × HoldsAssignment g limit N targets sizes units r A
 
--- the arrays hold the decision D
-pub record HoldsDecision (g : Geometry) (limit : ℕ) (N : Contents) (targets sizes units : List ℕ) (r : ℕ) (D : Decision) : Type 0 where
-  pub count : r ≡ page_count D
-  pub few : 2 * r ≤ suc limit
-  pub is : (A : Assignment) → D ≡ follow A → HoldsAssignment g limit N targets sizes units r A
+-- the arrays hold the decision D, of r pages; none where it is nothing
+pub record HoldsDecision (g : Geometry) (limit : ℕ) (N : Contents) (targets sizes units : List ℕ) (r : Option ℕ) (D : Decision) : Type 0 where
+  pub none : ForNone r (D ≡ nothing)
+  pub some : ForSome r (HoldsFollowed g limit N targets sizes units D)
 
--- the same where `oldest` is the first of the used blocks
-abbrev pub Chooses : Geometry → ℕ → ℕ → ℕ → ℕ → Contents → List ℕ → List ℕ → List ℕ → ℕ → Type 0
+-- the same where `oldest` is the first of the used blocks, if there is one
+abbrev pub Chooses : Geometry → ℕ → Option ℕ → ℕ → ℕ → Contents → List ℕ → List ℕ → List ℕ → Option ℕ → Type 0
 Chooses g limit oldest wide narrow N targets sizes units r =
-    (us : List ℕ) → ((n : ℕ) → n < limit → in_first g N us n ≡ any (in_block g oldest) (N.listed n))
+    (us : List ℕ) → ((n : ℕ) → n < limit → in_first g N us n ≡ in_oldest g oldest (N.listed n))
     → HoldsDecision g limit N targets sizes units r (chosen g limit wide narrow us N)
 
 -- ---- the places of n pages and one more on the head and the blocks bs, and the blocks to erase before these are written
@@ -71,7 +69,14 @@ abbrev pub decision_of : Geometry → ℕ → ℕ → List ℕ → List ℕ → 
 decision_of g limit B lens slots count bytes G ps =
     decide_on g limit (spare_blocks g B) ps (head_block g ps) (unused_of g limit B lens slots G ps) (used_of g limit B lens slots G ps) (contents_in g limit ps lens slots count bytes)
 
--- the decision held, and where there is a page its places and erases
-pub record Makes (g : Geometry) (limit B : ℕ) (lens slots : List ℕ) (count : ℕ) (bytes : List ℕ) (G : ℕ) (ps : List Page) (targets sizes units : List ℕ) (r : Plan) : Type 0 where
-  pub decision : HoldsDecision g limit (contents_in g limit ps lens slots count bytes) targets sizes units r.pages (decision_of g limit B lens slots count bytes G ps)
-  pub laid : 0 < r.pages → LaysPlan g B (head_block g ps) (unused_of g limit B lens slots G ps) r.pages ps r
+-- a plan of the decision: it has a page, the arrays hold it, and its places and erases are laid
+pub record MakesPlan (g : Geometry) (limit B : ℕ) (lens slots : List ℕ) (count : ℕ) (bytes : List ℕ) (G : ℕ) (ps : List Page) (targets sizes units : List ℕ) (r : Plan) : Type 0 where
+  pub some : 0 < r.pages
+  pub decision : HoldsFollowed g limit (contents_in g limit ps lens slots count bytes) targets sizes units (decision_of g limit B lens slots count bytes G ps) r.pages
+  pub laid : LaysPlan g B (head_block g ps) (unused_of g limit B lens slots G ps) r.pages ps r
+
+-- a plan of the decision, none where it is nothing or to follow an assignment of no page, which the arrays hold then
+pub record Makes (g : Geometry) (limit B : ℕ) (lens slots : List ℕ) (count : ℕ) (bytes : List ℕ) (G : ℕ) (ps : List Page) (targets sizes units : List ℕ) (r : Option Plan) : Type 0 where
+  pub none : ForNone r ((A : Assignment) → decision_of g limit B lens slots count bytes G ps ≡ follow A
+      → HoldsAssignment g limit (contents_in g limit ps lens slots count bytes) targets sizes units 0 A)
+  pub made : ForSome r (MakesPlan g limit B lens slots count bytes G ps targets sizes units)

@@ -1,15 +1,15 @@
 // The nodes that a commit writes and their pages: a delta, a snapshot, or nothing.
-ghost use Rattle.std.specs.Prelude.{◌+◌, ◌*◌, ◌/◌, ◌%◌, ◌<◌, ◌≤◌, ◌≡◌, length};
-ghost use Rattle.chip.specs.Geometry.{Fits, page_size};
+ghost use Rattle.std.specs.Prelude.{◌≡◌, Some, ℕ, ◌+◌, ◌*◌, ◌/◌, ◌<◌, ◌≤◌, length};
+ghost use Rattle.chip.specs.Geometry.{page_size};
 ghost use Rattle.chip.specs.Chip.{pages_of};
 ghost use Rattle.contents.specs.ContentsCode.{contents_in};
 ghost use Rattle.plan.specs.PlacesCode.{free_pages};
 ghost use Rattle.plan.specs.MakeCode.{Chooses};
 
 use crate::places;
-use contents::measure::Source;
 use contents::{measure, tally, written};
 use packing::{delta, pack};
+use views::nodes::Nodes;
 
 // The head block, and how many unused blocks a delta and a snapshot may take besides.
 #[derive(Clone, Copy)]
@@ -20,32 +20,31 @@ pub struct Room {
 }
 
 // A delta where there are places for its pages and one more, else a snapshot, else nothing; each node is read once. For each node its page,
-// and what is written of it. Returns the number of pages, 0 for nothing. `all` shows the proof that the slots are 1024.
+// and what is written of it. Returns the number of pages, None where there are places for neither. `all` shows the proof that the slots are 1024.
 pub fn choose(
-    image: &[u8],
-    lens: &[u32; 256],
-    slots: &[u32; 1024],
+    nodes: Nodes<'_>,
     buffer: &[u8; 11520],
-    source: Source,
+    count: usize,
+    oldest: Option<usize>,
     room: Room,
     targets: &mut [u32; 256],
     sizes: &mut [u32; 256],
     units: &mut [u8; 52224],
-) -> usize
-    requires { (length image.now % page_size source.scope.geometry ≡ 0) × (source.scope.count ≤ 960) × (source.scope.limit ≤ 256) × (source.oldest < 4294967296)
-        × (room.head * source.scope.geometry.pages + source.scope.geometry.pages ≤ length image.now / page_size source.scope.geometry)
-        × (room.head < 32) × (room.others ≤ 32) × (room.spare ≤ 32) × Fits source.scope.geometry }
-    ensures { Chooses source.scope.geometry source.scope.limit source.oldest
-        (length (free_pages source.scope.geometry (pages_of source.scope.geometry image.now) room.head) + room.others * source.scope.geometry.pages)
-        (length (free_pages source.scope.geometry (pages_of source.scope.geometry image.now) room.head) + room.spare * source.scope.geometry.pages)
-        (contents_in source.scope.geometry source.scope.limit (pages_of source.scope.geometry image.now)
-        lens.now slots.now source.scope.count buffer.now)
+) -> Option<usize>
+    requires { (count ≤ 960) × (nodes.limit ≤ 256)
+        × ((b : ℕ) → oldest ≡ Some b → b < 4294967296)
+        × (room.head * nodes.geometry.pages + nodes.geometry.pages ≤ length nodes.image.now / page_size nodes.geometry)
+        × (room.head < 32) × (room.others ≤ 32) × (room.spare ≤ 32) }
+    ensures { let ns = nodes.entry in let free = length (free_pages ns.geometry (pages_of ns.geometry ns.image.now) room.head) in
+        Chooses ns.geometry ns.limit oldest (free + room.others * ns.geometry.pages) (free + room.spare * ns.geometry.pages)
+        (contents_in ns.geometry ns.limit (pages_of ns.geometry ns.image.now) ns.lens.now ns.slots.now count buffer.now)
         targets.new sizes.new units.new result }
 {
-    let scope = source.scope;
-    let geometry = scope.geometry;
-    let count = scope.count;
-    let limit = scope.limit;
+    let geometry = nodes.geometry;
+    let image = nodes.image;
+    let lens = nodes.lens;
+    let slots = nodes.slots;
+    let limit = nodes.limit;
     let most = geometry.units as u32;
     let head = room.head;
     let all = &slots[..];
@@ -56,11 +55,10 @@ pub fn choose(
     let mut rooms = [0; 512];
     tally::tally(buffer, count, limit, &mut parts, &mut forms);
     measure::measure(
-        image,
-        lens,
-        slots,
+        nodes,
         buffer,
-        source,
+        count,
+        oldest,
         &parts,
         &mut forms,
         &mut wholes,
@@ -72,16 +70,14 @@ pub fn choose(
     );
     if places::has_places(geometry, image, head, room.others, d + 1) {
         written::keep_written(
-            buffer, source, targets, &forms, &wholes, &parts, sizes, units,
+            buffer, count, limit, targets, &forms, &wholes, &parts, sizes, units,
         );
-        return d;
+        return Some(d);
     }
     measure::measure_rest(
-        image,
-        lens,
-        slots,
+        nodes,
         buffer,
-        source,
+        count,
         &parts,
         &mut forms,
         &mut wholes,
@@ -91,9 +87,9 @@ pub fn choose(
     let s = pack::pack_nodes(most, limit, &wholes, &parts, &forms, targets, &mut rooms);
     if places::has_places(geometry, image, head, room.spare, s + 1) {
         written::keep_written(
-            buffer, source, targets, &forms, &wholes, &parts, sizes, units,
+            buffer, count, limit, targets, &forms, &wholes, &parts, sizes, units,
         );
-        return s;
+        return Some(s);
     }
-    0
+    None
 }

@@ -10,8 +10,7 @@ use crate::choose::Room;
 use crate::survey::Surveyed;
 use crate::{choose, places, survey};
 use chip::geometry::Geometry;
-use contents::measure::Source;
-use views::view::Scope;
+use views::nodes::Nodes;
 
 // What a commit starts from: the geometry, the units in the buffer, the blocks of the chip, and the number of the last commit.
 #[derive(Clone, Copy)]
@@ -22,8 +21,8 @@ pub struct Basis {
     pub commit: u32,
 }
 
-// How many pages a commit writes and the place of each, how many blocks it erases first and which. No page: nothing is to be done.
-// Whatever the part, a commit writes at most 128 pages, and one place more is laid.
+// How many pages a commit writes and the place of each, how many blocks it erases first and which.
+// Whatever the part, a commit writes at most 128 pages, and one place more is laid. No heap: arrays of fixed size, with the counts beside.
 #[derive(Clone, Copy)]
 pub struct Plan {
     pub pages: usize,
@@ -79,18 +78,6 @@ fn lay(
     }
 }
 
-// No page, and nothing to erase.
-fn nothing() -> Plan
-    ensures { result.pages ≡ 0 }
-{
-    Plan {
-        pages: 0,
-        erases: 0,
-        places: [0; 160],
-        erased: [0; 32],
-    }
-}
-
 // The room of a delta, the head and all unused blocks but the spare ones, and of a snapshot, the spare ones instead.
 fn room_of(geometry: Geometry, ground: Surveyed, blocks: usize) -> Room
     requires { (blocks ≤ 32) × Fits geometry }
@@ -98,8 +85,10 @@ fn room_of(geometry: Geometry, ground: Surveyed, blocks: usize) -> Room
         × (result.spare ≡ ground.unused - (ground.unused - spare_blocks geometry blocks)) }
 {
     let head = ground.head;
-    let others = places::excess(ground.unused, 4 * blocks / geometry.pages + 1);
-    let spare = places::excess(ground.unused, others);
+    let others = ground
+        .unused
+        .saturating_sub(4 * blocks / geometry.pages + 1);
+    let spare = ground.unused.saturating_sub(others);
     Room {
         head,
         others,
@@ -107,7 +96,8 @@ fn room_of(geometry: Geometry, ground: Surveyed, blocks: usize) -> Room
     }
 }
 
-// The plan of the commit after the last, read from image and state; for each node its page, and what is written of it.
+// The plan of the commit after the last, read from image and state; for each node its page, and what is written of it. None where nothing is
+// to be done: there is no page to write, or there are no places.
 pub fn make(
     image: &[u8],
     lens: &[u32; 256],
@@ -117,7 +107,7 @@ pub fn make(
     targets: &mut [u32; 256],
     sizes: &mut [u32; 256],
     units: &mut [u8; 52224],
-) -> Plan
+) -> Option<Plan>
     requires { (length image.now ≡ basis.blocks * block_size basis.geometry) × (3 ≤ basis.blocks) × (basis.blocks ≤ 32) × (basis.count ≤ 960) × Fits basis.geometry }
     ensures { Makes basis.geometry (8 * basis.blocks) basis.blocks lens.now slots.now basis.count buffer.now basis.commit
         (pages_of basis.geometry image.now) targets.new sizes.new units.new result }
@@ -138,18 +128,17 @@ pub fn make(
         &mut ring,
     );
     let room = room_of(geometry, ground, blocks);
-    let scope = Scope {
+    let nodes = Nodes {
         geometry,
-        count,
+        image,
+        lens,
+        slots,
         limit,
     };
     let oldest = ground.oldest;
-    let source = Source { scope, oldest };
-    let pages = choose::choose(
-        image, lens, slots, buffer, source, room, targets, sizes, units,
-    );
+    let pages = choose::choose(nodes, buffer, count, oldest, room, targets, sizes, units)?;
     if pages == 0 {
-        return nothing();
+        return None;
     }
-    lay(geometry, image, blocks, ground, &ring, pages)
+    Some(lay(geometry, image, blocks, ground, &ring, pages))
 }

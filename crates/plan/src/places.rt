@@ -6,7 +6,6 @@ ghost use Rattle.chip.specs.Chip.{pages_of};
 ghost use Rattle.journal.specs.Plan.{free_at, pages_in, wholly_free};
 ghost use Rattle.plan.specs.PlacesCode.{free_pages, Spare, Lays, erases_from};
 
-use crate::survey;
 use chip::geometry::{BLOCK_PAGES, Geometry};
 use chip::page;
 
@@ -30,22 +29,16 @@ fn put_free(geometry: Geometry, image: &[u8], at: usize, most: usize, places: &m
     let first = at * geometry.pages;
     let end = first + geometry.pages;
     let mut n = 0;
-    let mut p = first;
-    while p < end {
+    for p in first..end {
         if n >= most {
             return n;
         }
-        n = survey::push_if(is_free_at(geometry, image, p), p as u32, places, n);
-        p += 1;
+        if is_free_at(geometry, image, p) {
+            places[n] = p as u32;
+            n += 1;
+        }
     }
     n
-}
-
-// By how much `a` exceeds `b`, 0 where it does not.
-pub fn excess(a: usize, b: usize) -> usize
-    ensures { result ≡ a - b }
-{
-    if a < b { 0 } else { a - b }
 }
 
 // Have `need` pages a place on the head and on `width` blocks? No page is tested where the blocks alone have them.
@@ -55,7 +48,7 @@ pub fn has_places(geometry: Geometry, image: &[u8], head: usize, width: usize, n
 {
     let mut found = [0; BLOCK_PAGES];
     let others = width * geometry.pages;
-    let more = excess(need, others);
+    let more = need.saturating_sub(others);
     let n = put_free(geometry, image, head, more, &mut found);
     need <= n + others
 }
@@ -71,6 +64,7 @@ fn page_of(geometry: Geometry, ring: &[u32], j: usize) -> u32
 }
 
 // Places from `n` to `need` filled with the pages of the first `width` blocks of the ring.
+// No heap: the ring has a fixed size, and the promise reads its first `width` blocks.
 pub fn put_rest(
     geometry: Geometry,
     ring: &[u32],
@@ -86,35 +80,13 @@ pub fn put_rest(
     ensures { (take need places.new ≡ take need (take n places.old ++ flat (pages_in geometry) (take width ring.now)))
         × (length places.new ≡ 160) }
 {
-    let mut i = n;
-    while i < need {
+    for i in n..need {
         places[i] = page_of(geometry, ring, i - n);
-        i += 1;
     }
 }
 
-// The places, with the arrays as slices.
-fn lay_in(
-    geometry: Geometry,
-    image: &[u8],
-    blocks: usize,
-    head: usize,
-    ring: &[u32],
-    width: usize,
-    need: usize,
-    places: &mut [u32],
-) -> usize
-    requires { (length image.now ≡ blocks * block_size geometry) × (blocks ≤ 32) × (head < blocks) × (width ≤ 32) × (need ≤ 160)
-        × (need ≤ length (free_pages geometry (pages_of geometry image.now) head) + width * geometry.pages) × Spare blocks head (take width ring.now)
-        × (length ring.now ≡ 32) × (length places.old ≡ 160) × Fits geometry }
-    ensures { Lays geometry blocks head width need (pages_of geometry image.now) ring.now places.new result }
-{
-    let n = put_free(geometry, image, head, need, places);
-    put_rest(geometry, ring, blocks, head, width, n, need, places);
-    need - n
-}
-
 // The first `need` places: the free pages of the head block, then all pages of the first `width` unused blocks. Returns how many are on these.
+// No slice of the ring: the contract speaks of the ring and of the width.
 pub fn lay_places(
     geometry: Geometry,
     image: &[u8],
@@ -130,7 +102,9 @@ pub fn lay_places(
         × Fits geometry }
     ensures { Lays geometry blocks head width need (pages_of geometry image.now) ring.now places.new result }
 {
-    lay_in(geometry, image, blocks, head, ring, width, need, places)
+    let n = put_free(geometry, image, head, need, places);
+    put_rest(geometry, ring, blocks, head, width, n, need, places);
+    need - n
 }
 
 // Are all pages of the block free?
@@ -149,41 +123,11 @@ fn is_erased(geometry: Geometry, image: &[u8], at: usize, left: usize) -> bool
     requires { (at * geometry.pages + geometry.pages ≤ length image.now / page_size geometry) × Fits geometry }
     ensures { result ≡ (ltb 0 left && not (wholly_free geometry (pages_of geometry image.now) at)) }
 {
-    if left == 0 {
-        return false;
-    }
-    !is_wholly_free(geometry, image, at)
-}
-
-// The blocks to erase, with the arrays as slices.
-fn put_erased(
-    geometry: Geometry,
-    image: &[u8],
-    blocks: usize,
-    head: usize,
-    ring: &[u32],
-    width: usize,
-    reach: usize,
-    erased: &mut [u32],
-) -> usize
-    requires { (length image.now ≡ blocks * block_size geometry) × (width ≤ 32) × (length ring.now ≡ 32) × (length erased.old ≡ 32)
-        × Spare blocks head (take width ring.now) × Fits geometry }
-    ensures { (take result erased.new ≡ erases_from geometry (pages_of geometry image.now) reach (take width ring.now)) × (result ≤ width)
-        × (length (take result erased.new) ≡ result) }
-{
-    let mut left = reach;
-    let mut n = 0;
-    let mut j = 0;
-    while j < width {
-        let b = ring[j];
-        n = survey::push_if(is_erased(geometry, image, b as usize, left), b, erased, n);
-        left = excess(left, geometry.pages);
-        j += 1;
-    }
-    n
+    left > 0 && !is_wholly_free(geometry, image, at)
 }
 
 // The blocks to erase before `reach` places on the first `width` unused blocks are written: those that they reach and that are not wholly free.
+// No heap: the ring has a fixed size, and the promise reads its first `width` blocks.
 pub fn lay_erases(
     geometry: Geometry,
     image: &[u8],
@@ -198,5 +142,14 @@ pub fn lay_erases(
     ensures { (take result erased.new ≡ erases_from geometry (pages_of geometry image.now) reach (take width ring.now)) × (result ≤ width)
         × (length (take result erased.new) ≡ result) }
 {
-    put_erased(geometry, image, blocks, head, ring, width, reach, erased)
+    let mut left = reach;
+    let mut n = 0;
+    for b in &ring[..width] {
+        if is_erased(geometry, image, *b as usize, left) {
+            erased[n] = *b;
+            n += 1;
+        }
+        left = left.saturating_sub(geometry.pages);
+    }
+    n
 }

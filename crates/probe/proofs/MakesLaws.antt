@@ -4,15 +4,18 @@ use mathlib.Core.List.{List, ◌++◌}
 use Prim.Native.Nat.{ℕ, min}
 use lib.ListN.{length, take, drop}
 use lib.Seq.{take_at, drop_at}
+use Rattle.std.specs.Prelude.{Option, Some, None}
 use Rattle.chip.specs.Geometry.{Nand}
 use Rattle.chip.specs.Counts.{total}
-use Rattle.store.specs.declared.answer.Forecast as F
+use Rattle.std.specs.Prelude.{Result}
+use Rattle.chip.specs.declared.progress.Counts.{Counts}
 use Rattle.store.specs.declared.answer.Look.{Look}
+use Rattle.store.specs.declared.answer.Refusal.{Refusal}
 use Rattle.store.specs.declared.state.State.{State}
 use Rattle.store.specs.declared.state.Wrote.{Wrote}
 use Rattle.store.specs.declared.state.Updated.{Updated}
 use Rattle.store.specs.declared.step.Call.TheVariants as S
-use Rattle.store.specs.Answers.{answer_of, look_of}
+use Rattle.store.specs.Answers.{answer_of, forecast_answer, look_of, ops_foretold}
 use Rattle.store.specs.Ensured.{Formats, Mounts, Rebuilds, Looks, Inserts, Deletes, Commits, Forecasts}
 use Rattle.store.proofs.RunsToLaws.{runs_none, runs_one}
 use Rattle.frames.specs.declared.line.Line.{Line}
@@ -21,7 +24,7 @@ use Rattle.orders.specs.declared.order.Call.{Call}
 use Rattle.orders.specs.declared.order.Call.TheVariants.{Format, Insert, Delete, LookUp, Commit, Mount, Rebuild, Report, Show, Forecast}
 use Rattle.orders.specs.declared.order.Setting.{Setting}
 use Rattle.orders.specs.declared.order.Order.{Order}
-use Rattle.orders.specs.declared.order.Order.TheVariants.{NoFrame, Calls, Sets}
+use Rattle.orders.specs.declared.order.Order.TheVariants.{Calls, Sets}
 use Rattle.probe.specs.declared.bed.Bed.{Bed}
 use Rattle.probe.specs.Makes.{Makes, Rig, rig, CarriesCall, CarriesOut, CarriesLine}
 
@@ -48,11 +51,11 @@ module _ (nand : Nand) (call : Call) (torn : List ℕ) (s : State) (i : List ℕ
   pub makes_delete : (k : ℕ) → call ≡ Delete k → (u : Updated) → s' ≡ u.state → Deletes k s i u → Makes nand call torn s i s' i
   makes_delete k e u q h = by (Delete k) e u.state q i (runs_one torn (S.Delete k) s i (answer_of u.answer) 0 u.state i h.says)
 
-  pub makes_look : (k : ℕ) → call ≡ LookUp k → (l : Look) → s' ≡ s → Looks k s i l → Makes nand call torn s i s' i
+  pub makes_look : (k : ℕ) → call ≡ LookUp k → (l : Result Look Refusal) → s' ≡ s → Looks k s i l → Makes nand call torn s i s' i
   makes_look k e l q h = by (LookUp k) e s q i (runs_one torn (S.LookUp k) s i (look_of l) 0 s i h.says)
 
-  pub makes_forecast : call ≡ Forecast → (f : F.Forecast) → s' ≡ s → Forecasts s i f → Makes nand call torn s i s' i
-  makes_forecast e f q h = by Forecast e s q i (runs_one torn S.Forecast s i (answer_of f.answer) (total f.ops) s i h.says)
+  pub makes_forecast : call ≡ Forecast → (f : Result Counts Refusal) → s' ≡ s → Forecasts s i f → Makes nand call torn s i s' i
+  makes_forecast e f q h = by Forecast e s q i (runs_one torn S.Forecast s i (answer_of (forecast_answer f)) (total (ops_foretold f)) s i h.says)
 
   -- a block report and show leave state and image
   pub makes_report : (b : ℕ) → call ≡ Report b → s' ≡ s → Makes nand call torn s i s' i
@@ -62,12 +65,12 @@ module _ (nand : Nand) (call : Call) (torn : List ℕ) (s : State) (i : List ℕ
   makes_show p e q = by (Show p) e s q i (runs_none torn s i)
 
 -- ---- an order carried out
-module _ (o : Order) (b : Bed) (torn : List ℕ) (s : State) (i : List ℕ) where
-  pub carries_none : o ≡ NoFrame → CarriesOut o (rig b torn s i) (rig b torn s i)
-  carries_none e = subst (λ (p : Order). CarriesOut p (rig b torn s i) (rig b torn s i)) (sym e) refl
+module _ (o : Option Order) (b : Bed) (torn : List ℕ) (s : State) (i : List ℕ) where
+  pub carries_none : o ≡ None → CarriesOut o (rig b torn s i) (rig b torn s i)
+  carries_none e = subst (λ (p : Option Order). CarriesOut p (rig b torn s i) (rig b torn s i)) (sym e) refl
 
-  pub carries_set : (x : Setting) → o ≡ Sets x → (b' : Bed) (torn' : List ℕ) (i' : List ℕ) → CarriesOut o (rig b torn s i) (rig b' torn' s i')
-  carries_set x e b' torn' i' = subst (λ (p : Order). CarriesOut p (rig b torn s i) (rig b' torn' s i')) (sym e) refl
+  pub carries_set : (x : Setting) → o ≡ Some (Sets x) → (b' : Bed) (torn' : List ℕ) (i' : List ℕ) → CarriesOut o (rig b torn s i) (rig b' torn' s i')
+  carries_set x e b' torn' i' = subst (λ (p : Option Order). CarriesOut p (rig b torn s i) (rig b' torn' s i')) (sym e) refl
 
   -- a call on the first m bytes of the image and the first k torn bytes leaves ys of the image lent
   call_carried : (c : Call) (m k : ℕ) → m ≡ min b.image (length i) → k ≡ min b.torn (length torn) → (s' : State) (ys : List ℕ)
@@ -83,12 +86,12 @@ module _ (o : Order) (b : Bed) (torn : List ℕ) (s : State) (i : List ℕ) wher
         bed = refl;
       }
 
-  pub carries_call : (c : Call) → o ≡ Calls c → (m k : ℕ) → m ≡ min b.image (length i) → k ≡ min b.torn (length torn) → (s' : State) (ys : List ℕ)
+  pub carries_call : (c : Call) → o ≡ Some (Calls c) → (m k : ℕ) → m ≡ min b.image (length i) → k ≡ min b.torn (length torn) → (s' : State) (ys : List ℕ)
       → Makes b.nand c (take k torn) s (take m i) s' ys → length ys ≡ m → CarriesOut o (rig b torn s i) (rig b torn s' (ys ++ drop m i))
   carries_call c e m k f g s' ys h l =
-      subst (λ (p : Order). CarriesOut p (rig b torn s i) (rig b torn s' (ys ++ drop m i))) (sym e) (call_carried c m k f g s' ys h l)
+      subst (λ (p : Option Order). CarriesOut p (rig b torn s i) (rig b torn s' (ys ++ drop m i))) (sym e) (call_carried c m k f g s' ys h l)
 
 -- the order of a line
-pub carries_line : (l : Line) (o : Order) (h k : Rig) → Orders l o → CarriesOut o h k → CarriesLine l h k
+pub carries_line : (l : Line) (o : Option Order) (h k : Rig) → Orders l o → CarriesOut o h k → CarriesLine l h k
 unfolding CarriesLine Orders
-carries_line l o h k r d bs y = subst (λ (p : Order). CarriesOut p h k) (r bs y) d
+carries_line l o h k r d bs y = subst (λ (p : Option Order). CarriesOut p h k) (r bs y) d

@@ -7,7 +7,7 @@ use lib.Dec.{eqb}
 use lib.ListN.{length, take, drop, get_or}
 use Rattle.lists.specs.Lists.{part}
 use Rattle.lists.proofs.Tests.{cases, and_right}
-use Rattle.frames.proofs.FrameLaws.{take_few}
+use Rattle.std.proofs.lemmas.List.{length-take}
 use Rattle.chip.specs.Geometry.{Geometry, Nand, Fits, geometry_of}
 use Rattle.chip.specs.Page.{Page, is_live}
 use Rattle.chip.specs.Chip.{pages_of}
@@ -30,7 +30,7 @@ module _ (g : Geometry) where
 
   part_few : Fits g → (image shown : List ℕ) (p : ℕ) → shown ≡ part (show_start g image p) (show_length g image p) image → length shown ≤ 2040
   part_few f image shown p e =
-      omega (arith, f.units_most, ap length e, take_few (show_length g image p) (drop (show_start g image p) image), show_few image p)
+      omega (arith, f.units_most, ap length e, length-take (show_length g image p) (drop (show_start g image p) image), show_few image p)
 
 pub shown_few : (nand : Nand) (image shown : List ℕ) (p : ℕ)
     → shown ≡ part (show_start (geometry_of nand) image p) (show_length (geometry_of nand) image p) image → length shown ≤ 2040

@@ -1,5 +1,5 @@
 -- What an order does to the store: a call is one step on the part of the image that is lent, with the torn bytes that are lent.
-use Rattle.std.specs.Prelude.{◌≡◌, List, [], ◌∷◌, ℕ, ◌<◌, min, length, take, drop, slice_index}
+use Rattle.std.specs.Prelude.{◌≡◌, Option, Some, None, List, [], ◌∷◌, ℕ, ◌<◌, min, length, take, drop, slice_index}
 use Rattle.chip.specs.Geometry.{Nand}
 use Rattle.store.specs.declared.state.State.{State}
 use Rattle.store.specs.declared.state.Wrote.{Wrote}
@@ -12,7 +12,7 @@ use Rattle.frames.specs.Lines.{lines_in, line_after}
 use Rattle.orders.specs.Orders.{order_of}
 use Rattle.orders.specs.declared.order.Call.{Call}
 use Rattle.orders.specs.declared.order.Order.{Order}
-use Rattle.orders.specs.declared.order.Order.TheVariants.{NoFrame, Calls, Sets}
+use Rattle.orders.specs.declared.order.Order.TheVariants.{Calls, Sets}
 use Rattle.orders.specs.declared.order.Call.TheVariants.{Format, Insert, Delete, LookUp, Commit, Mount, Rebuild, Report, Show, Forecast}
 use Rattle.probe.specs.declared.bed.Bed.{Bed}
 
@@ -61,10 +61,10 @@ pub record CarriesCall (c : Call) (h k : Rig) : Type 0 where
   pub bed : k.bed ≡ h.bed
 
 -- an order carried out: a line that is no frame leaves everything as it was, a setting the state
-abbrev pub CarriesOut : Order → (h k : Rig) → Type 0
-CarriesOut NoFrame h k = k ≡ h
-CarriesOut (Calls c) h k = CarriesCall c h k
-CarriesOut (Sets x) h k = k.state ≡ h.state
+abbrev pub CarriesOut : Option Order → (h k : Rig) → Type 0
+CarriesOut None h k = k ≡ h
+CarriesOut (Some (Calls c)) h k = CarriesCall c h k
+CarriesOut (Some (Sets x)) h k = k.state ≡ h.state
 
 -- a line that ends, whatever it holds: its order is carried out
 unfoldable pub CarriesLine : Line → (h k : Rig) → Type 0

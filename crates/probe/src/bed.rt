@@ -66,23 +66,11 @@ fn accepted(bed: Bed, out: &mut [u8], at: usize) -> Made
     Made { bed, at: end }
 }
 
-// Each byte made 255.
-fn clear(image: &mut [u8]) {
-    for byte in image.iter_mut() {
-        *byte = 255;
-    }
-}
-
 // The part that is named from now on.
 fn name(bed: Bed, out: &mut [u8], at: usize, nand: Nand) -> Made
     requires { at + 11 ≤ length out.old }
 {
-    let b = Bed {
-        nand,
-        image: bed.image,
-        torn: bed.torn,
-    };
-    accepted(b, out, at)
+    accepted(Bed { nand, ..bed }, out, at)
 }
 
 // An image of so many blocks of the part named lent, each byte 255.
@@ -93,13 +81,9 @@ fn lend(bed: Bed, image: &mut [u8], out: &mut [u8], at: usize, blocks: u32) -> M
     if blocks > most_blocks(nand) {
         return refused(bed, out, at);
     }
-    clear(image);
-    let b = Bed {
-        nand,
-        image: (blocks as usize) * block_size(nand),
-        torn: bed.torn,
-    };
-    accepted(b, out, at)
+    image.fill(255);
+    let lent = (blocks as usize) * block_size(nand);
+    accepted(Bed { image: lent, ..bed }, out, at)
 }
 
 // So many bytes of the image lent.
@@ -110,13 +94,7 @@ fn cut(bed: Bed, image: &[u8], out: &mut [u8], at: usize, size: u32) -> Made
     if n > image.len() {
         return refused(bed, out, at);
     }
-    let nand = bed.nand;
-    let b = Bed {
-        nand,
-        image: n,
-        torn: bed.torn,
-    };
-    accepted(b, out, at)
+    accepted(Bed { image: n, ..bed }, out, at)
 }
 
 // So many torn bytes lent.
@@ -127,13 +105,7 @@ fn lend_torn(bed: Bed, torn: &[u8], out: &mut [u8], at: usize, size: u32) -> Mad
     if n > torn.len() {
         return refused(bed, out, at);
     }
-    let nand = bed.nand;
-    let b = Bed {
-        nand,
-        image: bed.image,
-        torn: n,
-    };
-    accepted(b, out, at)
+    accepted(Bed { torn: n, ..bed }, out, at)
 }
 
 // A byte set among the first `lent`; whether the offset is below that.
@@ -159,17 +131,17 @@ fn put(
     requires { at + 11 ≤ length out.old }
 {
     if set(bytes, lent, offset, byte) {
-        return accepted(bed, out, at);
+        accepted(bed, out, at)
+    } else {
+        refused(bed, out, at)
     }
-    refused(bed, out, at)
 }
 
 // The CRC-32 of the image lent.
 fn tell_sum(bed: Bed, image: &[u8], out: &mut [u8], at: usize) -> Made
     requires { at + 11 ≤ length out.old }
 {
-    let lent = bed.image;
-    let n = within(lent, image);
+    let n = within(bed.image, image);
     let s = sum::sum(&image[..n]);
     let end = reply::put_counted(out, at, 0, s);
     Made { bed, at: end }
@@ -179,8 +151,7 @@ fn tell_sum(bed: Bed, image: &[u8], out: &mut [u8], at: usize) -> Made
 fn make_noise(bed: Bed, image: &mut [u8], out: &mut [u8], at: usize, seed: u32) -> Made
     requires { at + 11 ≤ length out.old }
 {
-    let lent = bed.image;
-    let n = within(lent, image);
+    let n = within(bed.image, image);
     noise::fill(&mut image[..n], seed);
     accepted(bed, out, at)
 }
@@ -196,13 +167,11 @@ pub fn make(
 ) -> Made
     requires { at + 11 ≤ length out.old }
 {
-    let lent = bed.image;
-    let lent_torn = bed.torn;
     match setting {
         Setting::Lend(blocks) => lend(bed, image, out, at, blocks),
         Setting::Cut(size) => cut(bed, image, out, at, size),
-        Setting::SetImage(offset, byte) => put(bed, image, lent, out, at, offset, byte),
-        Setting::SetTorn(offset, byte) => put(bed, torn, lent_torn, out, at, offset, byte),
+        Setting::SetImage(offset, byte) => put(bed, image, bed.image, out, at, offset, byte),
+        Setting::SetTorn(offset, byte) => put(bed, torn, bed.torn, out, at, offset, byte),
         Setting::LendTorn(size) => lend_torn(bed, torn, out, at, size),
         Setting::Sum => tell_sum(bed, image, out, at),
         Setting::Noise(seed) => make_noise(bed, image, out, at, seed),

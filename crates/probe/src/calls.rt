@@ -3,9 +3,11 @@ ghost use Rattle.std.specs.Prelude.{◌+◌, ◌≤◌, length, ◌≡◌};
 ghost use Rattle.probe.specs.Makes.{Makes};
 
 use chip::geometry::Nand;
+use chip::progress;
+use chip::progress::Counts;
 use orders::order::Call;
 use orders::reply;
-use store::answer::{Forecast, Look, Report};
+use store::answer::{Look, Refusal, Report};
 use store::state::{State, Updated, Wrote};
 use store::{answer, commit, find, forecast, format, mount, rebuild, report, show, update};
 
@@ -21,10 +23,9 @@ fn tell_wrote(w: Wrote, out: &mut [u8], at: usize) -> Told
     requires { at + 4083 ≤ length out.old }
     ensures { result.state ≡ w.state }
 {
-    let given = w.answer;
     let ops = w.ops;
     let state = w.state;
-    let number = answer::number(given);
+    let number = answer::number(w.answer);
     let end = reply::put_counts(out, at, number, ops);
     Told { state, at: end }
 }
@@ -34,15 +35,14 @@ fn tell_updated(u: Updated, out: &mut [u8], at: usize) -> Told
     requires { at + 4083 ≤ length out.old }
     ensures { result.state ≡ u.state }
 {
-    let given = u.answer;
     let state = u.state;
-    let number = answer::number(given);
+    let number = answer::number(u.answer);
     let end = reply::put_short(out, at, number);
     Told { state, at: end }
 }
 
 // What a look up tells.
-fn tell_look(state: State, look: Look, out: &mut [u8], at: usize) -> Told
+fn tell_look(state: State, look: Result<Look, Refusal>, out: &mut [u8], at: usize) -> Told
     requires { at + 4083 ≤ length out.old }
     ensures { result.state ≡ state }
 {
@@ -51,7 +51,7 @@ fn tell_look(state: State, look: Look, out: &mut [u8], at: usize) -> Told
 }
 
 // What a block report tells.
-fn tell_report(state: State, told: Report, out: &mut [u8], at: usize) -> Told
+fn tell_report(state: State, told: Result<Report, Refusal>, out: &mut [u8], at: usize) -> Told
     requires { at + 4083 ≤ length out.old }
     ensures { result.state ≡ state }
 {
@@ -59,15 +59,15 @@ fn tell_report(state: State, told: Report, out: &mut [u8], at: usize) -> Told
     Told { state, at: end }
 }
 
-// What a forecast tells: the operations foretold, by kind.
-fn tell_forecast(state: State, told: Forecast, out: &mut [u8], at: usize) -> Told
+// What a forecast tells: the operations foretold, by kind; none with a refusal.
+fn tell_forecast(state: State, told: Result<Counts, Refusal>, out: &mut [u8], at: usize) -> Told
     requires { at + 4083 ≤ length out.old }
     ensures { result.state ≡ state }
 {
-    let given = told.answer;
-    let ops = told.ops;
-    let number = answer::number(given);
-    let end = reply::put_counts(out, at, number, ops);
+    let end = match told {
+        Ok(ops) => reply::put_counts(out, at, 0, ops),
+        Err(refusal) => reply::put_counts(out, at, u32::from(refusal), progress::nothing()),
+    };
     Told { state, at: end }
 }
 

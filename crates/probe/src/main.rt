@@ -11,7 +11,6 @@ mod output;
 
 use crate::bed::Bed;
 use crate::output::within;
-use frames::line;
 use frames::line::Line;
 use orders::order::Order;
 use orders::{order, reply};
@@ -21,19 +20,18 @@ use store::state;
 use store::state::State;
 
 // The state, what the calls are lent, and the bytes of output gathered.
-#[derive(Drop)]
+#[derive(Clone, Copy)]
 struct Probe {
     state: State,
     bed: Bed,
     at: usize,
 }
 
-// The probe, the line that is begun, and whether the last read gave any bytes.
+// The probe, and the line that is begun.
 #[derive(Drop)]
 struct Reading {
     probe: Probe,
     line: Line,
-    more: bool,
 }
 
 // An order carried out, and its reply gathered. Where room for the reply cannot be made, it is not begun.
@@ -43,7 +41,7 @@ fn carry_out<W: Write>(
     image: &mut [u8],
     torn: &mut [u8],
     out: &mut [u8],
-    given: Order,
+    given: Option<Order>,
 ) -> io::Result<Probe>
     requires { length out.old ≡ 65536 }
     ensures ok { IfOk result (λ p. CarriesOut given (rig probe.bed torn.old probe.state image.old)
@@ -57,7 +55,7 @@ fn carry_out<W: Write>(
     let nand = lent.nand;
     let at = output::room(writer, out, probe.at)?;
     match given {
-        Order::NoFrame => {
+        None => {
             let end = reply::put_short(out, at, 255);
             Ok(Probe {
                 state,
@@ -65,7 +63,7 @@ fn carry_out<W: Write>(
                 at: end,
             })
         }
-        Order::Calls(call) => {
+        Some(Order::Calls(call)) => {
             let n = within(lent.image, image);
             let t = within(lent.torn, torn);
             let told = calls::call(state, nand, &mut image[..n], &torn[..t], out, at, call);
@@ -76,7 +74,7 @@ fn carry_out<W: Write>(
                 at: told.at,
             })
         }
-        Order::Sets(setting) => {
+        Some(Order::Sets(setting)) => {
             let made = bed::make(lent, image, torn, out, at, setting);
             let bed = made.bed;
             let at = made.at;
@@ -108,68 +106,63 @@ fn answer_line<W: Write>(
 // The bytes of one read: a line feed ends a line. Where a write fails, that line and the bytes behind it are left.
 fn take_bytes<W: Write>(
     writer: &mut W,
-    reading: Reading,
+    reading: &mut Reading,
     image: &mut [u8],
     torn: &mut [u8],
     out: &mut [u8],
     bytes: &[u8],
-) -> io::Result<Reading>
+) -> io::Result<()>
     requires { length out.old ≡ 65536 }
-    ensures ok { IfOk result (λ r. CarriesIn bytes.now reading.line (rig reading.probe.bed torn.old reading.probe.state image.old)
-        r.line (rig r.probe.bed torn.new r.probe.state image.new)) }
-    ensures err { OnErr result (CarriesFirst bytes.now reading.line (rig reading.probe.bed torn.old reading.probe.state image.old)
+    ensures ok { IfOk result (λ _. CarriesIn bytes.now reading.old.line (rig reading.old.probe.bed torn.old reading.old.probe.state image.old)
+        reading.new.line (rig reading.new.probe.bed torn.new reading.new.probe.state image.new)) }
+    ensures err { OnErr result (CarriesFirst bytes.now reading.old.line (rig reading.old.probe.bed torn.old reading.old.probe.state image.old)
         torn.new image.new) }
 {
-    let mut probe = reading.probe;
-    let mut l = reading.line;
     for byte in bytes {
-        if *byte == 10 {
-            probe = answer_line(writer, probe, image, torn, out, l)?;
-            l = line::no_line();
+        if *byte == b'\n' {
+            reading.probe = answer_line(writer, reading.probe, image, torn, out, reading.line)?;
+            reading.line = Line::new();
         } else {
-            l = line::with_byte(l, *byte);
+            reading.line.push(*byte);
         }
     }
-    Ok(Reading {
-        probe,
-        line: l,
-        more: !bytes.is_empty(),
-    })
+    Ok(())
 }
 
-// One read into a buffer.
+// One read into a buffer: how many bytes it gave.
 fn read_into<R: Read, W: Write>(
     reader: &mut R,
     writer: &mut W,
-    reading: Reading,
+    reading: &mut Reading,
     image: &mut [u8],
     torn: &mut [u8],
     out: &mut [u8],
     buffer: &mut [u8],
-) -> io::Result<Reading>
+) -> io::Result<usize>
     requires { length out.old ≡ 65536 }
-    ensures ok { IfOk result (λ r. CarriesSome reading.line (rig reading.probe.bed torn.old reading.probe.state image.old)
-        r.line (rig r.probe.bed torn.new r.probe.state image.new)) }
-    ensures err { OnErr result (CarriesPart reading.line (rig reading.probe.bed torn.old reading.probe.state image.old)
+    ensures ok { IfOk result (λ _. CarriesSome reading.old.line (rig reading.old.probe.bed torn.old reading.old.probe.state image.old)
+        reading.new.line (rig reading.new.probe.bed torn.new reading.new.probe.state image.new)) }
+    ensures err { OnErr result (CarriesPart reading.old.line (rig reading.old.probe.bed torn.old reading.old.probe.state image.old)
         torn.new image.new) }
 {
     let n = reader.read(buffer)?;
-    take_bytes(writer, reading, image, torn, out, &buffer[..n])
+    take_bytes(writer, reading, image, torn, out, &buffer[..n])?;
+    Ok(n)
 }
 
 // One read, as much as a buffer holds.
 fn turn<R: Read, W: Write>(
     reader: &mut R,
     writer: &mut W,
-    reading: Reading,
+    reading: &mut Reading,
     image: &mut [u8],
     torn: &mut [u8],
     out: &mut [u8],
-) -> io::Result<Reading>
+) -> io::Result<usize>
     requires { length out.old ≡ 65536 }
-    ensures ok { IfOk result (λ r. CarriesSome reading.line (rig reading.probe.bed torn.old reading.probe.state image.old)
-        r.line (rig r.probe.bed torn.new r.probe.state image.new)) }
-    ensures err { OnErr result (CarriesPart reading.line (rig reading.probe.bed torn.old reading.probe.state image.old)
+    ensures ok { IfOk result (λ _. CarriesSome reading.old.line (rig reading.old.probe.bed torn.old reading.old.probe.state image.old)
+        reading.new.line (rig reading.new.probe.bed torn.new reading.new.probe.state image.new)) }
+    ensures err { OnErr result (CarriesPart reading.old.line (rig reading.old.probe.bed torn.old reading.old.probe.state image.old)
         torn.new image.new) }
 {
     let mut buffer = [0u8; 4096];
@@ -178,17 +171,13 @@ fn turn<R: Read, W: Write>(
 
 // The probe before the first line.
 fn begun() -> Reading {
-    let state = state::initial();
-    let lent = bed::first_bed();
-    let l = line::no_line();
     Reading {
         probe: Probe {
-            state,
-            bed: lent,
+            state: state::initial(),
+            bed: bed::first_bed(),
             at: 0,
         },
-        line: l,
-        more: true,
+        line: Line::new(),
     }
 }
 
@@ -204,7 +193,7 @@ fn finish<W: Write>(
 {
     let before = reading.probe;
     let last = reading.line;
-    if line::is_empty(last) {
+    if last.is_empty() {
         return output::flush(writer, out, before.at);
     }
     let after = answer_line(writer, before, image, torn, out, last)?;
@@ -215,25 +204,23 @@ fn finish<W: Write>(
 fn take_all<R: Read, W: Write>(
     reader: &mut R,
     writer: &mut W,
-    reading: Reading,
+    reading: &mut Reading,
     image: &mut [u8],
     torn: &mut [u8],
     out: &mut [u8],
-) -> io::Result<Reading>
+) -> io::Result<()>
     requires { length out.old ≡ 65536 }
-    ensures ok { IfOk result (λ r. CarriesSome reading.line (rig reading.probe.bed torn.old reading.probe.state image.old)
-        r.line (rig r.probe.bed torn.new r.probe.state image.new)) }
-    ensures err { OnErr result (CarriesPart reading.line (rig reading.probe.bed torn.old reading.probe.state image.old)
+    ensures ok { IfOk result (λ _. CarriesSome reading.old.line (rig reading.old.probe.bed torn.old reading.old.probe.state image.old)
+        reading.new.line (rig reading.new.probe.bed torn.new reading.new.probe.state image.new)) }
+    ensures err { OnErr result (CarriesPart reading.old.line (rig reading.old.probe.bed torn.old reading.old.probe.state image.old)
         torn.new image.new) }
 {
-    let mut r = reading;
     for _ in 0..u64::MAX {
-        r = turn(reader, writer, r, image, torn, out)?;
-        if !r.more {
+        if turn(reader, writer, reading, image, torn, out)? == 0 {
             break;
         }
     }
-    Ok(r)
+    Ok(())
 }
 
 // All of the input.
@@ -244,8 +231,9 @@ fn run<R: Read, W: Write>(
     torn: &mut [u8; 2200],
     out: &mut [u8; 65536],
 ) -> io::Result<()> {
-    let r = take_all(reader, writer, begun(), image, torn, out)?;
-    finish(writer, r, image, torn, out)
+    let mut reading = begun();
+    take_all(reader, writer, &mut reading, image, torn, out)?;
+    finish(writer, reading, image, torn, out)
 }
 
 // The buffers: an image of 33 large blocks, torn bytes of a little more than a large page, and the output.

@@ -10,11 +10,7 @@ pub fn within(n: usize, bytes: &[u8]) -> usize
     ensures taken { result ≡ length (take result bytes.now) }
     ensures value { result ≡ min n (length bytes.now) }
 {
-    let most = bytes.len();
-    if n < most {
-        return n;
-    }
-    most
+    n.min(bytes.len())
 }
 
 // The first `at` bytes of the buffer, written.

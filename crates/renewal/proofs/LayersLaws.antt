@@ -2,7 +2,7 @@
 use mathlib.Core.Path.{◌≡◌, refl, sym, ap, ap₂, ◌∙◌, subst}
 use mathlib.Core.Bool.{cond}
 use mathlib.Core.List.{List, [], ◌∷◌, ◌++◌, append-nil, append_assoc}
-use Prim.Native.Nat.{ℕ, zero, suc, ◌+◌, ◌-◌, ◌/◌, ◌<◌, ◌≤◌}
+use Prim.Native.Nat.{ℕ, zero, suc, ◌+◌, ◌-◌, ◌^◌, ◌/◌, ◌<◌, ◌≤◌}
 use native.Mathlib.Numerals.{add-one}
 use native.Mathlib.Omega.{arith}
 use lib.Dec.{eqb}
@@ -19,7 +19,7 @@ use Rattle.tree.proofs.EvenParts.{PartsOf, even_sixteens}
 use Rattle.tree.proofs.LayerFacts.{layers_few, layers_many, layers_zero, level_next, parts_for}
 use Rattle.tree.proofs.RecordsLaws.{entries_set}
 use Rattle.tree.proofs.Vacated.{vacated_next}
-use Rattle.renewal.specs.LayersCode.{HoldsAnew, HoldsVacant, LaysTree, Listed, PutsLevel, PutsLevels, PutsView}
+use Rattle.renewal.specs.LayersCode.{nodes_above, HoldsAnew, HoldsVacant, LaysTree, Listed, PutsLevel, PutsLevels, PutsView}
 use Rattle.renewal.proofs.NodesLaws.{holds_put, vacant_holds}
 
 -- ---- entries in two arrays: those of a part, and the key of the first
@@ -248,6 +248,21 @@ levels_many more l x n r y es sizes units mids parts counts bytes ks vs len h w 
       numbers = λ t e. o.numbers (put_nodes l x (parts_for es) es t) (level_next l x es t e) ∙ ap next (sym (layers_many more l x es t g));
       few = q.few;
     }
+
+-- more than 16 entries of a level below the root, and the level above them
+pub level_step : (l n x r : ℕ) → l ≤ 2 → 16 < n → n ≤ 16 ^ (3 - l) → x + nodes_above (2 - l) n ≤ 256 → r ≡ nodes_for n
+    → (l < 2) × (r ≤ 16 ^ (3 - (l + 1))) × (x + r + nodes_above (2 - (l + 1)) r ≤ 256) × (n ≤ 4096) × (x + nodes_for n ≤ 256)
+level_step zero n x r h g b k e = rw e (omega arith, omega arith, omega arith, omega arith, omega arith)
+level_step (suc zero) n x r h g b k e = rw e (omega arith, omega arith, omega arith, omega arith, omega arith)
+level_step (suc (suc zero)) n x r h g b k e = absurd (omega arith)
+level_step (suc (suc (suc l))) n x r h g b k e = absurd (omega arith)
+
+pub levels_up : (l x n r y : ℕ) (es : List Entry) (sizes units mids parts counts bytes ks vs : List ℕ) → l < 2 → length es ≡ n → 16 < n
+    → PutsLevel l x n es sizes units mids parts ks vs r → PutsLevels (2 - (l + 1)) (l + 1) (x + r) (entries_in r ks vs) mids parts counts bytes y
+    → PutsLevels (2 - l) l x es sizes units counts bytes y
+levels_up zero x n r y es sizes units mids parts counts bytes ks vs low = levels_many 1 0 x n r y es sizes units mids parts counts bytes ks vs
+levels_up (suc zero) x n r y es sizes units mids parts counts bytes ks vs low = levels_many 0 1 x n r y es sizes units mids parts counts bytes ks vs
+levels_up (suc (suc l)) x n r y es sizes units mids parts counts bytes ks vs low = absurd (omega arith)
 
 -- ---- the tree
 pub lays_tree : (limit : ℕ) (t : Table) (es : List Entry) (lens slots sizes units counts bytes : List ℕ) (r : ℕ) → HoldsVacant limit lens slots sizes units

@@ -1,12 +1,12 @@
 -- The entries of a node in two arrays, a view put for a number, and numbers vacated. Assumes nothing.
 use mathlib.Core.Path.{◌≡◌, refl, sym, ap, ap₂, ◌∙◌}
 use mathlib.Core.List.{List, [], ◌∷◌, ◌++◌}
-use Prim.Native.Nat.{ℕ, zero, suc, ◌+◌, ◌<◌, ◌≤◌}
-use native.Mathlib.Numerals.{add-one}
+use Prim.Native.Nat.{ℕ, zero, suc, ◌+◌, ◌-◌, ◌<◌, ◌≤◌}
+use native.Mathlib.Nat.{add-sub_cancel_left}
 use native.Mathlib.Omega.{arith}
 use lib.Dec.{eqb}
-use lib.ListN.{drop, get_or, length, length-drop, length-set, set, take}
-use lib.Seq.{get_or-drop, get_or-set_other, get_or-set_same, take-suc, take-suc-set}
+use lib.ListN.{drop, get_or, length, length-append, length-drop, length-set, set, take}
+use lib.Seq.{length-take-le, take_at, get_or-set_other, get_or-set_same}
 use borrow.Author.Tests.{eqb-false, eqb-true}
 use Rattle.lists.proofs.Tests.{cases}
 use Rattle.views.specs.declared.node.Node as N
@@ -24,18 +24,13 @@ use Rattle.contents.specs.ContentsCode.{Keeps}
 use Rattle.contents.proofs.UnitsLaws.{keeps_other, keeps_this}
 use Rattle.renewal.specs.LayersCode.{HoldsAnew, HoldsVacant, Listed, PutsView, vacant_view}
 
--- ---- numbers copied in front, i so far
-pub copy_next : (i at : ℕ) (from to : List ℕ) → i < length to → at + i < length from → take i to ≡ take i (drop at from)
-    → take (i + 1) (set to i (get_or from (at + i) 0)) ≡ take (i + 1) (drop at from)
-copy_next i at from to h g e =
-    let l = length-drop at from in
-    rw add-one
-    (take-suc-set to i (get_or from (at + i) 0) h
-    ∙ ap₂ (λ (xs : List ℕ) (x : ℕ). xs ++ (x ∷ [])) e (sym (get_or-drop at from i 0))
-    ∙ sym (take-suc (drop at from) i 0 (omega (arith, l))))
-
-pub copy_done : (i q at : ℕ) (from to : List ℕ) → i ≤ q → q ≤ i → take i to ≡ take i (drop at from) → take q to ≡ take q (drop at from)
-copy_done i q at from to h g e = let m : i ≡ q = omega arith in rw m at e
+-- ---- q numbers from `from` on, copied in front of others
+pub copied : (q from : ℕ) (xs ys zs : List ℕ) → from + q ≤ length xs → ys ≡ take (from + q - from) (drop from xs) → q ≤ length zs
+    → (take q (ys ++ drop q zs) ≡ take q (drop from xs)) × (length (ys ++ drop q zs) ≡ length zs)
+copied q from xs ys zs h e l =
+    let is : ys ≡ take q (drop from xs) = e ∙ ap (λ (n : ℕ). take n (drop from xs)) (add-sub_cancel_left from q) in
+    let size : length ys ≡ q = ap length is ∙ length-take-le q (drop from xs) (omega (arith, length-drop from xs)) in
+    (take_at ys (drop q zs) q size ∙ is, length-append ys (drop q zs) ∙ omega (arith, size, length-drop q zs))
 
 -- ---- entries
 pub length_entries_in : (n : ℕ) (ks vs : List ℕ) → n ≤ length ks → n ≤ length vs → length (entries_in n ks vs) ≡ n

@@ -2,6 +2,7 @@
 use mathlib.Core.Path.{subst, sym}
 use mathlib.Core.List.{List}
 use Prim.Native.Nat.{ℕ, ◌*◌}
+use Rattle.std.specs.Prelude.{Option}
 use Rattle.lists.specs.Lists.{All}
 use Rattle.chip.specs.declared.progress.Progress.{Progress}
 use Rattle.chip.specs.Geometry.{Geometry}
@@ -19,7 +20,7 @@ use Rattle.execution.specs.ExecutionCode.{CarriesOut, named_plan}
 use Rattle.renewal.specs.MakeCode.{MakesRebuild, anew_of}
 use Rattle.renewal.specs.RenewCode.{plan_for, CarriesRebuild}
 
-module _ (g : Geometry) (B : ℕ) (t : Table) (G v : ℕ) (torn : List ℕ) (p q r : Progress) (xs ys zs l s u w targets sizes units free : List ℕ) (plan : Plan)
+module _ (g : Geometry) (B : ℕ) (t : Table) (G : ℕ) (v : Option ℕ) (torn : List ℕ) (p q r : Progress) (xs ys zs l s u w targets sizes units free : List ℕ) (plan : Plan)
     (made : MakesRebuild g B t (pages_of g xs) targets sizes units free plan) (marked : Ran g torn (marks_of g v (pages_of g xs)) p q xs ys)
     (written : CarriesOut g (8 * B) G plan targets sizes units torn q r ys zs l s u w) where
   -- the plan that the arrays name is that of the rebuild

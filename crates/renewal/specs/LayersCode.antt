@@ -1,5 +1,5 @@
 -- How the code of nodes.rt and layers.rt holds a rebuilt tree: for each node below limit its units anew, as bytes at a place of its own.
-use Rattle.std.specs.Prelude.{◌≡◌, List, [], ◌∷◌, ℕ, zero, suc, ◌<◌, ◌≤◌, get_or, length}
+use Rattle.std.specs.Prelude.{◌≡◌, List, [], ◌∷◌, ℕ, zero, suc, ◌+◌, ◌<◌, ◌≤◌, get_or, length}
 use Rattle.pages.specs.declared.unit.Update.{Update}
 use Rattle.views.specs.Nodes.{Entry, View, untouched, freed, view}
 use Rattle.views.specs.NodeCode.{entries_in}
@@ -55,6 +55,11 @@ pub record PutsLevel (l x n : ℕ) (es : List Entry) (sizes units counts bytes k
   pub count : r ≡ nodes_for n
   pub keys : length ks ≡ 256
   pub values : length vs ≡ 256
+
+-- as many numbers as the nodes above n entries may take, up to `more` levels
+abbrev pub nodes_above : ℕ → ℕ → ℕ
+nodes_above zero n = 0
+nodes_above (suc more) n = nodes_for n + nodes_above more (nodes_for n)
 
 -- the levels above the entries es put from number x on, up to `more` levels higher; r is the number after them
 pub record PutsLevels (more l x : ℕ) (es : List Entry) (sizes units counts bytes : List ℕ) (r : ℕ) : Type 0 where

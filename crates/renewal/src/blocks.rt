@@ -6,33 +6,14 @@ ghost use Rattle.journal.specs.Rebuild.{eighth};
 ghost use Rattle.renewal.specs.MakeCode.{FindsFree};
 
 use chip::geometry::Geometry;
-use plan::{places, survey};
+use plan::places;
 
 // One block in eight, rounded up.
 pub fn needed(blocks: usize) -> usize
     requires { blocks ≤ 32 }
     ensures { result ≡ eighth blocks }
 {
-    (blocks + 7) / 8
-}
-
-// The wholly free blocks, with the array as a slice.
-fn list_free(geometry: Geometry, image: &[u8], blocks: usize, ring: &mut [u32]) -> usize
-    requires { (length image.now ≡ blocks * block_size geometry) × (blocks ≤ 32) × (length ring.old ≡ 32) × Fits geometry }
-    ensures { FindsFree geometry blocks (pages_of geometry image.now) ring.new result }
-{
-    let mut n = 0;
-    let mut b = 0;
-    while b < blocks {
-        n = survey::push_if(
-            places::is_wholly_free(geometry, image, b),
-            b as u32,
-            ring,
-            n,
-        );
-        b += 1;
-    }
-    n
+    blocks.div_ceil(8)
 }
 
 // The wholly free blocks, lowest first, in front of `ring`; how many there are.
@@ -40,5 +21,12 @@ pub fn free_blocks(geometry: Geometry, image: &[u8], blocks: usize, ring: &mut [
     requires { (length image.now ≡ blocks * block_size geometry) × (blocks ≤ 32) × Fits geometry }
     ensures { FindsFree geometry blocks (pages_of geometry image.now) ring.new result }
 {
-    list_free(geometry, image, blocks, ring)
+    let mut n = 0;
+    for b in 0..blocks {
+        if places::is_wholly_free(geometry, image, b) {
+            ring[n] = b as u32;
+            n += 1;
+        }
+    }
+    n
 }

@@ -1,9 +1,9 @@
 // A tree laid anew from its records, level by level: node 0 the root, then the leaves, then the interior nodes.
-ghost use Rattle.std.specs.Prelude.{◌≡◌, cond, ℕ, ◌+◌, ◌<◌, ◌≤◌, eqb, length, get_or, set};
+ghost use Rattle.std.specs.Prelude.{◌≡◌, cond, ℕ, ◌+◌, ◌-◌, ◌^◌, ◌<◌, ◌≤◌, eqb, length, get_or, set};
 ghost use Rattle.views.specs.NodeCode.{entries_in};
 ghost use Rattle.tree.specs.Tree.{Table};
 ghost use Rattle.tree.specs.Rebuild.{nodes_for};
-ghost use Rattle.renewal.specs.LayersCode.{Listed, PutsLevel, PutsLevels, LaysTree};
+ghost use Rattle.renewal.specs.LayersCode.{nodes_above, Listed, PutsLevel, PutsLevels, LaysTree};
 
 use crate::nodes;
 
@@ -12,10 +12,7 @@ fn low_key(keys: &[u32], from: usize) -> u32
     requires { from < length keys.now }
     ensures { result ≡ cond (eqb from 0) 0 (get_or keys.now from 0) }
 {
-    if from == 0 {
-        return 0;
-    }
-    keys[from]
+    if from == 0 { 0 } else { keys[from] }
 }
 
 // The entry of node `number`, whose own entries begin at `from`, put at index `i`.
@@ -36,6 +33,7 @@ fn put_above(
 }
 
 // More than 16 entries put in nodes of `level` from number `first` on, and the entries for these nodes in two arrays. Returns how many they are.
+// No heap: `lows` and `numbers` have a fixed size, and the next level reads them as keys and values.
 fn put_level(
     keys: &[u32],
     values: &[u32],
@@ -52,21 +50,19 @@ fn put_level(
     ensures { PutsLevel level first count (entries_in count keys.now values.now)
         sizes.old units.old sizes.new units.new lows.new numbers.new result }
 {
-    let nodes = (count + 15) / 16;
-    let mut from: usize = 0;
-    let mut i: usize = 0;
-    while i < nodes {
+    let nodes = count.div_ceil(16);
+    let mut from = 0;
+    for i in 0..nodes {
         let q = (count - from) / (nodes - i);
         nodes::put_node(keys, values, from, q, level, first + i, sizes, units);
         put_above(keys, from, first + i, i, lows, numbers);
         from += q;
-        i += 1;
     }
     nodes
 }
 
-// Up to 16 entries put as node 0; `first` is the number after the other nodes. Returns it.
-fn put_root(
+// The entries put as node 0, or as nodes of `level` from number `first` on with the levels above them, the root at most of level 2. Returns the number after them.
+fn put_levels(
     keys: &[u32],
     values: &[u32],
     count: usize,
@@ -75,81 +71,41 @@ fn put_root(
     sizes: &mut [u32],
     units: &mut [u8],
 ) -> usize
-    requires { (count ≤ 16) × (count ≤ length keys.now) × (count ≤ length values.now) × (1 ≤ first) × (first ≤ 256)
-        × (length sizes.old ≡ 256) × (length units.old ≡ 52224) }
-    ensures { (more : ℕ) → PutsLevels more level first (entries_in count keys.now values.now)
-        sizes.old units.old sizes.new units.new result }
-{
-    nodes::put_node(keys, values, 0, count, level, 0, sizes, units);
-    first
-}
-
-// The entries for leaves put as node 0, or as a level from number `first` on below it. Returns the number after them.
-fn put_top(
-    keys: &[u32],
-    values: &[u32],
-    count: usize,
-    first: usize,
-    sizes: &mut [u32],
-    units: &mut [u8],
-) -> usize
-    requires { (count ≤ 256) × (count ≤ length keys.now) × (count ≤ length values.now) × (1 ≤ first) × (first + nodes_for count ≤ 256)
-        × (length sizes.old ≡ 256) × (length units.old ≡ 52224) }
-    ensures { PutsLevels 1 1 first (entries_in count keys.now values.now)
+    requires { (level ≤ 2) × (count ≤ 16 ^ (3 - level)) × (count ≤ length keys.now) × (count ≤ length values.now) × (1 ≤ first)
+        × (first + nodes_above (2 - level) count ≤ 256) × (length sizes.old ≡ 256) × (length units.old ≡ 52224) }
+    ensures { PutsLevels (2 - level) level first (entries_in count keys.now values.now)
         sizes.old units.old sizes.new units.new result }
 {
     if count <= 16 {
-        return put_root(keys, values, count, 1, first, sizes, units);
+        nodes::put_node(keys, values, 0, count, level, 0, sizes, units);
+        return first;
     }
-    let mut lows: [u32; 256] = [0; 256];
-    let mut numbers: [u32; 256] = [0; 256];
+    let mut lows = [0; 256];
+    let mut numbers = [0; 256];
     let nodes = put_level(
         keys,
         values,
         count,
-        1,
+        level,
         first,
         &mut lows,
         &mut numbers,
         sizes,
         units,
     );
-    put_root(&lows, &numbers, nodes, 2, first + nodes, sizes, units)
-}
-
-// The records put as node 0, or as leaves below it. Returns the number after them.
-fn put_levels(
-    keys: &[u32],
-    values: &[u32],
-    count: usize,
-    sizes: &mut [u32],
-    units: &mut [u8],
-) -> usize
-    requires { (count ≤ 4096) × (count ≤ length keys.now) × (count ≤ length values.now) × (1 + nodes_for count + nodes_for (nodes_for count) ≤ 256)
-        × (length sizes.old ≡ 256) × (length units.old ≡ 52224) }
-    ensures { PutsLevels 2 0 1 (entries_in count keys.now values.now)
-        sizes.old units.old sizes.new units.new result }
-{
-    if count <= 16 {
-        return put_root(keys, values, count, 0, 1, sizes, units);
-    }
-    let mut lows: [u32; 256] = [0; 256];
-    let mut numbers: [u32; 256] = [0; 256];
-    let nodes = put_level(
-        keys,
-        values,
-        count,
-        0,
-        1,
-        &mut lows,
-        &mut numbers,
+    put_levels(
+        &lows,
+        &numbers,
+        nodes,
+        level + 1,
+        first + nodes,
         sizes,
         units,
-    );
-    put_top(&lows, &numbers, nodes, 1 + nodes, sizes, units)
+    )
 }
 
 // The tree of the records, and every other number that has a list freed. Returns how many nodes there are.
+// No heap: keys and values stand in two arrays of fixed size, as the contract reads them.
 pub fn lay_tree(
     keys: &[u32; 4096],
     values: &[u32; 4096],
@@ -165,5 +121,5 @@ pub fn lay_tree(
         → LaysTree limit t (entries_in count keys.now values.now) sizes.new units.new result }
 {
     nodes::vacate(lens, slots, limit, sizes, units);
-    put_levels(keys, values, count, sizes, units)
+    put_levels(keys, values, count, 0, 1, sizes, units)
 }

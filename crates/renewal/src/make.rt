@@ -17,6 +17,7 @@ use packing::pack;
 use plan::make::Plan;
 use plan::places;
 use tree::leaves;
+use views::nodes::Nodes;
 
 // The tree laid anew from its records; for each number its units and how many they are. Returns how many nodes it has.
 fn lay_anew(
@@ -37,20 +38,15 @@ fn lay_anew(
     let limit = (8 * blocks) as u32;
     let mut keys = [0; 4096];
     let mut values = [0; 4096];
-    let count = leaves::gather(geometry, image, lens, slots, limit, &mut keys, &mut values);
+    let nodes = Nodes {
+        geometry,
+        image,
+        lens,
+        slots,
+        limit,
+    };
+    let count = leaves::gather(nodes, &mut keys, &mut values);
     layers::lay_tree(&keys, &values, count, lens, slots, limit, sizes, units)
-}
-
-// A 1 for each of the first `n` numbers.
-fn count_first(counts: &mut [u32], n: usize)
-    requires { n ≤ length counts.old }
-    ensures { counts.new ≡ replicate n 1 ++ drop n counts.old }
-{
-    let mut i: usize = 0;
-    while i < n {
-        counts[i] = 1;
-        i += 1;
-    }
 }
 
 // The numbers below `limit` that are free where the first `n` have nodes.
@@ -59,7 +55,7 @@ fn set_free(n: usize, limit: u32, free: &mut [u64; 4])
     ensures { free.new ≡ words_of (numbers_from n limit) }
 {
     let mut counts = [0; 256];
-    count_first(&mut counts, n);
+    counts[..n].fill(1);
     set::gather(&counts, limit, free);
 }
 

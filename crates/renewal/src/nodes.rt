@@ -12,27 +12,15 @@ use views::node;
 use views::node::Node;
 use views::view::used_slots;
 
-// `q` numbers from `at` on, copied in front.
-fn copy_front(from: &[u32], at: usize, q: usize, to: &mut [u32])
-    requires { (at + q ≤ length from.now) × (at + q ≤ 4096) × (q ≤ 16) × (length to.old ≡ 17) }
-    ensures { (take q to.new ≡ take q (drop at from.now)) × (length to.new ≡ 17) }
-{
-    let mut i: usize = 0;
-    while i < q {
-        to[i] = from[at + i];
-        i += 1;
-    }
-}
-
 // A node of the `q` entries from `from` on.
 fn node_of(keys: &[u32], values: &[u32], from: usize, q: usize, level: u32) -> Node
     requires { (from + q ≤ length keys.now) × (from + q ≤ length values.now) × (from + q ≤ 4096) × (q ≤ 16) }
     ensures { Shows result level (entries_in q (drop from keys.now) (drop from values.now)) × (result.len ≡ q) }
 {
-    let mut ks: [u32; 17] = [0; 17];
-    let mut vs: [u32; 17] = [0; 17];
-    copy_front(keys, from, q, &mut ks);
-    copy_front(values, from, q, &mut vs);
+    let mut ks = [0; 17];
+    let mut vs = [0; 17];
+    ks[..q].copy_from_slice(&keys[from..from + q]);
+    vs[..q].copy_from_slice(&values[from..from + q]);
     Node {
         level,
         len: q,
@@ -113,9 +101,7 @@ pub fn vacate(lens: &[u32], slots: &[u32], limit: u32, sizes: &mut [u32], units:
     requires { (length lens.now ≡ 256) × (length slots.now ≡ 1024) × (limit ≤ 256) × (length sizes.old ≡ 256) × (length units.old ≡ 52224) }
     ensures { HoldsVacant limit lens.now slots.now sizes.new units.new }
 {
-    let mut n: u32 = 0;
-    while n < limit {
+    for n in 0..limit {
         vacate_one(lens, slots, n, sizes, units);
-        n += 1;
     }
 }

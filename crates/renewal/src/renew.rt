@@ -13,13 +13,13 @@ use execution::execute as carry;
 use execution::execute::Commit;
 use journal;
 
-// What a rebuild starts from: the geometry and the blocks of the chip, the greatest standing commit number, and the commit number of the void pages, 0 where there are none.
+// What a rebuild starts from: the geometry and the blocks of the chip, the greatest standing commit number, and the commit number of the void pages, where there are any.
 #[derive(Clone, Copy)]
 pub struct Ground {
     pub geometry: Geometry,
     pub blocks: usize,
     pub commit: u32,
-    pub void: u32,
+    pub void: Option<u32>,
 }
 
 // The tree of the image and its lists rebuilt as the next commit, as far as the power goes: the image, and the node table and the free numbers that it leaves.

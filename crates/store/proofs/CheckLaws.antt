@@ -1,15 +1,16 @@
 -- Steps 1 to 6 of an image by the keys of its live pages in order. Assumes nothing.
 use mathlib.Core.Path.{◌≡◌, refl, sym, ap, subst, ◌∙◌}
-use mathlib.Core.Bool.{Bool, true, false, cond, ◌&&◌, not}
+use mathlib.Core.Bool.{Bool, true, false, cond}
 use mathlib.Core.List.{List, [], ◌∷◌, ◌++◌, map, append_assoc}
 use Prim.Native.Nat.{ℕ, ◌+◌, ◌*◌, ◌-◌, ◌/◌, ◌≤◌, ◌<◌}
 use native.Mathlib.Omega.{arith}
 use lib.Dec.{eqb}
 use lib.ListN.{length, drop, get_or, length-append, length-map}
 use lib.Seq.{take_at, get_or_at, get_or-drop}
-use borrow.Author.Tests.{eq-eqb, ne_eqb, eqb-true, eqb-false}
-use Rattle.lists.specs.Lists.{All, all, filter, part, sort}
-use Rattle.lists.proofs.Tests.{cases, and_left, and_right}
+use borrow.Author.Tests.{eq-eqb, ne_eqb}
+use Rattle.std.specs.Prelude.{Result, Ok, Err, Some, None}
+use Rattle.lists.specs.Lists.{All, all, part, sort}
+use Rattle.lists.proofs.Tests.{and_left, and_right}
 use Rattle.lists.proofs.Alls.{All-head, All-left, All-right}
 use Rattle.lists.proofs.Ends.{End, nil, snoc, end_of}
 use Rattle.lists.proofs.Flats.{map_append, tab_same, tab_all, get_d_tab, length_tab}
@@ -17,12 +18,12 @@ use Rattle.lists.proofs.Sorts.{All-sort}
 use Rattle.chip.specs.Geometry.{Geometry, Fits, blocks_of, most_pages, page_size}
 use Rattle.chip.specs.Page.{Page}
 use Rattle.chip.specs.Chip.{pages_of}
-use Rattle.pages.specs.declared.standing.Standing.TheVariants.{Refused, Stands}
-use Rattle.pages.specs.Steps.{Live, live_from, commit, count, full, last_from, of_commit, ordered, Stood, refused, stand, without, split_last, steps}
-use Rattle.pages.specs.KeyCode.{key_of, Shown, Says}
+use Rattle.pages.specs.declared.standing.Standing.{Standing}
+use Rattle.pages.specs.declared.standing.Unsettled.{Unsettled}
+use Rattle.pages.specs.declared.standing.Unsettled.TheVariants as U
+use Rattle.pages.specs.Steps.{Live, commit, count, Stood, refused, stand, steps}
+use Rattle.pages.specs.KeyCode.{key_of, number_of, stands, Shown, Says}
 use Rattle.pages.proofs.KeyLaws.{Bounded, image_bounded, key_commit}
-use Rattle.pages.proofs.Order.{chain}
-use Rattle.pages.proofs.Pairs.{own, ordered_is, steps_ordered}
 use Rattle.numbers.specs.NumberSet.{words_of, uncounted}
 use Rattle.views.specs.Table as Views
 use Rattle.views.specs.Table.{Node, fresh, events, table, node_of, is_sound, is_well, read_stood, read}
@@ -46,9 +47,9 @@ use Rattle.promise.specs.Calls.{invalid}
 use Rattle.promise.specs.Image.{views_of, by_six, image_meaning}
 use Rattle.store.proofs.SettledViews.{map_tab}
 use Rattle.store.proofs.SizeLaws.{chip_pages}
-use Rattle.store.specs.declared.check.Judged.TheVariants as J
+use Rattle.store.specs.declared.answer.Refusal.{Refusal}
 use Rattle.store.specs.AdmitCode.{ChipOf}
-use Rattle.store.specs.CheckCode.{is_read, is_tree, Passed, JudgesKeys, commit_at, means_by, Numbered, refused_by, Checks}
+use Rattle.store.specs.CheckCode.{is_read, is_tree, Passed, Condemns, unread, no_tree, JudgesKeys, commit_at, means_by, Numbered, refused_by, Unread, blank, layout, shape, Checks}
 
 module _ (g : Geometry) (image lens slots : List ℕ) (limit : ℕ) (few : limit ≤ 256) (v xs : List Live) (st : steps g (pages_of g image) ≡ stand v xs)
     (read : is_read limit xs ≡ true) (lists : (n : ℕ) → n < 256 → Stores lens slots n (node_of n (events limit xs)).pages) where
@@ -95,55 +96,45 @@ module _ (g : Geometry) (image lens slots : List ℕ) (limit : ℕ) (few : limit
     judged_tree w h y free f =
         record { read = sym t.good ∙ e; tree = sym judged_same ∙ h; lists = t.lists e; numbers = judged_free h free f; thin = sym y ∙ k.thin h ∙ ap thin same_views }
 
--- ---- steps 1 to 3 refuse with 7 or 8
-without_number : (w r : List Live) (n : ℕ) → without w r ≡ refused n → (n ≡ 7 → ⊥) → n ≡ 8
-without_number w [] n e d = let q : 7 ≡ n = cc in absurd (d (sym q))
-without_number w (x ∷ r) n e d =
-    cases (full (last_from x r) (x ∷ r))
-    (λ t. let k : stand w (x ∷ r) ≡ refused n = (rw t at e) in let u : ◌≡◌ {A = ℕ} 0 1 = cc in absurd (omega arith))
-    (λ t. let k : refused 8 ≡ refused n = (rw t at e) in let q : 8 ≡ n = cc in sym q)
+-- ---- an image that steps 1 to 3 refuse means the refusal
+says_refused : (q : Stood) (order : List ℕ) (e : Unsettled) → Says (Err e) order q → q ≡ refused (number_of e)
+says_refused (refused m) order e k = let p = k.1 in let d : e ≡ k.0 = cc in ap refused (sym k.2 ∙ ap number_of (sym d))
+says_refused (stand v s) order e k = let p = k.answer in let u : ◌≡◌ {A = ℕ} 0 1 = cc in absurd (omega arith)
 
-split_number : (s : List Live) (n : ℕ) → split_last s ≡ refused n → (n ≡ 7 → ⊥) → n ≡ 8
-split_number [] n e d = let q : 7 ≡ n = cc in absurd (d (sym q))
-split_number (x ∷ r) n e d =
-    let z : Live = last_from x r in
-    cases (full z (x ∷ r))
-    (λ t. let k : stand [] (x ∷ r) ≡ refused n = (rw t at e) in let u : ◌≡◌ {A = ℕ} 0 1 = cc in absurd (omega arith))
-    (λ t. without_number (filter (of_commit (commit z)) (x ∷ r)) (filter (λ (y : Live). not (of_commit (commit z) y)) (x ∷ r)) n (rw t at e) d)
-
-refused_number : (g : Geometry) (ps : List Page) (n : ℕ) → steps g ps ≡ refused n → (n ≡ 7 → ⊥) → n ≡ 8
-refused_number g ps n e d =
-    let s = ordered (live_from g 0 ps) in
-    let k : cond (all (own g) s && chain s) (split_last s) (refused 8) ≡ refused n = sym (ordered_is g s) ∙ sym (steps_ordered g ps) ∙ e in
-    cases (all (own g) s && chain s)
-    (λ t. split_number s n (rw t at k) d)
-    (λ t. let l : refused 8 ≡ refused n = (rw t at k) in let q : 8 ≡ n = cc in sym q)
-
--- such an image means the refusal
-pub refused_checks : (g : Geometry) (image lens slots free : List ℕ) (n : ℕ) → steps g (pages_of g image) ≡ refused n → Checks g image lens slots free (refused_by n)
+refused_means : (g : Geometry) (image : List ℕ) (n : ℕ) → steps g (pages_of g image) ≡ refused n → image_meaning g image ≡ invalid n
 unfolding image_meaning Views.meaning
-refused_checks g image lens slots free n e =
-    let limit = 8 * blocks_of g (length image) in
-    let m : image_meaning g image ≡ invalid n = ap (λ (s : Stood). by_six (read_stood limit s)) e in
-    cases (eqb n 7)
-    (λ t. let q = eqb-true n 7 t in rw t (m ∙ ap invalid q))
-    (λ t. let q = refused_number g (pages_of g image) n e (eqb-false n 7 t) in rw t (m ∙ ap invalid q))
+refused_means g image n q = ap (λ (s : Stood). by_six (read_stood (8 * blocks_of g (length image)) s)) q
+
+pub refused_checks : (g : Geometry) (image order : List ℕ) (e : Unsettled) → Says (Err e) order (steps g (pages_of g image)) → Unread g image (refused_by e)
+refused_checks g image order U.Blank h = blank (refused_means g image 7 (says_refused (steps g (pages_of g image)) order U.Blank h))
+refused_checks g image order U.Layout h = layout (refused_means g image 8 (says_refused (steps g (pages_of g image)) order U.Layout h))
 
 -- ---- the keys of the standing pages xs and of the void pages v behind them
-module _ (order : List ℕ) (first voids : ℕ) (v xs : List Live) (k : Shown (Stands first voids) order v xs) where
+abbrev first_of : Result Standing Unsettled → ℕ
+first_of (Ok s) = s.first
+first_of (Err e) = 0
+
+abbrev voids_of : Result Standing Unsettled → ℕ
+voids_of (Ok s) = s.voids
+voids_of (Err e) = 0
+
+same_stands : {a b i v : ℕ} → stands a b ≡ stands i v → (a ≡ i) × (b ≡ v)
+same_stands e = (ap first_of e, ap voids_of e)
+
+module _ (order : List ℕ) (first voids : ℕ) (v xs : List Live) (k : Shown (stands first voids) order v xs) where
   voids_is : voids ≡ length v
-  voids_is = let e = k.answer in cc
+  voids_is = (same_stands k.answer).1
 
   first_is : first + (length xs + length v) ≡ most_pages
   first_is =
-      let e : Stands first voids ≡ Stands (most_pages - length (xs ++ v)) (length v) = k.answer in
-      let q : first ≡ most_pages - length (xs ++ v) = cc in
+      let e : stands first voids ≡ stands (most_pages - length (xs ++ v)) (length v) = k.answer in
+      let q : first ≡ most_pages - length (xs ++ v) = (same_stands e).0 in
       omega (arith, length-append xs v, k.few)
 
   keys_from : drop first order ≡ map key_of (xs ++ v)
   keys_from =
-      let e : Stands first voids ≡ Stands (most_pages - length (xs ++ v)) (length v) = k.answer in
-      let q : first ≡ most_pages - length (xs ++ v) = cc in
+      let e : stands first voids ≡ stands (most_pages - length (xs ++ v)) (length v) = k.answer in
+      let q : first ≡ most_pages - length (xs ++ v) = (same_stands e).0 in
       rw q k.keys
 
   -- where the keys of the standing pages stand
@@ -161,7 +152,7 @@ module _ (order : List ℕ) (first voids : ℕ) (v xs : List Live) (k : Shown (S
       ∙ get_or_at (map key_of a) (key_of y) (map key_of b) 0 (length a) (length-map a key_of)
 
 module _ (g : Geometry) (image order : List ℕ) (first voids : ℕ) (bytes : (i : ℕ) → get_or image i 0 < 256) (size : length image / page_size g ≤ most_pages)
-    (v xs : List Live) (st : steps g (pages_of g image) ≡ stand v xs) (k : Shown (Stands first voids) order v xs) where
+    (v xs : List Live) (st : steps g (pages_of g image) ≡ stand v xs) (k : Shown (stands first voids) order v xs) where
   abbrev ps : List Page
   ps = pages_of g image
 
@@ -246,7 +237,7 @@ module _ (g : Geometry) (image order : List ℕ) (first voids : ℕ) (bytes : (i
   meaning_read limit e = meaning_is limit ∙ ap (λ (b : Bool). cond b (Views.means (table limit (events limit xs)) (commit parts.z)) (Views.refusal 8)) e
 
   -- the marks of a mount, by the number of the void pages
-  marks_by : {w : List Live} → End w → w ≡ v → mount_ops g ps ≡ marks_of g (cond (eqb voids 0) 0 (commit_at order (most_pages - 1))) ps
+  marks_by : {w : List Live} → End w → w ≡ v → mount_ops g ps ≡ marks_of g (cond (eqb voids 0) None (Some (commit_at order (most_pages - 1)))) ps
   marks_by nil e =
       let a = voids_is order first voids v xs k in
       let l : length v ≡ 0 = ap length (sym e) in
@@ -257,8 +248,7 @@ module _ (g : Geometry) (image order : List ℕ) (first voids : ℕ) (bytes : (i
       let l : length v ≡ length s + 1 = ap length (sym e) ∙ length-append s (y ∷ []) in
       let t : eqb voids 0 ≡ false = ne_eqb voids 0 (λ q. omega arith) in
       let n = (void_number s y (sym e)).0 in
-      let d : eqb parts.c 0 ≡ false = ne_eqb parts.c 0 (λ q. omega (arith, parts.voided.above)) in
-      rw (t, n, d) (ap (map retire) (void_scan g ps v xs st parts.c parts.newest))
+      rw (t, n) (ap (map retire) (void_scan g ps v xs st parts.c parts.newest))
 
   module _ (limit : ℕ) (is : limit ≡ 8 * blocks_of g (length image)) (few : limit ≤ 256) (lens slots free : List ℕ) where
     pub layout_checks : is_read limit xs ≡ false → image_meaning g image ≡ invalid 8
@@ -273,7 +263,7 @@ module _ (g : Geometry) (image order : List ℕ) (first voids : ℕ) (bytes : (i
         let e = h.1 in
         ap (λ (n : ℕ). by_six (Views.meaning g n ps)) (sym is) ∙ ap by_six (meaning_read limit h.0) ∙ rw e
 
-    pub tree_checks : (w : Bool) → Passed limit xs lens slots free w → Checks g image lens slots free (means_by order voids w)
+    pub tree_checks : (w : Bool) → Passed limit xs lens slots free w → Checks g image lens slots free (Ok (means_by order voids w))
     tree_checks w p =
         record {
           nodes = table limit (events limit xs);
@@ -292,49 +282,43 @@ module _ (g : Geometry) (image order : List ℕ) (first voids : ℕ) (bytes : (i
           thin = p.thin;
         }
 
--- ---- from what the code of steps 1 to 3 says
--- the answer Refused n
-pub says_refused : (q : Stood) (order : List ℕ) (n : ℕ) → Says (Refused n) order q → q ≡ refused n
-says_refused (refused m) order n e = let k : m ≡ n = cc in ap refused k
-says_refused (stand v s) order n k = let e = k.answer in let u : ◌≡◌ {A = ℕ} 0 1 = cc in absurd (omega arith)
-
--- the answer Stands first voids
-pub record StandsBy (q : Stood) (order : List ℕ) (first voids : ℕ) : Type 0 where
+-- ---- from what the code of steps 1 to 3 says of an image with standing pages
+record StandsBy (q : Stood) (order : List ℕ) (r : Standing) : Type 0 where
   pub v : List Live
   pub xs : List Live
   pub is : q ≡ stand v xs
-  pub keys : Shown (Stands first voids) order v xs
+  pub keys : Shown (stands r.first r.voids) order v xs
 
-pub says_stands : (q : Stood) (order : List ℕ) (first voids : ℕ) → Says (Stands first voids) order q → StandsBy q order first voids
-says_stands (refused m) order first voids e = let u : ◌≡◌ {A = ℕ} 0 1 = cc in absurd (omega arith)
-says_stands (stand v s) order first voids k = record { v = v; xs = s; is = refl; keys = k }
+says_stands : (q : Stood) (order : List ℕ) (r : Standing) → Says (Ok r) order q → StandsBy q order r
+says_stands (refused m) order r e = let p = e.1 in let u : ◌≡◌ {A = ℕ} 0 1 = cc in absurd (omega arith)
+says_stands (stand v s) order r k = record { v = v; xs = s; is = refl; keys = k }
 
-module _ (g : Geometry) (fit : Fits g) (image order : List ℕ) (first voids blocks : ℕ) (chip : ChipOf g blocks (length image)) (bytes : (i : ℕ) → get_or image i 0 < 256)
-    (t : StandsBy (steps g (pages_of g image)) order first voids) where
+module _ (g : Geometry) (fit : Fits g) (image order : List ℕ) (r : Standing) (blocks : ℕ) (chip : ChipOf g blocks (length image)) (bytes : (i : ℕ) → get_or image i 0 < 256)
+    (says : Says (Ok r) order (steps g (pages_of g image))) where
+  abbrev t : StandsBy (steps g (pages_of g image)) order r
+  t = says_stands (steps g (pages_of g image)) order r says
+
   pages_few : length image / page_size g ≤ most_pages
   pages_few = chip_pages g fit blocks (length image) chip
 
   nodes_few : 8 * blocks ≤ 256
   nodes_few = omega (arith, chip.most)
 
-  pub stands_room : (first + voids < most_pages) × (first ≤ most_pages - voids) × (voids < most_pages)
-  stands_room = room g image order first voids bytes pages_few t.v t.xs t.is t.keys
+  pub stands_room : (r.first + r.voids < most_pages) × (r.first ≤ most_pages - r.voids) × (r.voids < most_pages)
+  stands_room = room g image order r.first r.voids bytes pages_few t.v t.xs t.is t.keys
 
-  pub stands_numbered : Numbered order voids
-  stands_numbered = numbered g image order first voids bytes pages_few t.v t.xs t.is t.keys
+  pub stands_numbered : Numbered order r.voids
+  stands_numbered = numbered g image order r.first r.voids bytes pages_few t.v t.xs t.is t.keys
 
   module _ (lens slots free : List ℕ) where
-    pub stands_layout : JudgesKeys g image (part first (most_pages - voids - first) order) (8 * blocks) lens slots free J.Layout → image_meaning g image ≡ invalid 8
-    stands_layout j =
-        layout_checks g image order first voids bytes pages_few t.v t.xs t.is t.keys (8 * blocks) (ap (λ (b : ℕ). 8 * b) chip.blocks) nodes_few lens slots free
-        (j t.v t.xs t.is (keys_part order first voids t.v t.xs t.keys))
+    condemned : (e : Refusal) → Condemns (8 * blocks) t.xs e → Unread g image e
+    condemned e (unread h) = layout (layout_checks g image order r.first r.voids bytes pages_few t.v t.xs t.is t.keys (8 * blocks) (ap (λ (b : ℕ). 8 * b) chip.blocks) nodes_few lens slots free h)
+    condemned e (no_tree k h) = shape (shape_checks g image order r.first r.voids bytes pages_few t.v t.xs t.is t.keys (8 * blocks) (ap (λ (b : ℕ). 8 * b) chip.blocks) nodes_few lens slots free (k, h))
 
-    pub stands_shape : JudgesKeys g image (part first (most_pages - voids - first) order) (8 * blocks) lens slots free J.Shape → image_meaning g image ≡ invalid 9
-    stands_shape j =
-        shape_checks g image order first voids bytes pages_few t.v t.xs t.is t.keys (8 * blocks) (ap (λ (b : ℕ). 8 * b) chip.blocks) nodes_few lens slots free
-        (j t.v t.xs t.is (keys_part order first voids t.v t.xs t.keys))
+    pub stands_condemned : (e : Refusal) → JudgesKeys g image (part r.first (most_pages - r.voids - r.first) order) (8 * blocks) lens slots free (Err e) → Unread g image e
+    stands_condemned e j = condemned e (j t.v t.xs t.is (keys_part order r.first r.voids t.v t.xs t.keys))
 
-    pub stands_tree : (w : Bool) → JudgesKeys g image (part first (most_pages - voids - first) order) (8 * blocks) lens slots free (J.Tree w) → Checks g image lens slots free (means_by order voids w)
+    pub stands_tree : (w : Bool) → JudgesKeys g image (part r.first (most_pages - r.voids - r.first) order) (8 * blocks) lens slots free (Ok w) → Checks g image lens slots free (Ok (means_by order r.voids w))
     stands_tree w j =
-        tree_checks g image order first voids bytes pages_few t.v t.xs t.is t.keys (8 * blocks) (ap (λ (b : ℕ). 8 * b) chip.blocks) nodes_few lens slots free w
-        (j t.v t.xs t.is (keys_part order first voids t.v t.xs t.keys))
+        tree_checks g image order r.first r.voids bytes pages_few t.v t.xs t.is t.keys (8 * blocks) (ap (λ (b : ℕ). 8 * b) chip.blocks) nodes_few lens slots free w
+        (j t.v t.xs t.is (keys_part order r.first r.voids t.v t.xs t.keys))

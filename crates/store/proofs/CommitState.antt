@@ -29,6 +29,7 @@ use Rattle.journal.specs.Commit.{groups_of}
 use Rattle.journal.specs.Plan.{Plan, most_ops, news_of, node_at, ops_of, stuck, is_empty}
 use Rattle.journal.proofs.PlanKept.{few_ops}
 use Rattle.journal.proofs.EraseLaws.{commit_erases, erased_most}
+use Rattle.std.specs.Prelude.{Ok, Err}
 use Rattle.promise.specs.Plain.{Answer, refuses, accepted, Call, commits, first_refusal, numbers_refusal}
 use Rattle.promise.specs.Plain as Plain
 use Rattle.promise.specs.Calls as P
@@ -36,13 +37,13 @@ use Rattle.promise.specs.Calls.{FirstTests}
 use Rattle.promise.specs.Image.{image_meaning}
 use Rattle.promise.specs.Steps.{commit}
 use Rattle.promise.proofs.Promise.{first_most}
-use Rattle.commits.specs.declared.execute.Ended.{Ended}
+use Rattle.std.proofs.Common.{Option, None, Some, is_none, is_some}
 use Rattle.commits.specs.ExecuteCode.{Executes}
-use Rattle.store.specs.declared.answer.Answer as A
-use Rattle.store.specs.declared.answer.Answer.TheVariants.{Accepted, Last, Cut}
+use Rattle.store.specs.Answers as A
+use Rattle.store.specs.declared.answer.Refusal.{Refusal}
+use Rattle.store.specs.declared.answer.Refusal.TheVariants.{Last, Cut}
 use Rattle.store.specs.declared.state.State.{State}
 use Rattle.store.specs.declared.state.Wrote.{Wrote}
-use Rattle.store.specs.declared.admit.Beginning.TheVariants.{Ends}
 use Rattle.store.specs.declared.state.Numbers.{Numbers}
 use Rattle.store.specs.AdmitCode.{CommitBegins, denied, idle, full, commit_tests, answer_for}
 use Rattle.store.specs.Parts.{joined}
@@ -53,7 +54,7 @@ use Rattle.store.specs.State.{turned_off, geometry_in, limit_of, nodes_of, units
 use Rattle.store.specs.State as State
 use Rattle.store.specs.Ensured.{index, the_ops, told_of, Commits}
 use Rattle.store.proofs.EndingLaws.{either_end}
-use Rattle.store.proofs.CommitTests.{commits_past}
+use Rattle.store.proofs.CommitTests.{Past, commits_past}
 use Rattle.store.proofs.SizeLaws.{enough_most}
 use Rattle.store.proofs.EndedTests.{EndedBy, ended_idle, ended_refused, later_low, not_refused, other}
 use Rattle.store.proofs.Settled.{Settled, settled_good, settled_state}
@@ -132,8 +133,8 @@ module _ (n : ℕ) (torn : List ℕ) (s : State) (i : List ℕ) where
     tests a s' i' h k z = record { refused = λ m e. absurd (omega arith); not1 = λ p. h; not2 = λ p. k; same_size = z }
 
     -- nothing is pending
-    commit_idle : s.pending ≡ 0 → Commits n torn s i (record { answer = Accepted; ops = nothing; state = s }) i
-    commit_idle h = not_begun Accepted (ended_idle call s i refl passes h) (λ e. not_refused 10 e)
+    commit_idle : s.pending ≡ 0 → Commits n torn s i (record { answer = Ok tt; ops = nothing; state = s }) i
+    commit_idle h = not_begun (Ok tt) (ended_idle call s i refl passes h) (λ e. not_refused 10 e)
 
     -- ---- with updates pending and a number left, the plan is to do nothing: refused with 6
     module _ (pending : 0 < s.pending) (number : s.commit < 4294967295) (is_stuck : plan_at g s i ≡ stuck) (no_room : Good g s i → Room g i → ⊥) where
@@ -143,7 +144,7 @@ module _ (n : ℕ) (torn : List ℕ) (s : State) (i : List ℕ) where
       no_ops : the_ops g s i ≡ []
       no_ops = ap (ops_of g s.commit) is_stuck
 
-      nothing_done : Commits n torn s i (record { answer = Last; ops = nothing; state = s }) i
+      nothing_done : Commits n torn s i (record { answer = Err Last; ops = nothing; state = s }) i
       nothing_done =
           record {
             says = record {
@@ -180,12 +181,12 @@ module _ (n : ℕ) (torn : List ℕ) (s : State) (i : List ℕ) where
           }
 
     -- more units than the buffer holds
-    commit_full : 0 < s.pending → s.commit < 4294967295 → 960 < s.count → Commits n torn s i (record { answer = Last; ops = nothing; state = s }) i
+    commit_full : 0 < s.pending → s.commit < 4294967295 → 960 < s.count → Commits n torn s i (record { answer = Err Last; ops = nothing; state = s }) i
     commit_full h low many = nothing_done h low (plan_none g s i many) (λ ok r. omega (arith, good_few g s i ok))
 
     -- ---- the plan is executed
     module _ (pending : 0 < s.pending) (number : s.commit < 4294967295) (size : length torn ≡ page_size g) (fits : s.count ≤ 960) (slots : length s.slots ≡ 1024)
-        (figured : length s.erases ≡ 32) (bytes : (j : ℕ) → get_or i j 0 < 256) (i' lens' slots' erases' : List ℕ) (e : Ended)
+        (figured : length s.erases ≡ 32) (bytes : (j : ℕ) → get_or i j 0 < 256) (i' lens' slots' erases' : List ℕ) (e : Option Progress)
         (low : n < 2 ^ 32) (p : Progress) (from : p ≡ at_start n)
         (begins : Executes g (8 * s.blocks) s.blocks s.lens s.slots s.count s.buffer s.commit torn p i i' s.lens s.slots lens' slots' s.erases erases' e) where
       x : Executes g (8 * s.blocks) s.blocks s.lens s.slots s.count s.buffer s.commit torn (at_start n) i i' s.lens s.slots lens' slots' s.erases erases' e
@@ -196,35 +197,35 @@ module _ (n : ℕ) (torn : List ℕ) (s : State) (i : List ℕ) where
       later_none = later_low s.pending s.commit pending number
 
       -- the commit is stuck exactly where its plan has no page
-      by_pages : e.stuck ≡ is_empty (plan_at g s i).written
+      by_pages : is_none e ≡ is_empty (plan_at g s i).written
       by_pages = x.stuck ∙ sym (ap (λ (q : Plan). is_empty q.written) (plan_is g s i fits) ∙ paged_empty (read g s i))
 
       -- ---- no room: nothing was done
-      pub commit_stuck : e.stuck ≡ true → Commits n torn s i (record { answer = Last; ops = nothing; state = s }) i'
+      pub commit_stuck : e ≡ None → Commits n torn s i (record { answer = Err Last; ops = nothing; state = s }) i'
       commit_stuck st =
-          subst (λ (j : List ℕ). Commits n torn s i (record { answer = Last; ops = nothing; state = s }) j) (sym (x.still st))
-          (nothing_done pending number (plan_is g s i fits ∙ paged_none (read g s i) (sym x.stuck ∙ st))
-          (λ ok r. clash (sym by_pages ∙ st) (roomy_page g fit torn size s i ok bytes pending number r)))
+          subst (λ (j : List ℕ). Commits n torn s i (record { answer = Err Last; ops = nothing; state = s }) j) (sym (x.still st))
+          (nothing_done pending number (plan_is g s i fits ∙ paged_none (read g s i) (sym x.stuck ∙ ap is_none st))
+          (λ ok r. clash (sym by_pages ∙ ap is_none st) (roomy_page g fit torn size s i ok bytes pending number r)))
 
       -- ---- the plan has pages
-      module _ (st : e.stuck ≡ false) where
+      module _ (reached : Progress) (st : e ≡ Some reached) where
         read_is : read g s i ≡ plan_at g s i
-        read_is = sym (plan_is g s i fits ∙ paged_some (read g s i) (sym x.stuck ∙ st))
+        read_is = sym (plan_is g s i fits ∙ paged_some (read g s i) (sym x.stuck ∙ ap is_none st))
 
         -- on any state: the operations of the plan, as far as the power goes
-        ran : Ran g torn (the_ops g s i) (at_start n) e.reached i i'
-        ran = subst (λ (q : Plan). Ran g torn (ops_of g s.commit q) (at_start n) e.reached i i') read_is (x.ran st)
+        ran : Ran g torn (the_ops g s i) (at_start n) reached i i'
+        ran = subst (λ (q : Plan). Ran g torn (ops_of g s.commit q) (at_start n) reached i i') read_is (x.ran reached st)
 
         grown : erases' ≡ figures_after (the_ops g s i) s.erases
-        grown = x.figures st ∙ ap (λ (q : Plan). figures_after (ops_of g s.commit q) s.erases) read_is
+        grown = x.figures (ap is_some st) ∙ ap (λ (q : Plan). figures_after (ops_of g s.commit q) s.erases) read_is
 
-        by_plan : Good g s i → Executed g (limit_of s) s.commit (nodes_of g s i) (plan_at g s i) torn (at_start n) i i' lens' slots' s.erases erases' e.reached
+        by_plan : Good g s i → Executed g (limit_of s) s.commit (nodes_of g s i) (plan_at g s i) torn (at_start n) i i' lens' slots' s.erases erases' reached
         by_plan ok =
             record {
               ran = ran;
               lists = λ k l.
                   subst (λ (q : Plan). Stores lens' slots' k (foldl (turn k) (node_at (nodes_of g s i) k) (events (limit_of s) (news_of g s.commit q))).pages) read_is
-                  (x.lists (nodes_of g s i) (units_of s) (good_plannable g s i ok fit bytes slots pending number) refl refl st k l);
+                  (x.lists (nodes_of g s i) (units_of s) (good_plannable g s i ok fit bytes slots pending number) refl refl (ap is_some st) k l);
               figures = grown;
             }
 
@@ -232,7 +233,7 @@ module _ (n : ℕ) (torn : List ℕ) (s : State) (i : List ℕ) where
         run_is = ap (λ (m : Machine). m.pages) ran.is
 
         has_plan : not (is_empty (plan_at g s i).written) ≡ true
-        has_plan = ap not (sym by_pages ∙ st)
+        has_plan = ap not (sym by_pages ∙ ap is_none st)
 
         not_stuck : {Q : Type 0} → plan_at g s i ≡ stuck → Q
         not_stuck q = clash has_plan (ap (λ (p : Plan). not (is_empty p.written)) q)
@@ -246,25 +247,25 @@ module _ (n : ℕ) (torn : List ℕ) (s : State) (i : List ℕ) where
         most : Good g s i → length (State.commit_ops g s i) ≤ most_ops g
         most ok = rw need (few_ops g fit s.blocks (length (the_ops g s i)) (good_chip g s i ok).most (secure ok).few)
 
-        gone : is_gone e.reached.left ≡ ltb n (length (the_ops g s i))
+        gone : is_gone reached.left ≡ ltb n (length (the_ops g s i))
         gone = ap (λ (m : Machine). is_gone m.power) ran.is ∙ run_gone g torn n (pages_of g i) (the_ops g s i)
 
-        kinds_are : e.reached.done ≡ told_of n (the_ops g s i)
-        kinds_are = ran_told g torn n (the_ops g s i) e.reached i i' low ran
+        kinds_are : reached.done ≡ told_of n (the_ops g s i)
+        kinds_are = ran_told g torn n (the_ops g s i) reached i i' low ran
 
-        told : total e.reached.done ≡ min n (length (the_ops g s i))
+        told : total reached.done ≡ min n (length (the_ops g s i))
         told = ap total kinds_are ∙ told_sum n (kinds_of (the_ops g s i)) ∙ ap (min n) (length-map (the_ops g s i) kind_of)
 
         chosen : (ok : Good g s i)
             → image_meaning g i' ≡ cond (takes_effect (get_or torn 0 0) n (length (the_ops g s i))) (P.means (present_of g s i) (suc s.commit)) (image_meaning g i)
-        chosen ok = after_meaning g n torn s i i' lens' slots' erases' e.reached ok (by_plan ok) (secure ok)
+        chosen ok = after_meaning g n torn s i i' lens' slots' erases' reached ok (by_plan ok) (secure ok)
 
         chosen_count : (ok : Good g s i)
             → image_meaning g i' ≡ cond (takes_effect (get_or torn 0 0) n (length (State.commit_ops g s i))) (P.means (present_of g s i) (suc s.commit)) (image_meaning g i)
         chosen_count ok = rw need (chosen ok)
 
         room_after : (ok : Good g s i) → Room g i → Room g i'
-        room_after ok r = after_room g n torn s i i' lens' slots' erases' e.reached ok (by_plan ok) (secure ok) r
+        room_after ok r = after_room g n torn s i i' lens' slots' erases' reached ok (by_plan ok) (secure ok) r
 
         -- ---- the erases: of each block at most one
         erases_are : (b : ℕ) → erases_in b (State.commit_ops g s i) ≡ count (eqb b) (plan_at g s i).erased
@@ -277,7 +278,7 @@ module _ (n : ℕ) (torn : List ℕ) (s : State) (i : List ℕ) where
         adds ok b h =
             let o = ap (erases_in b) (ops_some g s i pending) in
             ap (λ (fs : List ℕ). get_or fs b 0) grown
-            ∙ figure_grows (the_ops g s i) s.erases b (λ l. after_past g n torn s i i' lens' slots' erases' e.reached ok (by_plan ok) (secure ok) fit b (omega (arith, (good_chip g s i ok).most, figured))) (omega (arith, o, once_each ok b)) ∙ omega (arith, o)
+            ∙ figure_grows (the_ops g s i) s.erases b (λ l. after_past g n torn s i i' lens' slots' erases' reached ok (by_plan ok) (secure ok) fit b (omega (arith, (good_chip g s i ok).most, figured))) (omega (arith, o, once_each ok b)) ∙ omega (arith, o)
 
         -- one of two, by a test
         either : {M : Type 0} (b : Bool) (m u v : M) → m ≡ cond b u v → (m ≡ v) ⊎ (m ≡ u)
@@ -285,10 +286,10 @@ module _ (n : ℕ) (torn : List ℕ) (s : State) (i : List ℕ) where
         either false m u v q = inl q
 
         -- cut
-        commit_cut : is_gone e.reached.left ≡ true → (off : State) → off ≡ turned_off s
-            → Commits n torn s i (record { answer = Cut; ops = e.reached.done; state = off }) i'
+        commit_cut : is_gone reached.left ≡ true → (off : State) → off ≡ turned_off s
+            → Commits n torn s i (record { answer = Err Cut; ops = reached.done; state = off }) i'
         commit_cut out off f =
-            subst (λ (y : State). Commits n torn s i (record { answer = Cut; ops = e.reached.done; state = y }) i') (sym f)
+            subst (λ (y : State). Commits n torn s i (record { answer = Err Cut; ops = reached.done; state = y }) i') (sym f)
             (record {
               says = record {
                 first = tests (refuses 10) (turned_off s) i' (λ e. other 10 1 (λ u. omega arith) e) (λ e. other 10 2 (λ u. omega arith) e) x.size;
@@ -326,7 +327,7 @@ module _ (n : ℕ) (torn : List ℕ) (s : State) (i : List ℕ) where
             short = ltb-true n (length (the_ops g s i)) (sym gone ∙ out)
 
         -- finished
-        module _ (left : is_gone e.reached.left ≡ false) (bytes' : (j : ℕ) → get_or i' j 0 < 256) where
+        module _ (left : is_gone reached.left ≡ false) (bytes' : (j : ℕ) → get_or i' j 0 < 256) where
           abbrev after : State
           after = committed_state s lens' slots' erases'
 
@@ -334,10 +335,10 @@ module _ (n : ℕ) (torn : List ℕ) (s : State) (i : List ℕ) where
           enough = ltb-false n (length (the_ops g s i)) (sym gone ∙ left)
 
           abbrev nodes : Good g s i → List Node
-          nodes ok = next_nodes g n torn s i i' lens' slots' erases' e.reached ok (by_plan ok)
+          nodes ok = next_nodes g n torn s i i' lens' slots' erases' reached ok (by_plan ok)
 
           settled : (ok : Good g s i) → Settled g after i' (nodes ok)
-          settled ok = after_settled g n torn s i i' lens' slots' erases' e.reached ok (by_plan ok) (secure ok) enough fit bytes'
+          settled ok = after_settled g n torn s i i' lens' slots' erases' reached ok (by_plan ok) (secure ok) enough fit bytes'
 
           means_new : (ok : Good g s i) → image_meaning g i' ≡ P.means (present_of g s i) (suc s.commit)
           means_new ok =
@@ -349,18 +350,18 @@ module _ (n : ℕ) (torn : List ℕ) (s : State) (i : List ℕ) where
           unfolding P.state_of Plain.committed
           state_new ok =
               settled_state after i' (nodes ok) (settled ok)
-              ∙ rw (next_views g n torn s i i' lens' slots' erases' e.reached ok (by_plan ok) (secure ok), let z : s.commit + 1 ≡ suc s.commit = omega arith in z)
+              ∙ rw (next_views g n torn s i i' lens' slots' erases' reached ok (by_plan ok) (secure ok), let z : s.commit + 1 ≡ suc s.commit = omega arith in z)
 
           rests_after : Good g s i → (b : ℕ) → 0 < erases_in b (State.commit_ops g s i) → (t : State) → Good (geometry_in t) t i' → t.nand ≡ s.nand
               → erases_in b (State.commit_ops (geometry_in t) t i') ≡ 0
           rests_after ok b h t w q =
               subst (λ (m : Nand). Good (geometry_of m) t i' → erases_in b (State.commit_ops (geometry_of m) t i') ≡ 0) (sym q)
-              (after_rests g n torn s i i' lens' slots' erases' e.reached ok (by_plan ok) (secure ok) enough b (omega (arith, ap (erases_in b) (ops_some g s i pending))) t) w
+              (after_rests g n torn s i i' lens' slots' erases' reached ok (by_plan ok) (secure ok) enough b (omega (arith, ap (erases_in b) (ops_some g s i pending))) t) w
 
           commit_done : (new : State) → new ≡ committed_state s lens' slots' erases'
-              → Commits n torn s i (record { answer = Accepted; ops = e.reached.done; state = new }) i'
+              → Commits n torn s i (record { answer = Ok tt; ops = reached.done; state = new }) i'
           commit_done new f =
-              subst (λ (y : State). Commits n torn s i (record { answer = Accepted; ops = e.reached.done; state = y }) i') (sym f)
+              subst (λ (y : State). Commits n torn s i (record { answer = Ok tt; ops = reached.done; state = y }) i') (sym f)
               (record {
                 says = record {
                   first = tests accepted after i' (λ e. not_refused 1 e) (λ e. not_refused 2 e) x.size;
@@ -381,7 +382,7 @@ module _ (n : ℕ) (torn : List ℕ) (s : State) (i : List ℕ) where
                   done = λ c b k. (state_new c.good, settled_good g after i' (nodes c.good) (settled c.good));
                   once = λ c b. once_each c.good;
                   adds = λ c b k. adds c.good;
-                  leaves_free = λ c b k. after_free g n torn s i i' lens' slots' erases' e.reached c.good (by_plan c.good) (secure c.good) enough;
+                  leaves_free = λ c b k. after_free g n torn s i i' lens' slots' erases' reached c.good (by_plan c.good) (secure c.good) enough;
                   rests = λ c b k. rests_after c.good;
                   cut = λ c b m. absurd (omega (arith, enough, need));
                 };
@@ -395,18 +396,24 @@ module _ (n : ℕ) (torn : List ℕ) (s : State) (i : List ℕ) where
               })
 
         -- either
-        pub commit_ended : ((j : ℕ) → get_or i' j 0 < 256) → (r : Wrote) → r ≡ ended_with e.reached s (committed_state s lens' slots' erases') → Commits n torn s i r i'
+        pub commit_ended : ((j : ℕ) → get_or i' j 0 < 256) → (r : Wrote) → r ≡ ended_with reached s (committed_state s lens' slots' erases') → Commits n torn s i r i'
         commit_ended bytes' =
-            either_end e.reached s (committed_state s lens' slots' erases') (λ (r : Wrote). Commits n torn s i r i')
+            either_end reached s (committed_state s lens' slots' erases') (λ (r : Wrote). Commits n torn s i r i')
             (λ t. commit_cut t (turned_off s) refl)
             (λ t. commit_done t bytes' (committed_state s lens' slots' erases') refl)
 
--- ---- a commit that ends before its plan
-pub commit_ends : (m : Numbers) (buffer lens slots erases : List ℕ) (n : ℕ) (torn i : List ℕ) (a : A.Answer) → m.commit < 4294967296 → CommitBegins m (length i) (length torn) (Ends a)
-    → Commits n torn (joined m buffer lens slots erases) i (record { answer = a; ops = nothing; state = joined m buffer lens slots erases }) i
-commit_ends m buffer lens slots erases n torn i a u (denied b h e) = commit_refused n torn (joined m buffer lens slots erases) i b e h
-commit_ends m buffer lens slots erases n torn i a u (idle e p) =
-    commit_idle n torn (joined m buffer lens slots erases) i (commits_past (geometry_of m.nand) m.on m.blocks m.pending m.commit (length i) (length torn) u e).first p
-commit_ends m buffer lens slots erases n torn i a u (full e p k) =
-    let w = commits_past (geometry_of m.nand) m.on m.blocks m.pending m.commit (length i) (length torn) u e in
-    commit_full n torn (joined m buffer lens slots erases) i w.first p (w.number p) k
+-- ---- a commit that ends before its plan: refused, or with nothing pending
+module _ (m : Numbers) (buffer lens slots erases : List ℕ) (n : ℕ) (torn i : List ℕ) (low : m.commit < 4294967296) where
+  abbrev s : State
+  s = joined m buffer lens slots erases
+
+  past : commit_tests (geometry_of m.nand) m.on m.blocks m.pending m.commit (length i) (length torn) ≡ 0
+      → Past (geometry_of m.nand) m.on m.blocks m.pending m.commit (length i) (length torn)
+  past e = commits_past (geometry_of m.nand) m.on m.blocks m.pending m.commit (length i) (length torn) low e
+
+  pub commit_denied : (e : Refusal) → CommitBegins m (length i) (length torn) (Err e) → Commits n torn s i (record { answer = Err e; ops = nothing; state = s }) i
+  commit_denied e (denied b h q) = commit_refused n torn s i (Err b) q h
+  commit_denied e (full q p k) = let w = past q in commit_full n torn s i w.first p (w.number p) k
+
+  pub commit_rests : CommitBegins m (length i) (length torn) (Ok false) → Commits n torn s i (record { answer = Ok tt; ops = nothing; state = s }) i
+  commit_rests (idle q p) = commit_idle n torn s i (past q).first p

@@ -6,19 +6,24 @@ use Prim.Native.Nat.{ℕ, zero, suc, ◌<◌, ◌≤◌}
 use native.Mathlib.Omega.{arith}
 use lib.Dec.{ltb, leb, eqb}
 use borrow.Author.Tests.{eq-eqb, ne_eqb, eqb-true, lt-ltb, le-ltb, le-leb, lt-leb}
+use Rattle.std.specs.Prelude.{Result, Ok}
 use Rattle.chip.specs.Geometry.{Geometry, geometry_of, page_size}
 use Rattle.promise.specs.Plain.{refuses, accepted, admission, commit_refusal, has_blocks, is_chip_size, is_torn_size, last_number, or_else, when}
-use Rattle.store.specs.declared.admit.Beginning.{Beginning}
-use Rattle.store.specs.declared.admit.Beginning.TheVariants.{Plans}
+use Rattle.store.specs.declared.answer.Refusal.{Refusal}
 use Rattle.store.specs.declared.state.Numbers.{Numbers}
 use Rattle.store.specs.AdmitCode.{CommitBegins, denied, idle, full, plans, ChipOf, update_tests, commit_tests, answer_for}
 use Rattle.store.specs.Parts.{with_free}
 use Rattle.store.proofs.AdmitLaws.{admission_chip}
 
+-- a refusal by its number
+refusal_for : (n : ℕ) → 0 < n → refuses n ≡ answer_for n
+refusal_for zero h = absurd (omega arith)
+refusal_for (suc n) h = refl
+
 -- ---- of an update, where x is what the tests 2 and 1 give
 module _ (g : Geometry) (on : Bool) (B p len x : ℕ) (e : x ≡ admission g on B len) where
-  pub update_first : 0 < x → answer_for x ≡ answer_for (update_tests g on B p len)
-  update_first h = ap answer_for (or_first x (when 3 (leb 16 p)) h ∙ ap (λ (y : ℕ). or_else y (when 3 (leb 16 p))) e)
+  pub update_first : 0 < x → refuses x ≡ answer_for (update_tests g on B p len)
+  update_first h = refusal_for x h ∙ ap answer_for (or_first x (when 3 (leb 16 p)) h ∙ ap (λ (y : ℕ). or_else y (when 3 (leb 16 p))) e)
     where
       or_first : (a b : ℕ) → 0 < a → a ≡ or_else a b
       or_first zero b h = absurd (omega arith)
@@ -55,8 +60,8 @@ module _ (g : Geometry) (on : Bool) (B p G len torn : ℕ) where
   tests_are x e = ap asks e ∙ ap (λ (y : ℕ). or_else y later) (first_torn on (is_chip_size g len) (is_torn_size g torn) (has_blocks g B len))
 
   module _ (x : ℕ) (e : x ≡ admission g on B len) where
-    pub commit_first : 0 < x → answer_for x ≡ answer_for (commit_tests g on B p G len torn)
-    commit_first h = ap answer_for (or_or x (when 1 (not (is_torn_size g torn))) later h ∙ tests_are x e)
+    pub commit_first : 0 < x → refuses x ≡ answer_for (commit_tests g on B p G len torn)
+    commit_first h = refusal_for x h ∙ ap answer_for (or_or x (when 1 (not (is_torn_size g torn))) later h ∙ tests_are x e)
       where
         or_or : (a b c : ℕ) → 0 < a → a ≡ or_else (or_else a b) c
         or_or zero b c h = absurd (omega arith)
@@ -124,7 +129,7 @@ commits_past g on B p G len torn u e =
     record { first = w.0; chip = admission_chip g on B len q.1; slice = eqb-true torn (page_size g) q.0; number = λ h. six_none p G w.1 h u }
 
 -- the free numbers are not tested
-pub begins_free : (m : Numbers) (free : List ℕ) (len torn : ℕ) (r : Beginning) → CommitBegins m len torn r → CommitBegins (with_free m free) len torn r
+pub begins_free : (m : Numbers) (free : List ℕ) (len torn : ℕ) (r : Result Bool Refusal) → CommitBegins m len torn r → CommitBegins (with_free m free) len torn r
 begins_free m free len torn r (denied a h e) = denied a h e
 begins_free m free len torn r (idle e p) = idle e p
 begins_free m free len torn r (full e p k) = full e p k
@@ -139,7 +144,7 @@ pub record Planning (m : Numbers) (len torn : ℕ) : Type 0 where
   pub number : m.commit < last_number
   pub fits : m.count ≤ 960
 
-pub planning : (m : Numbers) (len torn : ℕ) → m.commit < 4294967296 → CommitBegins m len torn Plans → Planning m len torn
+pub planning : (m : Numbers) (len torn : ℕ) → m.commit < 4294967296 → CommitBegins m len torn (Ok true) → Planning m len torn
 planning m len torn u (plans e p k) =
     let w = commits_past (geometry_of m.nand) m.on m.blocks m.pending m.commit len torn u e in
     record { first = w.first; chip = w.chip; slice = w.slice; pending = p; number = w.number p; fits = k }

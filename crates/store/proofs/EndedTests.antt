@@ -5,12 +5,12 @@ use mathlib.Core.List.{List, ◌∷◌}
 use Prim.Native.Nat.{ℕ, zero, suc, ◌≤◌, ◌<◌}
 use native.Mathlib.Omega.{arith}
 use borrow.Author.Tests.{ne_eqb, lt-ltb, le-ltb}
+use Rattle.std.specs.Prelude.{Ok}
 use Rattle.promise.specs.Plain.{Answer, refuses, accepted, Call, first_refusal, no_number_left, numbers_refusal, or_else, when}
 use Rattle.promise.specs.Calls as P
 use Rattle.promise.specs.Calls.{FirstTests, Proceeding}
 use Rattle.promise.proofs.Promise.{when_is}
-use Rattle.store.specs.declared.answer.Answer as A
-use Rattle.store.specs.declared.answer.Answer.TheVariants.{Accepted}
+use Rattle.store.specs.Answers as A
 use Rattle.store.specs.declared.state.State.{State}
 use Rattle.store.specs.AdmitCode.{answer_for}
 use Rattle.store.specs.Answers.{answer_of}
@@ -85,7 +85,7 @@ module _ (c : Call) (s : State) (i : List ℕ) where
     ended_refused a e h = refused_by_lem first later refl refl a e h
 
   -- nothing is pending
-  pub ended_idle : later ≡ when 6 (no_number_left s.pending s.commit) → first ≡ 0 → s.pending ≡ 0 → EndedBy Accepted
+  pub ended_idle : later ≡ when 6 (no_number_left s.pending s.commit) → first ≡ 0 → s.pending ≡ 0 → EndedBy (Ok tt)
   ended_idle six p h =
       record {
         tests = record { refused = λ m e. absurd (omega arith); not1 = λ p e. not_refused 1 e; not2 = λ p e. not_refused 2 e; same_size = refl };

@@ -6,7 +6,7 @@ use Prim.Native.Nat.{ℕ}
 use Rattle.lists.proofs.Tests.{cases}
 use Rattle.chip.specs.declared.progress.Progress.{Progress}
 use Rattle.chip.specs.Power.{is_gone}
-use Rattle.store.specs.declared.answer.Answer.TheVariants.{Cut}
+use Rattle.store.specs.declared.answer.Refusal.TheVariants.{Cut}
 use Rattle.store.specs.declared.state.State.{State}
 use Rattle.store.specs.declared.state.Wrote.{Wrote}
 use Rattle.store.specs.EndingCode.{refused_with, accepted_with, ended_with}

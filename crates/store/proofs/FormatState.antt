@@ -33,13 +33,13 @@ use Rattle.journal.proofs.FormatLaws.{format_legal, format_count, format_pages, 
 use Rattle.journal.proofs.PlanBlocks.{has_room_lem}
 use Rattle.journal.proofs.PlanRoom.{room_first}
 use Rattle.journal.proofs.PlanKept.{wide}
+use Rattle.std.specs.Prelude.{Some, None, Ok, Err}
 use Rattle.promise.specs.Plain.{Answer, refuses, accepted, formats, leaf, resting, fresh, start_refusal, enough_writes}
 use Rattle.promise.specs.Calls as P
 use Rattle.promise.specs.Calls.{FirstTests}
 use Rattle.promise.specs.Image.{views_of, image_meaning}
 use Rattle.promise.proofs.Trees.{leaf_tree}
-use Rattle.store.specs.declared.answer.Answer.TheVariants.{Accepted, Size}
-use Rattle.store.specs.declared.answer.Answer.TheVariants as A
+use Rattle.store.specs.declared.answer.Refusal.TheVariants.{Size, Cut}
 use Rattle.store.specs.declared.state.State.{State}
 use Rattle.store.specs.declared.state.Wrote.{Wrote}
 use Rattle.store.specs.AdmitCode.{Sized}
@@ -99,10 +99,10 @@ one_live g fit (suc n) h = format_order g (omega arith) (omega arith) (omega ari
 one_not : {Q : Type 0} (m : ℕ) → m ≡ 1 → m ≡ 0 → Q
 one_not m e h = absurd (omega arith)
 
-pub format_size : (nand : Nand) (n : ℕ) (torn : List ℕ) (s : State) (i : List ℕ) (b : ℕ) → Sized (geometry_of nand) (length i) (length torn) b → b ≡ 0
-    → Formats nand n torn s i (record { answer = Size; ops = nothing; state = s }) i
-format_size nand n torn s i b z h =
-    let f : start_refusal (geometry_of nand) (length i) (length torn) ≡ 1 = first_none (geometry_of nand) (length i) (length torn) b z h in
+pub format_size : (nand : Nand) (n : ℕ) (torn : List ℕ) (s : State) (i : List ℕ) → Sized (geometry_of nand) (length i) (length torn) None
+    → Formats nand n torn s i (record { answer = Err Size; ops = nothing; state = s }) i
+format_size nand n torn s i z =
+    let f : start_refusal (geometry_of nand) (length i) (length torn) ≡ 1 = first_none (geometry_of nand) (length i) (length torn) z in
     record {
       says = record {
         first = record {
@@ -127,7 +127,7 @@ format_size nand n torn s i b z h =
     }
 
 -- ---- the sizes are right: its operations were done as far as the power went
-module _ (nand : Nand) (n : ℕ) (torn : List ℕ) (s : State) (i i' : List ℕ) (b : ℕ) (z : Sized (geometry_of nand) (length i) (length torn) b) (pos : 0 < b) (low : n < 2 ^ 32) (p reached : Progress)
+module _ (nand : Nand) (n : ℕ) (torn : List ℕ) (s : State) (i i' : List ℕ) (b : ℕ) (z : Sized (geometry_of nand) (length i) (length torn) (Some b)) (low : n < 2 ^ 32) (p reached : Progress)
     (from : p ≡ at_start n) (first : Ran (geometry_of nand) torn (format_ops (geometry_of nand) b) p reached i i') where
   abbrev g : Geometry
   g = geometry_of nand
@@ -138,11 +138,14 @@ module _ (nand : Nand) (n : ℕ) (torn : List ℕ) (s : State) (i i' : List ℕ)
   ran : Ran g torn (format_ops g b) (at_start n) reached i i'
   ran = subst (λ (q : Progress). Ran g torn (format_ops g b) q reached i i') from first
 
+  pos : 0 < b
+  pos = omega (arith, (z.chip b refl).least)
+
   passes : start_refusal g (length i) (length torn) ≡ 0
-  passes = first_some g (length i) (length torn) b z pos
+  passes = first_some g (length i) (length torn) b z
 
   blocks_are : blocks_of g (length i) ≡ b
-  blocks_are = sym (z.chip pos).blocks
+  blocks_are = sym (z.chip b refl).blocks
 
   need_is : length (format_ops g (blocks_of g (length i))) ≡ b + 3
   need_is = ap (λ (B : ℕ). length (format_ops g B)) blocks_are ∙ format_count g b
@@ -164,10 +167,10 @@ module _ (nand : Nand) (n : ℕ) (torn : List ℕ) (s : State) (i i' : List ℕ)
   format_bytes = pages_are ∙ ap (λ (B : ℕ). (formatted_by g torn B n (pages_of g i)).pages) (sym blocks_are)
 
   few_ops : length (format_ops g (blocks_of g (length i))) ≤ enough_writes nand
-  few_ops = omega (arith, need_is, (z.chip pos).most, enough_most nand)
+  few_ops = omega (arith, need_is, (z.chip b refl).most, enough_most nand)
 
   long : length (pages_of g i) ≡ b * g.pages
-  long = length_pages g i ∙ blocks_pages g fit (length i) b (z.chip pos).size
+  long = length_pages g i ∙ blocks_pages g fit (length i) b (z.chip b refl).size
 
   some : 0 < b * g.pages
   some = omega (arith, block_on g 0 b pos, fit.many)
@@ -184,10 +187,10 @@ module _ (nand : Nand) (n : ℕ) (torn : List ℕ) (s : State) (i i' : List ℕ)
 
   -- cut
   format_cut : is_gone reached.left ≡ true → (off : State) → off ≡ turned_off s
-      → Formats nand n torn s i (record { answer = A.Cut; ops = reached.done; state = off }) i'
+      → Formats nand n torn s i (record { answer = Err Cut; ops = reached.done; state = off }) i'
   format_cut ok off f =
       let l : n < b + 3 = ltb-true n (b + 3) (sym gone_is ∙ ok) in
-      subst (λ (x : State). Formats nand n torn s i (record { answer = A.Cut; ops = reached.done; state = x }) i') (sym f)
+      subst (λ (x : State). Formats nand n torn s i (record { answer = Err Cut; ops = reached.done; state = x }) i') (sym f)
       (record {
         says = record {
           first = tests (refuses 10) (turned_off s) (λ e. let u : ◌≡◌ {A = ℕ} 10 1 = cc in omega arith) (λ e. let u : ◌≡◌ {A = ℕ} 10 2 = cc in omega arith);
@@ -217,14 +220,14 @@ module _ (nand : Nand) (n : ℕ) (torn : List ℕ) (s : State) (i i' : List ℕ)
     settled : Settled g (fresh_state nand b free buffer) i' (format_table (8 * b))
     settled =
         record {
-          chip = rw ran.size (z.chip pos);
+          chip = rw ran.size (z.chip b refl);
           bytes = bytes;
           means = kept.is;
           clean = kept.clean;
-          tree = rw (format_views b pos) (leaf_tree 0 b pos (z.chip pos).most).tree.passes;
+          tree = rw (format_views b pos) (leaf_tree 0 b pos (z.chip b refl).most).tree.passes;
           lists = λ k l. format_stores (8 * b) k l;
           thick = rw (format_views b pos) (leaf_not_thin b);
-          free = set ∙ format_free (8 * b) (omega arith);
+          free = set ∙ format_free (8 * b) (omega (arith, pos));
           pending = refl;
           count = refl;
           past = λ k l. get_d_same 32 k 0;
@@ -239,7 +242,7 @@ module _ (nand : Nand) (n : ℕ) (torn : List ℕ) (s : State) (i i' : List ℕ)
         subst (λ (m : ℕ). has_room g m (spare_blocks g m) (format_table (8 * b)) 1 (live_from g 0 (pages_of g i')) ≡ true) e
         (has_room_lem g (suc (b - 1)) (spare_blocks g (suc (b - 1))) (format_table (8 * b)) 1 (live_from g 0 (pages_of g i'))
         (room_first g (8 * b) (b - 1) (spare_blocks g (suc (b - 1))) (pages_of g i') (format_table (8 * b)) 1
-        (record { place = 0; bytes = format_data g }) (pages_pos g fit) (omega (arith, wide g fit (suc (b - 1)) (omega (arith, (z.chip pos).least)))) kept order refl))
+        (record { place = 0; bytes = format_data g }) (pages_pos g fit) (omega (arith, wide g fit (suc (b - 1)) (omega (arith, (z.chip b refl).least)))) kept order refl))
 
     blocks_after : blocks_of g (length i') ≡ b
     blocks_after = ap (blocks_of g) ran.size ∙ blocks_are
@@ -249,7 +252,7 @@ module _ (nand : Nand) (n : ℕ) (torn : List ℕ) (s : State) (i i' : List ℕ)
     format_room =
         subst (RoomIn g i')
         (sym (ap (λ (B : ℕ). Views.meaning g (8 * B) (pages_of g i')) blocks_after ∙ kept.is))
-        (room_at (blocks_of g (length i')) ((let e : suc (b - 1) ≡ b = omega arith in e) ∙ sym blocks_after))
+        (room_at (blocks_of g (length i')) ((let e : suc (b - 1) ≡ b = omega (arith, pos) in e) ∙ sym blocks_after))
 
     state_is : P.state_of index (fresh_state nand b free buffer) i' ≡ fresh nand (blocks_of g (length i))
     unfolding resting
@@ -259,9 +262,9 @@ module _ (nand : Nand) (n : ℕ) (torn : List ℕ) (s : State) (i i' : List ℕ)
     meaning_is = settled_meaning g (fresh_state nand b free buffer) i' (format_table (8 * b)) settled ∙ rw (blocks_are, format_views b pos)
 
     format_finished : (new : State) → new ≡ fresh_state nand b free buffer
-        → Formats nand n torn s i (record { answer = Accepted; ops = reached.done; state = new }) i'
+        → Formats nand n torn s i (record { answer = Ok tt; ops = reached.done; state = new }) i'
     format_finished new f =
-        subst (λ (x : State). Formats nand n torn s i (record { answer = Accepted; ops = reached.done; state = x }) i') (sym f)
+        subst (λ (x : State). Formats nand n torn s i (record { answer = Ok tt; ops = reached.done; state = x }) i') (sym f)
         (record {
           says = record {
             first = tests accepted (fresh_state nand b free buffer) (λ e. let u : ◌≡◌ {A = ℕ} 0 1 = cc in omega arith) (λ e. let u : ◌≡◌ {A = ℕ} 0 1 = cc in omega arith);

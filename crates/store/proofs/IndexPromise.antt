@@ -33,7 +33,7 @@ use Rattle.store.specs.declared.state.State.{State}
 use Rattle.store.specs.declared.step.Call.{Call}
 use Rattle.store.specs.declared.step.Call.TheVariants.{Format, Insert, Delete, LookUp, Forecast, Commit, Mount}
 use Rattle.store.specs.declared.step.Stepped.{Stepped}
-use Rattle.store.specs.Answers.{answer_of}
+use Rattle.store.specs.Answers.{step_answer}
 use Rattle.store.specs.State.{Room}
 use Rattle.store.specs.Ensured.{index}
 use Rattle.store.specs.Step.{act_of, KeyBits, StepsBy}
@@ -43,7 +43,7 @@ use Rattle.store.proofs.StartTree.{mounted_tree}
 -- a step of the code that was lent the one image whole
 abbrev pub stepped : Call → (torn : List ℕ) → State → (image : List ℕ) → Stepped → (left : List ℕ) → Step index
 stepped call torn s i r i' =
-    record { act = act_of call torn; given = s; lent = i; left = i'; answer = answer_of r.answer; ops = total r.ops; state = r.state; image = i' }
+    record { act = act_of call torn; given = s; lent = i; left = i'; answer = step_answer r.answer; ops = total r.ops; state = r.state; image = i' }
 
 -- it is a step of a list: a mount or a format from any state, another call from the state at hand
 pub step_takes : (H : State → Type 0) (call : Call) (torn : List ℕ) (s : State) (i : List ℕ) (r : Stepped) (i' : List ℕ) → StepsBy call torn s i r i'

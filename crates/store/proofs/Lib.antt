@@ -1,3 +1,4 @@
+pub mod AnswerLaws
 pub mod EndingLaws
 pub mod EndedTests
 pub mod SizeLaws

@@ -1,10 +1,11 @@
 -- From what the code of a look up answers to the records of the promise. Assumes nothing.
-use mathlib.Core.Path.{◌≡◌, refl, sym, ap, ap₂, ◌∙◌}
+use mathlib.Core.Path.{◌≡◌, refl, sym, ap, ap₂, subst, ◌∙◌}
 use mathlib.Core.Bool.{true, cond}
 use mathlib.Core.List.{List, [], ◌∷◌}
 use Prim.Native.Nat.{ℕ, zero, suc, ◌+◌, ◌*◌, ◌<◌, ◌≤◌}
 use native.Mathlib.Omega.{arith}
 use lib.ListN.{length, length-reverse}
+use Rattle.std.specs.Prelude.{Option, Some, None, Result, Ok, Err}
 use Rattle.lists.specs.Lists.{All, more}
 use Rattle.lists.proofs.Flats.{get_d_tab}
 use Rattle.chip.specs.Geometry.{Geometry}
@@ -22,12 +23,12 @@ use Rattle.journal.specs.Plan.{node_at}
 use Rattle.promise.specs.Plain.{looks_up, refuses, admission, looking_up, looked_up}
 use Rattle.promise.specs.Calls.{state_of, tells_or}
 use Rattle.store.specs.declared.answer.Look.{Look}
-use Rattle.store.specs.declared.answer.Look.TheVariants as L
+use Rattle.store.specs.declared.answer.Refusal.{Refusal}
 use Rattle.store.specs.declared.state.State.{State}
-use Rattle.store.specs.Answers.{look_of, pages_told}
+use Rattle.store.specs.Answers.{look_of, number_of, pages_told}
 use Rattle.store.specs.State.{limit_of, node_from, nodes_of, present_of, Good, geometry_in}
 use Rattle.store.specs.Ensured.{flash_length, list_lengths, Looks}
-use Rattle.store.proofs.AdmitLaws.{first_refused, first_passed, not_one}
+use Rattle.store.proofs.AdmitLaws.{first_refused, first_passed, not_one, admission_low, number_some}
 use Rattle.store.proofs.StartTree.{present_size}
 
 -- ---- the lists on a path, from the arrays and as the image gives them
@@ -59,9 +60,13 @@ module _ (g : Geometry) (s : State) (i : List ℕ) where
       ∙ lists_read (path k (present_of g s i)) (path_there k (present_of g s i) ok.tree h)
 
 -- ---- look up
-abbrev pub look_from : Found → ℕ → Look
-look_from absent n = L.Absent n
-look_from (found v) n = L.Found v n
+abbrev pub look_from : Found → ℕ → Result Look Refusal
+look_from absent n = Ok (record { value = None; pages = n })
+look_from (found v) n = Ok (record { value = Some v; pages = n })
+
+look_told : (h : Option ℕ) (n : ℕ) → look_from (hit_of h) n ≡ Ok (record { value = h; pages = n })
+look_told (Some v) n = refl
+look_told None n = refl
 
 look_is : (f : Found) (n : ℕ) → (look_of (look_from f n) ≡ looked_up f) × (pages_told (look_from f n) ≡ n) × (look_of (look_from f n) ≡ refuses 1 → ⊥) × (look_of (look_from f n) ≡ refuses 2 → ⊥) × (tells_or (2 ∷ 1 ∷ 4 ∷ []) (look_of (look_from f n)) ≡ true)
 look_is absent n = (refl, refl, λ e. not_one e (λ z. omega arith), λ e. not_one e (λ z. omega arith), refl)
@@ -72,9 +77,9 @@ module _ (k : ℕ) (s : State) (i : List ℕ) where
   g = geometry_in s
 
   -- refused with 2 or 1
-  pub look_refused : (r : Look) (n : ℕ) → look_of r ≡ refuses (suc n) → tells_or (2 ∷ 1 ∷ 4 ∷ []) (look_of r) ≡ true → pages_told r ≡ 0 → suc n ≡ admission g s.on s.blocks (length i) → Looks k s i r
+  look_first : (r : Result Look Refusal) (n : ℕ) → look_of r ≡ refuses (suc n) → tells_or (2 ∷ 1 ∷ 4 ∷ []) (look_of r) ≡ true → pages_told r ≡ 0 → suc n ≡ admission g s.on s.blocks (length i) → Looks k s i r
   unfolding looking_up
-  look_refused r n q kind p e =
+  look_first r n q kind p e =
       record {
         says =
             record {
@@ -88,6 +93,15 @@ module _ (k : ℕ) (s : State) (i : List ℕ) where
         lists = λ _ h. let z : suc n ≡ 0 = e ∙ h in absurd (omega arith);
         few = omega arith;
       }
+
+  pub look_refused : (e : Refusal) → number_of e ≡ admission g s.on s.blocks (length i) → Looks k s i (Err e)
+  look_refused e q = by (number_of e) refl (let l = admission_low g s.on s.blocks (length i) in omega (arith, q, l)) (number_some e)
+    where
+      by : (n : ℕ) → number_of e ≡ n → n ≤ 2 → 0 < n → Looks k s i (Err e)
+      by zero p l h = absurd (omega arith)
+      by (suc zero) p l h = look_first (Err e) 0 (ap refuses p) (rw p) refl (sym p ∙ q)
+      by (suc (suc zero)) p l h = look_first (Err e) 1 (ap refuses p) (rw p) refl (sym p ∙ q)
+      by (suc (suc (suc n))) p l h = absurd (omega arith)
 
   module _ (e : 0 ≡ admission g s.on s.blocks (length i)) where
     look_done : (f : Found) (n : ℕ) → k < top → f ≡ find k (present_of g s i) → n ≡ pages_read (length_of g (limit_of s) (pages_of g i) s.lens s.slots) (path k (present_of g s i)) → n ≤ 16
@@ -110,7 +124,11 @@ module _ (k : ℕ) (s : State) (i : List ℕ) where
           few = omega (arith, w.1);
         }
 
-    pub looked : (t : Looked) → Answers (length_of g (8 * s.blocks) (pages_of g i) s.lens s.slots) k (shown g (8 * s.blocks) (pages_of g i) s.lens s.slots s.count s.buffer) t
+    looked : (t : Looked) → Answers (length_of g (8 * s.blocks) (pages_of g i) s.lens s.slots) k (shown g (8 * s.blocks) (pages_of g i) s.lens s.slots s.count s.buffer) t
         → k < top → (f : Found) → hit_of t.hit ≡ f → Looks k s i (look_from f t.pages)
     unfolding present_of
     looked t a h f q = look_done f t.pages h (sym q ∙ a.found) a.pages a.few
+
+    pub look_answer : (t : Looked) → Answers (length_of g (8 * s.blocks) (pages_of g i) s.lens s.slots) k (shown g (8 * s.blocks) (pages_of g i) s.lens s.slots s.count s.buffer) t
+        → k < top → Looks k s i (Ok (record { value = t.hit; pages = t.pages }))
+    look_answer t a h = subst (Looks k s i) (look_told t.hit t.pages) (looked t a h (hit_of t.hit) refl)

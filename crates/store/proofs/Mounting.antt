@@ -5,11 +5,11 @@ use mathlib.Core.List.{List, [], ◌∷◌}
 use Prim.Native.Nat.{ℕ, suc, ◌*◌, ◌^◌, ◌≤◌, ◌<◌, min}
 use native.Mathlib.Nat.{mul_assoc}
 use native.Mathlib.Omega.{arith}
-use lib.Dec.{eqb, ltb}
+use lib.Dec.{ltb}
 use lib.ListN.{length, get_or}
 use borrow.Author.Tests.{ltb-true, ltb-false}
 use Rattle.lists.specs.Lists.{All, none, filter}
-use Rattle.lists.proofs.Tests.{cases, clash}
+use Rattle.lists.proofs.Tests.{clash}
 use Rattle.lists.proofs.Alls.{All-filter}
 use Rattle.lists.proofs.Places.{get_d_same}
 use Rattle.chip.specs.declared.progress.Progress.{Progress}
@@ -35,21 +35,22 @@ use Rattle.journal.specs.Plan.{has_room, spare_blocks}
 use Rattle.journal.proofs.MountLaws.{clean_none, clean_stays, mount_erases, mount_legal, mount_keeps, mount_clean, mount_gone, image_sized}
 use Rattle.journal.proofs.PlanBlocks.{has_room_lem, room_has}
 use Rattle.journal.proofs.PlanRoom.{LiveAt, live_from_lem, obsoletes, room_marks}
-use Rattle.journal.specs.MountCode.{marks_of, retire_ops}
+use Rattle.journal.specs.MountCode.{marks_of}
 use Rattle.promise.specs.Plain.{Plain, refuses, resting, start_refusal}
 use Rattle.promise.specs.Plain as Plain
 use Rattle.promise.specs.Calls as P
 use Rattle.promise.specs.Calls.{invalid, is_one_of, accepts_or}
 use Rattle.promise.specs.Image.{views_of, by_six, image_meaning}
-use Rattle.store.specs.declared.answer.Answer.{Answer}
-use Rattle.store.specs.declared.answer.Answer.TheVariants.{Size, Cut, Thin}
+use Rattle.std.specs.Prelude.{Option, Some, None, Err}
+use Rattle.store.specs.declared.answer.Refusal.{Refusal}
+use Rattle.store.specs.declared.answer.Refusal.TheVariants.{Size, Cut, Thin}
 use Rattle.store.specs.declared.state.State.{State}
 use Rattle.store.specs.declared.state.Wrote.{Wrote}
 use Rattle.store.specs.Answers.{answer_of}
 use Rattle.store.specs.AdmitCode.{ChipOf, Sized}
 use Rattle.store.specs.State.{Good, RoomIn, Room, geometry_in}
 use Rattle.store.specs.FreshCode.{mounted_state}
-use Rattle.store.specs.CheckCode.{Read}
+use Rattle.store.specs.CheckCode.{Read, Unread, blank, layout, shape}
 use Rattle.store.specs.EndingCode.{refused_with, accepted_with, ended_with}
 use Rattle.store.specs.Ensured.{index, told_of, Mounts}
 use Rattle.promise.proofs.Promise.{accepted_not}
@@ -73,7 +74,7 @@ module _ (g : Geometry) (i : List ℕ) (nodes : List Node) (G : ℕ)
   room_shut h = subst (λ (x : Views.NodesRead). RoomIn g i x) (sym m) h
 
 -- ---- what was read is what the image means
-read_means : (g : Geometry) (i lens slots free : List ℕ) (G v : ℕ) (w : Bool) (rd : Read g i lens slots free G v w) → image_meaning g i ≡ P.means (views_of rd.nodes) G
+read_means : (g : Geometry) (i lens slots free : List ℕ) (G : ℕ) (v : Option ℕ) (w : Bool) (rd : Read g i lens slots free G v w) → image_meaning g i ≡ P.means (views_of rd.nodes) G
 unfolding image_meaning
 read_means g i lens slots free G v w rd = ap by_six rd.means ∙ ap (λ (t : Bool). cond t (P.means (views_of rd.nodes) G) (invalid 9)) rd.tree
 
@@ -96,7 +97,7 @@ module _ (nand : Nand) (allowance : ℕ) (torn : List ℕ) (s : State) (i : List
   of_part : (t : State) → Good (geometry_in t) t i → t.nand ≡ nand → Good g t i
   of_part t h e = subst (λ (m : Nand). Good (geometry_of m) t i) e h
 
-  pub size_mounts : Sized g (length i) (length torn) 0 → Mounts nand allowance torn s i (record { answer = Size; ops = nothing; state = s }) i
+  pub size_mounts : Sized g (length i) (length torn) None → Mounts nand allowance torn s i (record { answer = Err Size; ops = nothing; state = s }) i
   size_mounts z =
       let one : first ≡ 1 = not_admitted g (length i) (length torn) z in
       let never : first ≡ 0 → ⊥ = λ e. omega arith in
@@ -134,7 +135,7 @@ module _ (nand : Nand) (allowance : ℕ) (torn : List ℕ) (s : State) (i : List
     passes = admitted g b (length i) (length torn) chip long
 
     -- refused for what the image means
-    pub invalid_mounts : (a : Answer) (n : ℕ) → answer_of a ≡ refuses n → 2 < n → is_one_of n (1 ∷ 7 ∷ 8 ∷ 9 ∷ 12 ∷ 10 ∷ []) ≡ true → image_meaning g i ≡ invalid n → Mounts nand allowance torn s i (refused_with a nothing s) i
+    invalid_mounts : (a : Refusal) (n : ℕ) → answer_of (Err a) ≡ refuses n → 2 < n → is_one_of n (1 ∷ 7 ∷ 8 ∷ 9 ∷ 12 ∷ 10 ∷ []) ≡ true → image_meaning g i ≡ invalid n → Mounts nand allowance torn s i (refused_with a nothing s) i
     invalid_mounts a n is low kind m =
         let zero : first ≡ 0 = passes in
         let no : (K : Table) (G : ℕ) → image_meaning g i ≡ P.means K G → ⊥ = λ K G e. let u : ◌≡◌ {A = ℕ} 0 1 = cc in omega arith in
@@ -166,8 +167,13 @@ module _ (nand : Nand) (allowance : ℕ) (torn : List ℕ) (s : State) (i : List
           off = λ e k q. refl;
         }
 
+    pub unread_mounts : (a : Refusal) → Unread g i a → Mounts nand allowance torn s i (refused_with a nothing s) i
+    unread_mounts a (blank m) = invalid_mounts a 7 refl (omega arith) refl m
+    unread_mounts a (layout m) = invalid_mounts a 8 refl (omega arith) refl m
+    unread_mounts a (shape m) = invalid_mounts a 9 refl (omega arith) refl m
+
     -- refused for a thin tree
-    pub thin_mounts : (lens slots free : List ℕ) (G v : ℕ) → Read g i lens slots free G v true → Mounts nand allowance torn s i (refused_with Thin nothing s) i
+    pub thin_mounts : (lens slots free : List ℕ) (G : ℕ) (v : Option ℕ) → Read g i lens slots free G v true → Mounts nand allowance torn s i (refused_with Thin nothing s) i
     thin_mounts lens slots free G v rd =
         let zero : first ≡ 0 = passes in
         let is = read_means g i lens slots free G v true rd in
@@ -203,7 +209,7 @@ module _ (nand : Nand) (allowance : ℕ) (torn : List ℕ) (s : State) (i : List
         }
 
     -- ---- an image that means nodes and G, and they are not thin
-    module _ (lens slots free : List ℕ) (G v : ℕ) (rd : Read g i lens slots free G v false) (i' : List ℕ) (low : allowance < 2 ^ 32) (p reached : Progress)
+    module _ (lens slots free : List ℕ) (G : ℕ) (v : Option ℕ) (rd : Read g i lens slots free G v false) (i' : List ℕ) (low : allowance < 2 ^ 32) (p reached : Progress)
         (from : p ≡ at_start allowance) (begins : Ran g torn (marks_of g v (pages_of g i)) p reached i i') where
       ran : Ran g torn (marks_of g v (pages_of g i)) (at_start allowance) reached i i'
       ran = subst (λ (q : Progress). Ran g torn (marks_of g v (pages_of g i)) q reached i i') from begins
@@ -270,12 +276,14 @@ module _ (nand : Nand) (allowance : ℕ) (torn : List ℕ) (s : State) (i : List
           (ap (λ (n : ℕ). Views.meaning g n (pages_of g i')) same_size_lem ∙ keeps ∙ rd.means)
           (ap (λ (n : ℕ). has_room g (blocks_of g n) (spare_blocks g (blocks_of g n)) rd.nodes G (live_from g 0 (pages_of g i'))) ran.size ∙ k)
 
+      room_marked : (o : Option ℕ) → marks_of g v ps ≡ marks_of g o ps → Room g i → Room g i'
+      room_marked None e = room_ran [] e none tt
+      room_marked (Some c) e =
+          room_ran (filter (of_commit c) (live_from g 0 ps)) e
+          (All-filter (of_commit c) (live_from_lem g [] ps 0 refl)) (apart_filter (of_commit c) (live_from g 0 ps) (apart_live g 0 ps))
+
       room_stays : Room g i → Room g i'
-      room_stays h =
-          cases (eqb v 0)
-          (λ t. room_ran [] (ap (λ (c : Bool). cond c [] (retire_ops g v ps)) t) none tt h)
-          (λ t. room_ran (filter (of_commit v) (live_from g 0 ps)) (ap (λ (c : Bool). cond c [] (retire_ops g v ps)) t)
-          (All-filter (of_commit v) (live_from_lem g [] ps 0 refl)) (apart_filter (of_commit v) (live_from g 0 ps) (apart_live g 0 ps)) h)
+      room_stays = room_marked v refl
 
       -- the image after the marks
       stays : (K : Table) (H : ℕ) → image_meaning g i ≡ P.means K H → (image_meaning g i' ≡ P.means K H) × (Room g i → Room g i')
@@ -397,7 +405,7 @@ module _ (nand : Nand) (allowance : ℕ) (torn : List ℕ) (s : State) (i : List
             }
 
     -- an image that means nodes and G that are not thin, marked: the state is made of what was read
-    pub marked_mounts : (lens slots free : List ℕ) (G v : ℕ) → Read g i lens slots free G v false → (i' : List ℕ) → allowance < 2 ^ 32 → (p reached : Progress) → p ≡ at_start allowance
+    pub marked_mounts : (lens slots free : List ℕ) (G : ℕ) (v : Option ℕ) → Read g i lens slots free G v false → (i' : List ℕ) → allowance < 2 ^ 32 → (p reached : Progress) → p ≡ at_start allowance
         → Ran g torn (marks_of g v (pages_of g i)) p reached i i' → ((j : ℕ) → get_or i' j 0 < 256)
         → (buffer : List ℕ) (r : Wrote)
         → r ≡ ended_with reached s (mounted_state nand b G free buffer lens slots) → Mounts nand allowance torn s i r i'

@@ -13,8 +13,8 @@ use Rattle.lists.proofs.Flats.{get_d_tab, length_tab}
 use Rattle.lists.proofs.Tests.{cases}
 use Rattle.chip.specs.Geometry.{Geometry}
 use Rattle.chip.specs.Chip.{in_block, pages_of}
-use Rattle.pages.specs.declared.unit.Decoded.{Decoded}
-use Rattle.pages.specs.declared.unit.Decoded.TheVariants as D
+use Rattle.std.proofs.Common.{Option, Some, None}
+use Rattle.pages.specs.declared.unit.Unit.{Unit}
 use Rattle.pages.specs.Units.{decodes}
 use Rattle.views.specs.Nodes.{untouched}
 use Rattle.views.specs.Groups.{own}
@@ -44,10 +44,10 @@ pub paged_is : (q : Plan) → (q ≡ stuck) ⊎ (is_empty q.written ≡ false) �
 paged_is q h = ⊎_elim (λ e. ap paged e ∙ sym e) (λ e. paged_some q e) h
 
 -- ---- the updates of a node among the units that are decoded
-own_goods : (n : ℕ) (ds : List Decoded) → own_of n ds ≡ own n (goods ds)
+own_goods : (n : ℕ) (ds : List (Option Unit)) → own_of n ds ≡ own n (goods ds)
 own_goods n [] = refl
-own_goods n (D.Good u ∷ ds) = cases (eqb u.node n) (λ t. rw (t, own_goods n ds)) (λ t. rw (t, own_goods n ds))
-own_goods n (D.Bad ∷ ds) = own_goods n ds
+own_goods n (Some u ∷ ds) = cases (eqb u.node n) (λ t. rw (t, own_goods n ds)) (λ t. rw (t, own_goods n ds))
+own_goods n (None ∷ ds) = own_goods n ds
 
 module _ (g : Geometry) (s : State) (i : List ℕ) where
   -- what the definitions have of the nodes

@@ -7,6 +7,7 @@ use native.Mathlib.Omega.{arith}
 use lib.ListN.{length, take}
 use lib.Seq.{take-take}
 use borrow.Author.Tests.{le-leb, lt-leb}
+use Rattle.std.specs.Prelude.{Option}
 use Rattle.chip.specs.Geometry.{Geometry, blocks_of}
 use Rattle.chip.specs.Chip.{pages_of}
 use Rattle.journal.specs.Rebuild as Log
@@ -20,7 +21,7 @@ use Rattle.store.specs.CheckCode.{Read}
 use Rattle.store.specs.PrepareCode.{MeansTree, IsLast, IsFull, IsReady}
 use Rattle.store.specs.Rebuild.{has_free_blocks}
 
-module _ (g : Geometry) (image lens slots free : List ℕ) (G v : ℕ) (w : Bool) (rd : Read g image lens slots free G v w) where
+module _ (g : Geometry) (image lens slots free : List ℕ) (G : ℕ) (v : Option ℕ) (w : Bool) (rd : Read g image lens slots free G v w) where
   meant : MeansTree g image G
   unfolding image_meaning
   meant =

@@ -10,7 +10,7 @@ use Rattle.lists.specs.Lists.{All}
 use Rattle.lists.proofs.Alls.{All-append}
 use Rattle.chip.specs.Geometry.{Geometry}
 use Rattle.pages.specs.declared.unit.Unit as U
-use Rattle.pages.specs.declared.unit.Decoded.TheVariants as D
+use Rattle.std.proofs.Common.{Some}
 use Rattle.pages.specs.Units.{decodes, Valid}
 use Rattle.views.specs.Nodes.{Entry}
 use Rattle.views.proofs.TableLaws.{length_decodes}
@@ -33,12 +33,12 @@ abbrev Words : Table → Type 0
 Words t = (n : ℕ) → All (λ (e : Entry). (e.key < top) × (e.value < top)) (entries_at t n)
 
 -- ---- the units of a buffer
-goods_good : (us : List U.Unit) → goods (map D.Good us) ≡ us
+goods_good : (us : List U.Unit) → goods (map Some us) ≡ us
 goods_good [] = refl
 goods_good (u ∷ us) = rw (goods_good us)
 
-pub units_many : (limit n : ℕ) (b : List ℕ) (us : List U.Unit) → decodes limit n b ≡ map D.Good us → n ≡ length us
-units_many limit n b us e = sym (length_decodes limit n b) ∙ ap length e ∙ length-map us D.Good
+pub units_many : (limit n : ℕ) (b : List ℕ) (us : List U.Unit) → decodes limit n b ≡ map Some us → n ≡ length us
+units_many limit n b us e = sym (length_decodes limit n b) ∙ ap length e ∙ length-map us Some
 
 -- ---- the state after an update
 -- us behind the units of the buffer make the table t
@@ -74,7 +74,7 @@ module _ (s : State) (i : List ℕ) (G : Good (geometry_in s) s i) (low : s.pend
           means = G.means;
           clean = G.clean;
           kept = G.kept;
-          units = p.stepped.units ∙ ap (map D.Good) (sym units_after);
+          units = p.stepped.units ∙ ap (map Some) (sym units_after);
           valid = subst (All (Valid (limit_of s))) (sym units_after) (All-append G.valid p.valid);
           few = omega (arith, G.few, p.stepped.few);
           some = λ _. omega (arith, units_many (limit_of s) used new (units_of s ++ us) p.stepped.units, length-append (units_of s) us, p.some);

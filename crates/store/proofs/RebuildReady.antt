@@ -6,6 +6,7 @@ use mathlib.Core.List.{List, [], ◌∷◌, map, reverse}
 use Prim.Native.Nat.{ℕ, zero, suc, ◌+◌, ◌*◌, ◌≤◌, ◌<◌}
 use native.Mathlib.Omega.{arith}
 use lib.ListN.{length, get_or, set, length-reverse}
+use Rattle.std.specs.Prelude.{Option}
 use Rattle.lists.specs.Lists.{All, none, more, modify}
 use Rattle.lists.proofs.Alls.{All-modify}
 use Rattle.lists.proofs.Tests.{below_or_not, clash}
@@ -91,7 +92,7 @@ bare_shown g i lens slots limit n l e =
     ∙ ap (list_view g limit (pages_of g i) n) e
 
 module _ (g : Geometry) (fit : Fits g) (i torn : List ℕ) (bytes : (j : ℕ) → get_or i j 0 < 256) (b : ℕ) (chip : ChipOf g b (length i)) (long : length torn ≡ page_size g)
-    (lens slots ring : List ℕ) (G v : ℕ) (rd : IsReady g i lens slots ring G v) where
+    (lens slots ring : List ℕ) (G : ℕ) (v : Option ℕ) (rd : IsReady g i lens slots ring G v) where
   abbrev pub ps : List Page
   ps = pages_of g i
 

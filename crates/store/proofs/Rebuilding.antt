@@ -1,6 +1,7 @@
 -- A rebuild: refused for its sizes, for what the image means, for want of a number or of blocks, cut, or finished. Assumes nothing.
 use mathlib.Core.Path.{◌≡◌, refl, sym, ap, subst, ◌∙◌}
 use mathlib.Core.Bool.{Bool, true, false, cond}
+use mathlib.Core.Logic.{◌⊎◌, ⊎_elim}
 use mathlib.Core.List.{List, [], ◌∷◌, ◌++◌}
 use Prim.Native.Nat.{ℕ, suc, ◌+◌, ◌*◌, ◌^◌, ◌≤◌, ◌<◌, min}
 use native.Mathlib.Omega.{arith}
@@ -50,16 +51,18 @@ use Rattle.promise.specs.Calls.{Meaning, invalid, is_one_of, accepts_or}
 use Rattle.promise.specs.Image.{views_of, by_six, image_meaning}
 use Rattle.promise.proofs.Promise.{accepted_not}
 use Rattle.renewal.specs.RenewCode.{plan_for, CarriesRebuild}
-use Rattle.store.specs.declared.answer.Answer.{Answer}
-use Rattle.store.specs.declared.answer.Answer.TheVariants.{Size, Cut, Last, Nodes}
+use Rattle.std.specs.Prelude.{Option, None, Err}
+use Rattle.store.specs.declared.answer.Refusal.{Refusal}
+use Rattle.store.specs.declared.answer.Refusal.TheVariants.{Size, Cut, Last, Nodes}
 use Rattle.store.specs.declared.state.State.{State}
 use Rattle.store.specs.declared.state.Wrote.{Wrote}
-use Rattle.store.specs.Answers.{answer_of}
+use Rattle.store.specs.Answers.{answer_of, number_of}
 use Rattle.store.specs.AdmitCode.{ChipOf, Sized}
 use Rattle.store.specs.State.{Good, Room, turned_off}
 use Rattle.store.specs.FreshCode.{mounted_state}
 use Rattle.store.specs.EndingCode.{refused_with, accepted_with, ended_with}
-use Rattle.store.specs.PrepareCode.{IsLast, IsFull, IsReady}
+use Rattle.store.specs.CheckCode.{Unread, blank, layout, shape}
+use Rattle.store.specs.PrepareCode.{IsLast, IsFull, IsReady, Unready, unread, no_number, no_blocks}
 use Rattle.store.specs.Rebuild.{has_free_blocks, ops_for, rebuild_ops, rebuild_plan}
 use Rattle.store.specs.Ensured.{index, told_of, Rebuilds}
 use Rattle.store.proofs.CommitGood.{room_by, room_of}
@@ -109,15 +112,15 @@ module _ (nand : Nand) (allowance : ℕ) (torn : List ℕ) (s : State) (i : List
   no_erase b = erases_none b (image_meaning g i)
 
   -- ---- refused before any operation
-  module _ (a : Answer) (n : ℕ) (t : State) (is : answer_of a ≡ refuses n) (kind : is_one_of n (1 ∷ 7 ∷ 8 ∷ 9 ∷ 6 ∷ 5 ∷ 10 ∷ []) ≡ true) (low : n < 10)
+  module _ (a : Refusal) (n : ℕ) (t : State) (is : answer_of (Err a) ≡ refuses n) (kind : is_one_of n (1 ∷ 7 ∷ 8 ∷ 9 ∷ 6 ∷ 5 ∷ 10 ∷ []) ≡ true) (low : n < 10)
       (never : (K : Table) (G : ℕ) → Rebuilding K G → ⊥) where
     abbrev w : Wrote
-    w = record { answer = a; ops = nothing; state = t }
+    w = record { answer = Err a; ops = nothing; state = t }
 
-    stopped : ((k : ℕ) → first ≡ suc k → (answer_of a ≡ refuses (suc k)) × (◌≡◌ {A = ℕ} 0 0) × P.Same index s i t i)
-        → (first ≡ 0 → (k : ℕ) → image_meaning g i ≡ invalid k → (answer_of a ≡ refuses k) × (t ≡ turned_off s))
-        → (first ≡ 0 → (K : Table) (G : ℕ) → image_meaning g i ≡ P.means K G → last_number ≤ G → (answer_of a ≡ refuses 6) × (t ≡ s))
-        → (first ≡ 0 → (K : Table) (G : ℕ) → image_meaning g i ≡ P.means K G → G < last_number → has_free_blocks g i ≡ false → (answer_of a ≡ refuses 5) × (t ≡ s))
+    stopped : ((k : ℕ) → first ≡ suc k → (answer_of (Err a) ≡ refuses (suc k)) × (◌≡◌ {A = ℕ} 0 0) × P.Same index s i t i)
+        → (first ≡ 0 → (k : ℕ) → image_meaning g i ≡ invalid k → (answer_of (Err a) ≡ refuses k) × (t ≡ turned_off s))
+        → (first ≡ 0 → (K : Table) (G : ℕ) → image_meaning g i ≡ P.means K G → last_number ≤ G → (answer_of (Err a) ≡ refuses 6) × (t ≡ s))
+        → (first ≡ 0 → (K : Table) (G : ℕ) → image_meaning g i ≡ P.means K G → G < last_number → has_free_blocks g i ≡ false → (answer_of (Err a) ≡ refuses 5) × (t ≡ s))
         → Rebuilds nand allowance torn s i w i
     stopped size bad last full =
         record {
@@ -147,7 +150,7 @@ module _ (nand : Nand) (allowance : ℕ) (torn : List ℕ) (s : State) (i : List
         }
 
   -- 1
-  pub size_rebuilds : Sized g (length i) (length torn) 0 → Rebuilds nand allowance torn s i (record { answer = Size; ops = nothing; state = s }) i
+  pub size_rebuilds : Sized g (length i) (length torn) None → Rebuilds nand allowance torn s i (record { answer = Err Size; ops = nothing; state = s }) i
   size_rebuilds z =
       let one : first ≡ 1 = not_admitted g (length i) (length torn) z in
       stopped Size 1 s refl refl (omega arith) (λ K G b. omega (arith, one, b.sizes))
@@ -160,7 +163,7 @@ module _ (nand : Nand) (allowance : ℕ) (torn : List ℕ) (s : State) (i : List
     passes = admitted g b (length i) (length torn) chip long
 
     -- 7, 8 and 9
-    pub invalid_rebuilds : (a : Answer) (n : ℕ) → answer_of a ≡ refuses n → n < 10 → is_one_of n (1 ∷ 7 ∷ 8 ∷ 9 ∷ 6 ∷ 5 ∷ 10 ∷ []) ≡ true → image_meaning g i ≡ invalid n
+    invalid_rebuilds : (a : Refusal) (n : ℕ) → answer_of (Err a) ≡ refuses n → n < 10 → is_one_of n (1 ∷ 7 ∷ 8 ∷ 9 ∷ 6 ∷ 5 ∷ 10 ∷ []) ≡ true → image_meaning g i ≡ invalid n
         → Rebuilds nand allowance torn s i (refused_with a nothing s) i
     invalid_rebuilds a n is low kind m =
         let no : (K : Table) (G : ℕ) → image_meaning g i ≡ P.means K G → ⊥ = λ K G e. let u : ◌≡◌ {A = ℕ} 0 1 = cc in omega arith in
@@ -169,8 +172,13 @@ module _ (nand : Nand) (allowance : ℕ) (torn : List ℕ) (s : State) (i : List
         (λ e k q. let u : invalid n ≡ invalid k = sym m ∙ q in let r : n ≡ k = cc in (is ∙ ap refuses r, refl))
         (λ e K G q l. absurd (no K G q)) (λ e K G q l h. absurd (no K G q))
 
+    pub unread_rebuilds : (a : Refusal) → Unread g i a → Rebuilds nand allowance torn s i (refused_with a nothing s) i
+    unread_rebuilds a (blank m) = invalid_rebuilds a 7 refl (omega arith) refl m
+    unread_rebuilds a (layout m) = invalid_rebuilds a 8 refl (omega arith) refl m
+    unread_rebuilds a (shape m) = invalid_rebuilds a 9 refl (omega arith) refl m
+
     -- 6
-    pub last_rebuilds : IsLast g i → Rebuilds nand allowance torn s i (record { answer = Last; ops = nothing; state = s }) i
+    pub last_rebuilds : IsLast g i → Rebuilds nand allowance torn s i (record { answer = Err Last; ops = nothing; state = s }) i
     last_rebuilds h =
         let same : (K : Table) (G : ℕ) → image_meaning g i ≡ P.means K G → h.number ≡ G = λ K G e. let u = h.meant.is in cc in
         stopped Last 6 s refl refl (omega arith) (λ K G r. omega (arith, same K G r.image, r.number, h.last))
@@ -180,7 +188,7 @@ module _ (nand : Nand) (allowance : ℕ) (torn : List ℕ) (s : State) (i : List
         (λ e K G q l k. absurd (omega (arith, same K G q, h.last)))
 
     -- 5
-    pub full_rebuilds : IsFull g i → Rebuilds nand allowance torn s i (record { answer = Nodes; ops = nothing; state = s }) i
+    pub full_rebuilds : IsFull g i → Rebuilds nand allowance torn s i (record { answer = Err Nodes; ops = nothing; state = s }) i
     full_rebuilds h =
         let same : (K : Table) (G : ℕ) → image_meaning g i ≡ P.means K G → h.number ≡ G = λ K G e. let u = h.meant.is in cc in
         stopped Nodes 5 s refl refl (omega arith) (λ K G r. let x = r.blocks in let y = h.blocks in let z : ◌≡◌ {A = Bool} true false = sym x ∙ y in let q : ◌≡◌ {A = ℕ} 0 1 = cc in omega arith)
@@ -189,8 +197,37 @@ module _ (nand : Nand) (allowance : ℕ) (torn : List ℕ) (s : State) (i : List
         (λ e K G q l. absurd (omega (arith, same K G q, h.left)))
         (λ e K G q l k. (refl, refl))
 
+    -- 6 and 5 leave the state on, the others turn it off
+    read_last : {Q : Type 0} (e : Refusal) → Unread g i e → e ≡ Last → Q
+    read_last e (blank m) h = let z : ◌≡◌ {A = ℕ} 7 6 = ap number_of h in absurd (omega arith)
+    read_last e (layout m) h = let z : ◌≡◌ {A = ℕ} 8 6 = ap number_of h in absurd (omega arith)
+    read_last e (shape m) h = let z : ◌≡◌ {A = ℕ} 9 6 = ap number_of h in absurd (omega arith)
+
+    read_nodes : {Q : Type 0} (e : Refusal) → Unread g i e → e ≡ Nodes → Q
+    read_nodes e (blank m) h = let z : ◌≡◌ {A = ℕ} 7 5 = ap number_of h in absurd (omega arith)
+    read_nodes e (layout m) h = let z : ◌≡◌ {A = ℕ} 8 5 = ap number_of h in absurd (omega arith)
+    read_nodes e (shape m) h = let z : ◌≡◌ {A = ℕ} 9 5 = ap number_of h in absurd (omega arith)
+
+    last_quiet : (e : Refusal) → Unready g i e → e ≡ Last → Rebuilds nand allowance torn s i (record { answer = Err e; ops = nothing; state = s }) i
+    last_quiet e (unread f u) h = read_last f u h
+    last_quiet e (no_number l) h = last_rebuilds l
+    last_quiet e (no_blocks l) h = full_rebuilds l
+
+    nodes_quiet : (e : Refusal) → Unready g i e → e ≡ Nodes → Rebuilds nand allowance torn s i (record { answer = Err e; ops = nothing; state = s }) i
+    nodes_quiet e (unread f u) h = read_nodes f u h
+    nodes_quiet e (no_number l) h = last_rebuilds l
+    nodes_quiet e (no_blocks l) h = full_rebuilds l
+
+    pub quiet_rebuilds : (e : Refusal) → Unready g i e → (e ≡ Last) ⊎ (e ≡ Nodes) → Rebuilds nand allowance torn s i (record { answer = Err e; ops = nothing; state = s }) i
+    quiet_rebuilds e u h = ⊎_elim (last_quiet e u) (nodes_quiet e u) h
+
+    pub off_rebuilds : (e : Refusal) → Unready g i e → (e ≡ Last → ⊥) → (e ≡ Nodes → ⊥) → Rebuilds nand allowance torn s i (refused_with e nothing s) i
+    off_rebuilds e (unread f u) p q = unread_rebuilds f u
+    off_rebuilds e (no_number h) p q = absurd (p refl)
+    off_rebuilds e (no_blocks h) p q = absurd (q refl)
+
     -- ---- all tests pass
-    module _ (lens slots ring : List ℕ) (G v : ℕ) (rd : IsReady g i lens slots ring G v) (i' : List ℕ) (low : allowance < 2 ^ 32) (p reached : Progress)
+    module _ (lens slots ring : List ℕ) (G : ℕ) (v : Option ℕ) (rd : IsReady g i lens slots ring G v) (i' : List ℕ) (low : allowance < 2 ^ 32) (p reached : Progress)
         (from : p ≡ at_start allowance) (lens' slots' free : List ℕ)
         (rn : CarriesRebuild g b (pages_table g i lens slots (8 * b)) G v torn p reached i i' lens slots lens' slots' free) where
       abbrev ps : List Page
@@ -436,7 +473,7 @@ module _ (nand : Nand) (allowance : ℕ) (torn : List ℕ) (s : State) (i : List
             }
 
     -- an image that all tests pass, rebuilt as far as the power goes
-    pub ready_rebuilds : (lens slots ring : List ℕ) (G v : ℕ) → IsReady g i lens slots ring G v → (i' : List ℕ) → allowance < 2 ^ 32 → (p reached : Progress) → p ≡ at_start allowance
+    pub ready_rebuilds : (lens slots ring : List ℕ) (G : ℕ) (v : Option ℕ) → IsReady g i lens slots ring G v → (i' : List ℕ) → allowance < 2 ^ 32 → (p reached : Progress) → p ≡ at_start allowance
         → (lens' slots' free : List ℕ) → CarriesRebuild g b (pages_table g i lens slots (8 * b)) G v torn p reached i i' lens slots lens' slots' free → ((j : ℕ) → get_or i' j 0 < 256)
         → (buffer : List ℕ) (r : Wrote) → r ≡ ended_with reached s (mounted_state nand b (G + 1) free buffer lens' slots') → Rebuilds nand allowance torn s i r i'
     ready_rebuilds lens slots ring G v rd i' low p reached from lens' slots' free rn bytes' buffer =

@@ -16,8 +16,10 @@ use Rattle.chip.specs.Chip.{pages_of}
 use Rattle.chip.proofs.ImageLaws.{block_cut}
 use Rattle.chip.proofs.Sizes.{block_on, block_end, blocks_pages, nand_fits}
 use Rattle.promise.specs.Plain.{admission, or_else, when}
+use Rattle.std.specs.Prelude.{Result, Ok, Err}
 use Rattle.store.specs.declared.answer.Report.{Report}
-use Rattle.store.specs.declared.answer.Report.TheVariants.{Free, Absent}
+use Rattle.store.specs.declared.answer.Refusal.TheVariants.{Absent}
+use Rattle.store.specs.declared.answer.Refusal.{Refusal}
 use Rattle.store.specs.declared.state.State.{State}
 use Rattle.store.specs.State.{geometry_in}
 use Rattle.store.specs.Answers.{report_refusal}
@@ -60,7 +62,7 @@ module _ (b : ℕ) (s : State) (i : List ℕ) where
   g = geometry_in s
 
   -- refused with 2 or 1
-  pub report_first : (r : Report) → 0 < report_refusal r → report_refusal r ≡ admission g s.on s.blocks (length i) → Reports b s i r
+  pub report_first : (r : Result Report Refusal) → 0 < report_refusal r → report_refusal r ≡ admission g s.on s.blocks (length i) → Reports b s i r
   report_first r h e =
       record {
         refusal = first_or_lem (report_refusal r) (when 4 (leb s.blocks b)) h ∙ ap (λ (m : ℕ). or_else m (when 4 (leb s.blocks b))) e;
@@ -74,7 +76,7 @@ module _ (b : ℕ) (s : State) (i : List ℕ) where
     number_is n q = q ∙ ap (λ (m : ℕ). or_else m (when 4 (leb s.blocks b))) e
 
     -- and with 4
-    pub report_absent : s.blocks ≤ b → Reports b s i Absent
+    pub report_absent : s.blocks ≤ b → Reports b s i (Err Absent)
     report_absent h =
         record {
           refusal = number_is 4 (rw (le-leb s.blocks b h));
@@ -86,7 +88,7 @@ module _ (b : ℕ) (s : State) (i : List ℕ) where
     -- the free pages of the block's part of the image
     pub report_free : b < s.blocks → length i ≡ s.blocks * block_size g → (n f e size : ℕ) → size ≡ block_size g
         → n ≡ count is_free (pages_of g (part (b * block_size g) size i)) → f ≡ first is_free (pages_of g (part (b * block_size g) size i))
-        → e ≡ get_or s.erases b 0 → Reports b s i (Free n f e)
+        → e ≡ get_or s.erases b 0 → Reports b s i (Ok (record { free = n; first = f; erases = e }))
     report_free h l n f e size z c d k =
         let w : pages_of g (part (b * block_size g) size i) ≡ block_pages g b i = ap (λ (m : ℕ). pages_of g (part (b * block_size g) m i)) z ∙ block_pages_lem g (nand_fits s.nand) b s.blocks i l h in
         record {

@@ -4,14 +4,14 @@ use mathlib.Core.Bool.{Bool, true, false}
 use mathlib.Core.List.{List}
 use Prim.Native.Nat.{ℕ, suc, ◌*◌, ◌<◌, ◌≤◌}
 use native.Mathlib.Omega.{arith}
+use Rattle.std.specs.Prelude.{Ok, Err}
 use Rattle.lists.specs.Lists.{All}
 use Rattle.lists.proofs.Tests.{clash}
 use Rattle.lists.proofs.Alls.{All-zip}
 use Rattle.chip.specs.Geometry.{Geometry}
 use Rattle.pages.specs.declared.unit.Unit as U
 use Rattle.pages.specs.Units.{ValidUpdate, Valid}
-use Rattle.tree.specs.declared.insert.Inserted.{Inserted}
-use Rattle.tree.specs.declared.delete.Deleted.{Deleted}
+use Rattle.std.specs.Prelude.{Option, Some, None, is_none}
 use Rattle.tree.specs.Tree.{Table, next, find, is_absent}
 use Rattle.tree.specs.Insert.{inserted, TreeStep, refusal, done, insert}
 use Rattle.tree.specs.Delete.{delete}
@@ -23,11 +23,10 @@ use Rattle.tree.proofs.Laws.{thin_thick, thick_thin, inserted_keeps, inserted_th
 use Rattle.promise.specs.Plain as P
 use Rattle.promise.specs.Plain.{refuses, accepted, when, is_refused, table_after, insertion, deletion, updated}
 use Rattle.promise.specs.Calls.{state_of}
-use Rattle.store.specs.declared.answer.Answer.{Answer}
-use Rattle.store.specs.declared.answer.Answer.TheVariants.{Accepted, Absent, Nodes}
+use Rattle.store.specs.declared.answer.Refusal.TheVariants.{Absent, Nodes}
 use Rattle.store.specs.declared.state.State.{State}
 use Rattle.store.specs.declared.state.Updated.{Updated}
-use Rattle.store.specs.Answers.{answer_of}
+use Rattle.store.specs.Answers.{Answer, answer_of}
 use Rattle.store.specs.State.{limit_of, units_of, present_of, Good, geometry_in}
 use Rattle.store.specs.Ensured.{index, KeepsBounds}
 use Rattle.store.specs.UpdateCode.{Stays, with_units, InsertsIn, DeletesIn}
@@ -104,7 +103,7 @@ test_none : (n : ℕ) (b : Bool) → when (suc n) b ≡ 0 → b ≡ false
 test_none n true e = absurd (omega arith)
 test_none n false e = refl
 
-not_refused : {Q : Type 0} (n : ℕ) → answer_of Accepted ≡ refuses n → Q
+not_refused : {Q : Type 0} (n : ℕ) → answer_of (Ok tt) ≡ refuses n → Q
 not_refused n d = let z : ◌≡◌ {A = ℕ} 0 1 = cc in absurd (omega arith)
 
 -- the tree step of an insert into P
@@ -120,89 +119,93 @@ module _ (s : State) (i : List ℕ) (low : s.pending < 16) where
     never_many : Good (geometry_in s) s i → ⊥
     never_many G = omega (arith, G.few)
 
-    pub insert_many : (k v : ℕ) → InsertsIn k v s i (answered Nodes s)
+    pub insert_many : (k v : ℕ) → InsertsIn k v s i (answered (Err Nodes) s)
     unfolding insertion
     insert_many k v = record { range = refl; still = λ _ _. refl; bounds = stay; figures = refl; refused = λ G. absurd (never_many G); done = λ G. absurd (never_many G) }
 
-    pub delete_many : (k : ℕ) → DeletesIn k s i (answered Absent s)
+    pub delete_many : (k : ℕ) → DeletesIn k s i (answered (Err Absent) s)
     unfolding deletion
     delete_many k = record { range = refl; still = λ _ _. refl; bounds = stay; figures = refl; refused = λ G. absurd (never_many G); done = λ G. absurd (never_many G) }
 
-  module _ (k v : ℕ) (hk : k < top) (hv : v < top) (hl : limit_of s ≤ 256) (new free : List ℕ) (r : Inserted)
-      (a : Inserts (geometry_in s) i s.lens s.slots (8 * s.blocks) k v s.count s.buffer s.free new free r) where
-    step_refused : r.refused ≡ true → Good (geometry_in s) s i → step_of (geometry_in s) k v s i ≡ refusal 5
-    unfolding present_of
-    step_refused e G = a.refused e (units_of s) (ready s i G low)
+  module _ (k v : ℕ) (hk : k < top) (hv : v < top) (hl : limit_of s ≤ 256) (new free : List ℕ) where
+    abbrev Answers : Option ℕ → Type 0
+    Answers r = Inserts (geometry_in s) i s.lens s.slots (8 * s.blocks) k v s.count s.buffer s.free new free r
 
-    step_done : r.refused ≡ false → (G : Good (geometry_in s) s i) → (let t = present_of (geometry_in s) s i in
+    step_refused : Answers None → Good (geometry_in s) s i → step_of (geometry_in s) k v s i ≡ refusal 5
+    unfolding present_of
+    step_refused a G = a.refused (units_of s) (ready s i G low)
+
+    step_done : (used : ℕ) → Answers (Some used) → (G : Good (geometry_in s) s i) → (let t = present_of (geometry_in s) s i in
         (step_of (geometry_in s) k v s i ≡ done (inserted k v t))
-        × Stepped (geometry_in s) i s.lens s.slots (limit_of s) s.count (units_of s) (insert_units k v t) (inserted k v t) new free r.count)
+        × Stepped (geometry_in s) i s.lens s.slots (limit_of s) s.count (units_of s) (insert_units k v t) (inserted k v t) new free used)
     unfolding present_of
-    step_done e G = a.done e (units_of s) (ready s i G low)
+    step_done used a G = a.done (units_of s) (ready s i G low)
 
-    pub insert_five : r.refused ≡ true → InsertsIn k v s i (answered Nodes s)
+    pub insert_five : Answers None → InsertsIn k v s i (answered (Err Nodes) s)
     unfolding insertion
-    insert_five e =
+    insert_five a =
         record {
           range = refl;
           still = λ _ _. refl;
           bounds = stay;
           figures = refl;
           refused = λ G m h. test_number 5 m (is_refused (step_of (geometry_in s) k v s i)) (refuses 5) (λ _. refl) h;
-          done = λ G h. clash (ap is_refused (step_refused e G)) (test_none 4 (is_refused (step_of (geometry_in s) k v s i)) h);
+          done = λ G h. clash (ap is_refused (step_refused a G)) (test_none 4 (is_refused (step_of (geometry_in s) k v s i)) h);
         }
 
-    pub insert_accepted : r.refused ≡ false → InsertsIn k v s i (answered Accepted (with_units s new r.count free))
+    pub insert_accepted : (used : ℕ) → Answers (Some used) → InsertsIn k v s i (answered (Ok tt) (with_units s new used free))
     unfolding insertion
-    insert_accepted e =
+    insert_accepted used a =
         record {
           bounds = record { nand = refl; blocks = refl; units = omega (arith, a.keeps.room) };
           figures = refl;
           range = refl;
           still = λ n d. not_refused n d;
-          refused = λ G m h. test_number 5 m (is_refused (step_of (geometry_in s) k v s i)) accepted (λ t. clash t (ap is_refused (step_done e G).0)) h;
+          refused = λ G m h. test_number 5 m (is_refused (step_of (geometry_in s) k v s i)) accepted (λ t. clash t (ap is_refused (step_done used a G).0)) h;
           done = λ G h.
               let p = present_of (geometry_in s) s i in
-              let d = step_done e G in
-              let q = stays s i G low new r.count free (insert_units k v p) (inserted k v p) (inserted_pushed (geometry_in s) k s i new r.count free G hk v hv hl d.0 d.1) in
-              (refl, subst (λ (u : TreeStep). Stays (with_units s new r.count free) i (updated (table_after p u) (state_of index s i))) (sym d.0) q);
+              let d = step_done used a G in
+              let q = stays s i G low new used free (insert_units k v p) (inserted k v p) (inserted_pushed (geometry_in s) k s i new used free G hk v hv hl d.0 d.1) in
+              (refl, subst (λ (u : TreeStep). Stays (with_units s new used free) i (updated (table_after p u) (state_of index s i))) (sym d.0) q);
         }
 
   -- ---- and of a delete
-  module _ (k : ℕ) (hk : k < top) (new free : List ℕ) (r : Deleted)
-      (a : Deletes (geometry_in s) i s.lens s.slots (8 * s.blocks) k s.count s.buffer s.free new free r) where
-    -- the key is absent from P
-    absent_is : r.absent ≡ is_absent (find k (present_of (geometry_in s) s i))
-    unfolding present_of
-    absent_is = a.found
+  module _ (k : ℕ) (hk : k < top) (new free : List ℕ) where
+    abbrev Removes : Option ℕ → Type 0
+    Removes r = Deletes (geometry_in s) i s.lens s.slots (8 * s.blocks) k s.count s.buffer s.free new free r
 
-    pub delete_four : r.absent ≡ true → DeletesIn k s i (answered Absent s)
+    -- whether the key is absent from P
+    absent_is : (r : Option ℕ) → Removes r → is_none r ≡ is_absent (find k (present_of (geometry_in s) s i))
+    unfolding present_of
+    absent_is r a = a.found
+
+    pub delete_four : Removes None → DeletesIn k s i (answered (Err Absent) s)
     unfolding deletion
-    delete_four e =
+    delete_four a =
         record {
           range = refl;
           still = λ _ _. refl;
           bounds = stay;
           figures = refl;
           refused = λ G m h. test_number 4 m (is_absent (find k (present_of (geometry_in s) s i))) (refuses 4) (λ _. refl) h;
-          done = λ G h. clash (sym absent_is ∙ e) (test_none 3 (is_absent (find k (present_of (geometry_in s) s i))) h);
+          done = λ G h. clash (sym (absent_is None a)) (test_none 3 (is_absent (find k (present_of (geometry_in s) s i))) h);
         }
 
-    gone_done : r.absent ≡ false → (G : Good (geometry_in s) s i) → (let t = present_of (geometry_in s) s i in
-        Stepped (geometry_in s) i s.lens s.slots (limit_of s) s.count (units_of s) (delete_units k t) (delete k t) new free r.count)
+    gone_done : (used : ℕ) → Removes (Some used) → (G : Good (geometry_in s) s i) → (let t = present_of (geometry_in s) s i in
+        Stepped (geometry_in s) i s.lens s.slots (limit_of s) s.count (units_of s) (delete_units k t) (delete k t) new free used)
     unfolding present_of
-    gone_done e G = a.is e (units_of s) (ready s i G low)
+    gone_done used a G = a.is (units_of s) (ready s i G low)
 
-    pub delete_accepted : r.absent ≡ false → DeletesIn k s i (answered Accepted (with_units s new r.count free))
+    pub delete_accepted : (used : ℕ) → Removes (Some used) → DeletesIn k s i (answered (Ok tt) (with_units s new used free))
     unfolding deletion
-    delete_accepted e =
+    delete_accepted used a =
         record {
           range = refl;
           still = λ n d. not_refused n d;
-          refused = λ G m h. test_number 4 m (is_absent (find k (present_of (geometry_in s) s i))) accepted (λ t. clash t (sym absent_is ∙ e)) h;
+          refused = λ G m h. test_number 4 m (is_absent (find k (present_of (geometry_in s) s i))) accepted (λ t. clash t (sym (absent_is (Some used) a))) h;
           bounds = record { nand = refl; blocks = refl; units = omega (arith, a.keeps.room) };
           figures = refl;
           done = λ G h.
               let p = present_of (geometry_in s) s i in
-              (refl, stays s i G low new r.count free (delete_units k p) (delete k p) (deleted_pushed (geometry_in s) k s i new r.count free G hk (gone_done e G)));
+              (refl, stays s i G low new used free (delete_units k p) (delete k p) (deleted_pushed (geometry_in s) k s i new used free G hk (gone_done used a G)));
         }

@@ -14,19 +14,14 @@ use Rattle.promise.specs.Calls.{ProperUpdate, state_of, is_one_of, accepts_or}
 use Rattle.store.specs.declared.state.State.{State}
 use Rattle.store.specs.declared.state.Updated.{Updated}
 use Rattle.store.specs.AdmitCode.{ChipOf, update_tests, answer_for}
-use Rattle.store.specs.Answers.{answer_of, refusal_in}
+use Rattle.store.specs.Answers.{answer_of}
 use Rattle.store.specs.State.{present_of, Good, geometry_in}
 use Rattle.store.specs.Ensured.{index, KeepsBounds, UpdatesBy}
 use Rattle.store.specs.UpdateCode.{Stays, UpdatesIn}
-use Rattle.store.proofs.AdmitLaws.{first_refused, first_passed, admission_chip, not_one}
+use Rattle.store.proofs.AdmitLaws.{low_first, first_refused, first_passed, admission_chip, not_one}
 
 -- ---- updates: the tests 2, 1 and 3
 -- a refusal by 2 or 1
-low_first : (a b : Bool) → or_else (when 2 a) (when 1 b) ≤ 2
-low_first true b = omega arith
-low_first false true = omega arith
-low_first false false = omega arith
-
 range_low : (n : ℕ) (a : Answer) (ns : List ℕ) → a ≡ refuses (suc n) → suc n ≤ 2 → accepts_or (2 ∷ 1 ∷ ns) a ≡ true
 range_low zero a ns e l = rw e
 range_low (suc zero) a ns e l = rw e
@@ -151,7 +146,11 @@ updates_pass g on B pending len e =
     let z = first_zero (admission g on B len) (leb 16 pending) e in
     (z.0, admission_chip g on B len (sym z.0), leb-false 16 pending z.1)
 
--- the number of an answer
-pub number_for : (n : ℕ) → refusal_in (answer_for n) ≡ n
-number_for zero = refl
-number_for (suc n) = refl
+-- tests that refuse give a number, tests that pass give 0
+pub refused_for : (m n : ℕ) → refuses m ≡ answer_for n → 0 < n
+refused_for m zero e = let z : ◌≡◌ {A = ℕ} 0 1 = cc in absurd (omega arith)
+refused_for m (suc n) e = omega arith
+
+pub passed_for : (n : ℕ) → accepted ≡ answer_for n → n ≡ 0
+passed_for zero e = refl
+passed_for (suc n) e = let z : ◌≡◌ {A = ℕ} 0 1 = cc in absurd (omega arith)

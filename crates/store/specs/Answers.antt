@@ -1,29 +1,35 @@
 -- What the answers of the code are in the requirement's numbers and values.
-use Rattle.std.specs.Prelude.{ℕ}
+use Rattle.std.specs.Prelude.{ℕ, Option, Some, None, Result, Ok, Err}
+use Rattle.chip.specs.declared.progress.Counts.{Counts}
+use Rattle.chip.specs.Counts.{nothing}
 use Rattle.promise.specs.Plain as P
-use Rattle.store.specs.declared.answer.Answer.{Answer}
-use Rattle.store.specs.declared.answer.Answer.TheVariants.{Accepted, Found, Size, Off, Full, Absent, Nodes, Last, Blank, Layout, Shape, Cut, Thin}
-use Rattle.store.specs.declared.answer.Look as L
-use Rattle.store.specs.declared.answer.Look.TheVariants as Look
-use Rattle.store.specs.declared.answer.Report as R
-use Rattle.store.specs.declared.answer.Report.TheVariants as Report
+use Rattle.store.specs.declared.answer.Look.{Look}
+use Rattle.store.specs.declared.answer.Refusal.{Refusal}
+use Rattle.store.specs.declared.answer.Refusal.TheVariants.{Size, Off, Full, Absent, Nodes, Last, Blank, Layout, Shape, Cut, Thin}
+use Rattle.store.specs.declared.answer.Report.{Report}
 
 -- 1 size, 2 off, 3 sixteen are pending, 4 absent, 5 node numbers used up, 6 commit numbers used up, 7 no standing page,
 -- 8 the layout, 9 the tree, 10 power gone, 12 a thin tree
+abbrev pub number_of : Refusal → ℕ
+number_of Size = 1
+number_of Off = 2
+number_of Full = 3
+number_of Absent = 4
+number_of Nodes = 5
+number_of Last = 6
+number_of Blank = 7
+number_of Layout = 8
+number_of Shape = 9
+number_of Cut = 10
+number_of Thin = 12
+
+-- accepted or refused
+abbrev pub Answer : Type 0
+Answer = Result (Unit {0}) Refusal
+
 abbrev pub answer_of : Answer → P.Answer
-answer_of Accepted = P.accepted
-answer_of (Found v) = P.finds v
-answer_of Size = P.refuses 1
-answer_of Off = P.refuses 2
-answer_of Full = P.refuses 3
-answer_of Absent = P.refuses 4
-answer_of Nodes = P.refuses 5
-answer_of Last = P.refuses 6
-answer_of Blank = P.refuses 7
-answer_of Layout = P.refuses 8
-answer_of Shape = P.refuses 9
-answer_of Cut = P.refuses 10
-answer_of Thin = P.refuses 12
+answer_of (Ok u) = P.accepted
+answer_of (Err e) = P.refuses (number_of e)
 
 -- the number of a refusal, 0 for none
 abbrev pub refusal_in : P.Answer → ℕ
@@ -34,43 +40,56 @@ refusal_in (P.tells vs) = 0
 abbrev pub refusal_number : Answer → ℕ
 refusal_number a = refusal_in (answer_of a)
 
+-- what a step tells: accepted, with the value that a look up found, or refused
+abbrev pub Told : Type 0
+Told = Result (Option ℕ) Refusal
+
+abbrev pub found_of : Option ℕ → P.Answer
+found_of (Some v) = P.finds v
+found_of None = P.accepted
+
+abbrev pub step_answer : Told → P.Answer
+step_answer (Ok t) = found_of t
+step_answer (Err e) = P.refuses (number_of e)
+
 -- the value that a look up found, or its refusal
-abbrev pub look_of : L.Look → P.Answer
-look_of (Look.Found v n) = P.finds v
-look_of (Look.Absent n) = P.refuses 4
-look_of Look.Off = P.refuses 2
-look_of Look.Size = P.refuses 1
+abbrev pub value_of : Option ℕ → P.Answer
+value_of (Some v) = P.finds v
+value_of None = P.refuses 4
+
+abbrev pub look_of : Result Look Refusal → P.Answer
+look_of (Ok l) = value_of l.value
+look_of (Err e) = P.refuses (number_of e)
 
 -- the pages read that it tells, with a value or with 4
-abbrev pub pages_told : L.Look → ℕ
-pages_told (Look.Found v n) = n
-pages_told (Look.Absent n) = n
-pages_told Look.Off = 0
-pages_told Look.Size = 0
+abbrev pub pages_told : Result Look Refusal → ℕ
+pages_told (Ok l) = l.pages
+pages_told (Err e) = 0
 
 -- the refusal of a block report, 0 for none
-abbrev pub report_refusal : R.Report → ℕ
-report_refusal (Report.Free c f e) = 0
-report_refusal Report.Off = 2
-report_refusal Report.Size = 1
-report_refusal Report.Absent = 4
+abbrev pub report_refusal : Result Report Refusal → ℕ
+report_refusal (Ok r) = 0
+report_refusal (Err e) = number_of e
 
 -- the free pages and the first free page that it tells
-abbrev pub free_told : R.Report → ℕ
-free_told (Report.Free c f e) = c
-free_told Report.Off = 0
-free_told Report.Size = 0
-free_told Report.Absent = 0
+abbrev pub free_told : Result Report Refusal → ℕ
+free_told (Ok r) = r.free
+free_told (Err e) = 0
 
-abbrev pub first_told : R.Report → ℕ
-first_told (Report.Free c f e) = f
-first_told Report.Off = 0
-first_told Report.Size = 0
-first_told Report.Absent = 0
+abbrev pub first_told : Result Report Refusal → ℕ
+first_told (Ok r) = r.first
+first_told (Err e) = 0
 
 -- and the erases of the block
-abbrev pub erases_told : R.Report → ℕ
-erases_told (Report.Free c f e) = e
-erases_told Report.Off = 0
-erases_told Report.Size = 0
-erases_told Report.Absent = 0
+abbrev pub erases_told : Result Report Refusal → ℕ
+erases_told (Ok r) = r.erases
+erases_told (Err e) = 0
+
+-- what a forecast answers, and the operations that it tells: none with a refusal
+abbrev pub forecast_answer : Result Counts Refusal → Answer
+forecast_answer (Ok ops) = Ok tt
+forecast_answer (Err e) = Err e
+
+abbrev pub ops_foretold : Result Counts Refusal → Counts
+ops_foretold (Ok ops) = ops
+ops_foretold (Err e) = nothing

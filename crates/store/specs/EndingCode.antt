@@ -1,21 +1,21 @@
 -- What format, mount and commit give back after their operations.
-use Rattle.std.specs.Prelude.{cond}
+use Rattle.std.specs.Prelude.{cond, Ok, Err}
 use Rattle.chip.specs.declared.progress.Counts.{Counts}
 use Rattle.chip.specs.declared.progress.Progress.{Progress}
 use Rattle.chip.specs.Power.{is_gone}
-use Rattle.store.specs.declared.answer.Answer.{Answer}
-use Rattle.store.specs.declared.answer.Answer.TheVariants.{Accepted, Cut}
+use Rattle.store.specs.declared.answer.Refusal.{Refusal}
+use Rattle.store.specs.declared.answer.Refusal.TheVariants.{Cut}
 use Rattle.store.specs.declared.state.State.{State}
 use Rattle.store.specs.declared.state.Wrote.{Wrote}
 use Rattle.store.specs.State.{turned_off}
 
--- refused with this answer after operations of these counts: the state is off
-abbrev pub refused_with : Answer → Counts → State → Wrote
-refused_with a c s = record { answer = a; ops = c; state = turned_off s }
+-- refused after operations of these counts: the state is off
+abbrev pub refused_with : Refusal → Counts → State → Wrote
+refused_with e c s = record { answer = Err e; ops = c; state = turned_off s }
 
 -- accepted after operations of these counts
 abbrev pub accepted_with : Counts → State → Wrote
-accepted_with c s = record { answer = Accepted; ops = c; state = s }
+accepted_with c s = record { answer = Ok tt; ops = c; state = s }
 
 -- after operations that came so far: the state m where all is done, and the state s, off, where they are cut
 abbrev pub ended_with : Progress → State → State → Wrote

@@ -1,5 +1,5 @@
 -- What each call ensures: the records of the promise, read on the code's state and image, and what those leave out.
-use Rattle.std.specs.Prelude.{◌≡◌, not, cond, false, List, ℕ, ◌*◌, ◌<◌, ◌≤◌, max, leb, length, take, get_or, replicate}
+use Rattle.std.specs.Prelude.{◌≡◌, not, cond, false, List, ℕ, ◌*◌, ◌<◌, ◌≤◌, max, leb, length, take, get_or, replicate, Result}
 use Rattle.lists.specs.Lists.{part, count, first}
 use Rattle.chip.specs.Geometry.{Geometry, Nand, geometry_of, blocks_of}
 use Rattle.chip.specs.Page.{is_free}
@@ -25,11 +25,11 @@ use Rattle.promise.specs.Calls.{Store, invalid, means}
 use Rattle.promise.specs.Image.{image_meaning}
 use Rattle.store.specs.declared.answer.Look.{Look}
 use Rattle.store.specs.declared.answer.Report.{Report}
-use Rattle.store.specs.declared.answer.Forecast.{Forecast}
+use Rattle.store.specs.declared.answer.Refusal.{Refusal}
 use Rattle.store.specs.declared.state.State.{State}
 use Rattle.store.specs.declared.state.Wrote.{Wrote}
 use Rattle.store.specs.declared.state.Updated.{Updated}
-use Rattle.store.specs.Answers.{answer_of, look_of, pages_told, report_refusal, free_told, first_told, erases_told}
+use Rattle.store.specs.Answers.{answer_of, forecast_answer, ops_foretold, look_of, pages_told, report_refusal, free_told, first_told, erases_told}
 use Rattle.store.specs.Rebuild.{has_free_blocks, rebuild_ops, rebuild_plan}
 use Rattle.store.specs.State.{turned_off, geometry_in, limit_of, present_of, Good, Room, plan_at, commit_ops}
 
@@ -113,7 +113,7 @@ abbrev pub list_lengths : List Node → List ℕ → ℕ
 list_lengths nodes ns = pages_read (λ (n : ℕ). flash_length (node_at nodes n)) ns
 
 -- look up, on any state and any image: what P says of the key, and the sum of the lengths on flash of the nodes on its path, at most 16
-pub record Looks (k : ℕ) (s : State) (i : List ℕ) (r : Look) : Type 0 where
+pub record Looks (k : ℕ) (s : State) (i : List ℕ) (r : Result Look Refusal) : Type 0 where
   pub says : P.LookUp index k s i (look_of r) s i
   pub any : admission (geometry_in s) s.on s.blocks (length i) ≡ 0 → look_of r ≡ looked_up (find k (present_of (geometry_in s) s i))
   pub pages : admission (geometry_in s) s.on s.blocks (length i) ≡ 0 → pages_told r
@@ -150,7 +150,7 @@ abbrev pub block_pages : Geometry → ℕ → List ℕ → List (List ℕ)
 block_pages g b image = part (b * g.pages) g.pages (pages_of g image)
 
 -- block report: on any state and any image
-pub record Reports (b : ℕ) (s : State) (i : List ℕ) (r : Report) : Type 0 where
+pub record Reports (b : ℕ) (s : State) (i : List ℕ) (r : Result Report Refusal) : Type 0 where
   pub refusal : report_refusal r ≡ report_number s (length i) b
   pub free : report_refusal r ≡ 0 → free_told r ≡ count is_free (block_pages (geometry_in s) b i)
   pub first : report_refusal r ≡ 0 → first_told r ≡ first is_free (block_pages (geometry_in s) b i)
@@ -182,12 +182,12 @@ pub record Commits (allowance : ℕ) (torn : List ℕ) (s : State) (i : List ℕ
   pub bounds : KeepsBounds s r.state
 
 -- forecast: the record of the promise; by kind, all operations of the plan; on any state and any image
-pub record Forecasts (s : State) (i : List ℕ) (r : Forecast) : Type 0 where
-  pub says : P.Forecast index s i (answer_of r.answer) (total r.ops) s i
-  pub kinds : P.Proceeding index (forecasts (length i)) s → r.ops ≡ counts_of (kinds_of (the_ops (geometry_in s) s i))
+pub record Forecasts (s : State) (i : List ℕ) (r : Result Counts Refusal) : Type 0 where
+  pub says : P.Forecast index s i (answer_of (forecast_answer r)) (total (ops_foretold r)) s i
+  pub kinds : P.Proceeding index (forecasts (length i)) s → ops_foretold r ≡ counts_of (kinds_of (the_ops (geometry_in s) s i))
 
 -- what a forecast r says of a commit w with an allowance of n on the same state and image: with the sum of its counts, or more, the commit answers as the forecast did
 -- and tells the same counts; with less it is cut and tells the allowance
-pub record Foretells (n : ℕ) (r : Forecast) (w : Wrote) : Type 0 where
-  pub enough : total r.ops ≤ n → (answer_of w.answer ≡ answer_of r.answer) × (w.ops ≡ r.ops)
-  pub short : n < total r.ops → (answer_of w.answer ≡ refuses 10) × (total w.ops ≡ n)
+pub record Foretells (n : ℕ) (r : Result Counts Refusal) (w : Wrote) : Type 0 where
+  pub enough : total (ops_foretold r) ≤ n → (answer_of w.answer ≡ answer_of (forecast_answer r)) × (w.ops ≡ ops_foretold r)
+  pub short : n < total (ops_foretold r) → (answer_of w.answer ≡ refuses 10) × (total w.ops ≡ n)

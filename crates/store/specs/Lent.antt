@@ -3,12 +3,11 @@ use Rattle.std.specs.Prelude.{◌≡◌, false, List, [], ◌∷◌, ℕ}
 use Rattle.chip.specs.declared.progress.Counts.{Counts}
 use Rattle.chip.specs.Counts.{total}
 use Rattle.promise.specs.Steps.{Step, Lends, Hands, boots}
-use Rattle.store.specs.declared.answer.Answer.{Answer}
 use Rattle.store.specs.declared.state.Numbers.{Numbers}
 use Rattle.store.specs.declared.state.State.{State}
 use Rattle.store.specs.declared.state.WroteParts.{WroteParts}
 use Rattle.store.specs.declared.step.Call.{Call}
-use Rattle.store.specs.Answers.{answer_of}
+use Rattle.store.specs.Answers.{Told, step_answer}
 use Rattle.store.specs.Ensured.{index, Commits}
 use Rattle.store.specs.Parts.{joined, with_free, wrote_with, wrote_free}
 use Rattle.store.specs.Step.{act_of, StepsBy}
@@ -37,7 +36,7 @@ pub record LentStep : Type 0 where
   pub given : Parts
   pub lent : List ℕ
   pub left : List ℕ
-  pub answer : Answer
+  pub answer : Told
   pub ops : Counts
   pub after : Parts
   pub image : List ℕ
@@ -54,7 +53,7 @@ lent_step x =
       given = state_from x.given;
       lent = x.lent;
       left = x.left;
-      answer = answer_of x.answer;
+      answer = step_answer x.answer;
       ops = total x.ops;
       state = state_from x.after;
       image = x.image;

@@ -1,8 +1,8 @@
 -- A state in parts: its numbers by value, and its large arrays, which the caller lends.
-use Rattle.std.specs.Prelude.{false, List, ℕ, ◌*◌}
+use Rattle.std.specs.Prelude.{false, List, ℕ, Result, Ok, Err}
 use Rattle.chip.specs.Geometry.{geometry_of}
-use Rattle.views.specs.declared.view.Scope.{Scope}
 use Rattle.plan.specs.declared.make.Basis.{Basis}
+use Rattle.store.specs.declared.answer.Refusal.{Refusal}
 use Rattle.store.specs.declared.state.Numbers.{Numbers}
 use Rattle.store.specs.declared.state.State.{State}
 use Rattle.store.specs.declared.state.Updated.{Updated}
@@ -31,10 +31,6 @@ joined n buffer lens slots erases =
 abbrev pub numbers_of : State → Numbers
 numbers_of s = record { on = s.on; nand = s.nand; blocks = s.blocks; commit = s.commit; pending = s.pending; free = s.free; count = s.count }
 
--- what its nodes are read with: node numbers are below 8 × B
-abbrev pub scope_of : Numbers → Scope
-scope_of n = record { geometry = geometry_of n.nand; count = n.count; limit = 8 * n.blocks }
-
 -- what the plan of a commit is made from
 abbrev pub basis_of : Numbers → Basis
 basis_of n = record { geometry = geometry_of n.nand; count = n.count; blocks = n.blocks; commit = n.commit }
@@ -46,6 +42,11 @@ numbers_off n = record { on = false; nand = n.nand; blocks = n.blocks; commit = 
 -- the same numbers with these free numbers: look up, forecast, commit and block report do not read those
 abbrev pub with_free : Numbers → List ℕ → Numbers
 with_free n free = record { on = n.on; nand = n.nand; blocks = n.blocks; commit = n.commit; pending = n.pending; free = free; count = n.count }
+
+-- what an update of these numbers gives back: those that it leaves, or the same with its refusal
+abbrev pub parts_of : Numbers → Result Numbers Refusal → UpdatedParts
+parts_of n (Ok m) = record { answer = Ok tt; numbers = m }
+parts_of n (Err e) = record { answer = Err e; numbers = n }
 
 -- what an insert or a delete gives back, with the arrays that it leaves
 abbrev pub updated_with : UpdatedParts → List ℕ → List ℕ → List ℕ → List ℕ → Updated

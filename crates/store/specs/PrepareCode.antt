@@ -1,15 +1,16 @@
 -- What the tests of a rebuild answer, before any operation.
-use Rattle.std.specs.Prelude.{◌≡◌, Bool, true, false, List, ℕ, ◌<◌, ◌≤◌, length, take}
+use Rattle.std.specs.Prelude.{Option, Result, Ok, Err, ◌≡◌, Bool, true, false, List, ℕ, ◌<◌, ◌≤◌, length, take}
 use Rattle.chip.specs.Geometry.{Geometry, blocks_of}
 use Rattle.chip.specs.Chip.{pages_of}
 use Rattle.tree.specs.Tree.{Table}
 use Rattle.journal.specs.Rebuild.{eighth, free_blocks}
 use Rattle.promise.specs.Plain.{last_number}
-use Rattle.promise.specs.Calls.{invalid, means}
+use Rattle.promise.specs.Calls.{means}
 use Rattle.promise.specs.Image.{image_meaning}
-use Rattle.store.specs.declared.prepare.Prepared.{Prepared}
-use Rattle.store.specs.declared.prepare.Prepared.TheVariants.{Blank, Layout, Shape, Last, Full, Ready}
-use Rattle.store.specs.CheckCode.{Read}
+use Rattle.store.specs.declared.answer.Refusal.{Refusal}
+use Rattle.store.specs.declared.answer.Refusal.TheVariants.{Last, Nodes}
+use Rattle.store.specs.declared.check.Meaning.{Meaning}
+use Rattle.store.specs.CheckCode.{Read, Unread}
 use Rattle.store.specs.Rebuild.{has_free_blocks}
 
 -- the image means a tree and G
@@ -31,7 +32,7 @@ pub record IsFull (g : Geometry) (image : List ℕ) : Type 0 where
   pub blocks : has_free_blocks g image ≡ false
 
 -- all pass: the arrays hold the lists of the nodes and the blocks to write
-pub record IsReady (g : Geometry) (image lens slots ring : List ℕ) (G v : ℕ) : Type 0 where
+pub record IsReady (g : Geometry) (image lens slots ring : List ℕ) (G : ℕ) (v : Option ℕ) : Type 0 where
   pub free : List ℕ
   pub thin : Bool
   pub read : Read g image lens slots free G v thin
@@ -39,11 +40,13 @@ pub record IsReady (g : Geometry) (image lens slots ring : List ℕ) (G v : ℕ)
   pub blocks : has_free_blocks g image ≡ true
   pub front : take (eighth (blocks_of g (length image))) ring ≡ take (eighth (blocks_of g (length image))) (free_blocks g (blocks_of g (length image)) (pages_of g image))
 
+-- refused with 7, 8 or 9, with 6, or with 5
+pub data Unready (g : Geometry) (image : List ℕ) : Refusal → Type 0 where
+  unread : (e : Refusal) → Unread g image e → Unready g image e
+  no_number : IsLast g image → Unready g image Last
+  no_blocks : IsFull g image → Unready g image Nodes
+
 -- the answer says which of them is met first
-abbrev pub Prepares : Geometry → List ℕ → List ℕ → List ℕ → List ℕ → Prepared → Type 0
-Prepares g image lens slots ring Blank = image_meaning g image ≡ invalid 7
-Prepares g image lens slots ring Layout = image_meaning g image ≡ invalid 8
-Prepares g image lens slots ring Shape = image_meaning g image ≡ invalid 9
-Prepares g image lens slots ring Last = IsLast g image
-Prepares g image lens slots ring Full = IsFull g image
-Prepares g image lens slots ring (Ready G v) = IsReady g image lens slots ring G v
+abbrev pub Prepares : Geometry → List ℕ → List ℕ → List ℕ → List ℕ → Result Meaning Refusal → Type 0
+Prepares g image lens slots ring (Err e) = Unready g image e
+Prepares g image lens slots ring (Ok m) = IsReady g image lens slots ring m.commit m.void

@@ -1,12 +1,10 @@
 -- What a state means on an image: the nodes that its table names, K, the units of its buffer, P; and the invariant that the calls keep.
-use Rattle.std.specs.Prelude.{◌≡◌, true, false, cond, List, [], ◌∷◌, map, reverse, ℕ, ◌*◌, ◌≤◌, ◌<◌, eqb, leb, length, get_or, replicate}
+use Rattle.std.specs.Prelude.{◌≡◌, true, false, cond, List, [], ◌∷◌, map, reverse, ℕ, ◌*◌, ◌≤◌, ◌<◌, eqb, leb, length, get_or, replicate, Option, Some, None}
 use Rattle.lists.specs.Lists.{All, all, tab}
 use Rattle.chip.specs.declared.geometry.Nand.TheVariants.{Small}
 use Rattle.chip.specs.Geometry.{Geometry, geometry_of, blocks_of}
 use Rattle.chip.specs.Chip.{Op, pages_of}
 use Rattle.pages.specs.declared.unit.Unit as U
-use Rattle.pages.specs.declared.unit.Decoded.{Decoded}
-use Rattle.pages.specs.declared.unit.Decoded.TheVariants as D
 use Rattle.pages.specs.Units.{decodes, Valid}
 use Rattle.pages.specs.Steps.{live_from, ordered, stand, steps}
 use Rattle.views.specs.Nodes.{Entry, untouched}
@@ -79,10 +77,10 @@ unfoldable pub nodes_of : Geometry → State → List ℕ → List Node
 nodes_of g s image = tab 0 (limit_of s) (node_from g s image)
 
 -- the units of the buffer
-abbrev pub goods : List Decoded → List U.Unit
+abbrev pub goods : List (Option U.Unit) → List U.Unit
 goods [] = []
-goods (D.Good u ∷ ds) = u ∷ goods ds
-goods (D.Bad ∷ ds) = goods ds
+goods (Some u ∷ ds) = u ∷ goods ds
+goods (None ∷ ds) = goods ds
 
 unfoldable pub units_of : State → List U.Unit
 units_of s = goods (decodes (limit_of s) s.count s.buffer)
@@ -102,7 +100,7 @@ pub record Good (g : Geometry) (s : State) (image : List ℕ) : Type 0 where
   pub clean : steps g (pages_of g image) ≡ stand [] (ordered (live_from g 0 (pages_of g image)))
   pub kept : step6 (views_of (nodes_of g s image)) ≡ true
   -- the buffer holds units of the layout, at most 60 for each pending update
-  pub units : decodes (limit_of s) s.count s.buffer ≡ map D.Good (units_of s)
+  pub units : decodes (limit_of s) s.count s.buffer ≡ map Some (units_of s)
   pub valid : All (Valid (limit_of s)) (units_of s)
   pub few : s.count ≤ 60 * s.pending
   pub some : 0 < s.pending → 0 < s.count

@@ -4,8 +4,7 @@ ghost use Rattle.chip.specs.Geometry.{Fits, geometry_of, page_size};
 ghost use Rattle.store.specs.AdmitCode.{Admitted, Sized, update_tests, tests_of, answer_for, CommitBegins};
 ghost use Rattle.store.specs.Answers.{answer_of};
 
-use crate::answer;
-use crate::answer::Answer;
+use crate::answer::Refusal;
 use crate::state::{Numbers, UNITS};
 use chip::geometry;
 use chip::geometry::{Geometry, Nand};
@@ -14,22 +13,7 @@ use chip::geometry::{Geometry, Nand};
 const PENDING: u32 = 16;
 
 // The greatest commit number.
-const LAST: u32 = 4294967295;
-
-// Whether a call that can give 2 goes on, and if not which of 2 and 1 it gives.
-#[derive(Clone, Copy)]
-pub enum Admission {
-    Passes,
-    Off,
-    Size,
-}
-
-// How a commit or a forecast begins: it ends with this answer, or goes on to its plan.
-#[derive(Clone, Copy)]
-pub enum Beginning {
-    Ends(Answer),
-    Plans,
-}
+pub const LAST: u32 = 4294967295;
 
 // Bytes of a page of a part, and of a torn slice.
 pub fn page_size(nand: Nand) -> usize
@@ -40,90 +24,73 @@ pub fn page_size(nand: Nand) -> usize
 }
 
 // The tests 2 and 1 of a call that is lent an image alone, on the state's numbers and the image's length.
-pub fn admit(numbers: Numbers, len: usize) -> Admission
+pub fn admit(numbers: Numbers, len: usize) -> Result<(), Refusal>
     ensures { Admitted (geometry_of numbers.nand) numbers.on numbers.blocks len result }
 {
     if !numbers.on {
-        return Admission::Off;
+        return Err(Refusal::Off);
     }
     let nand = numbers.nand;
     let geometry = geometry::geometry_of(nand);
-    let found = geometry::blocks_of(geometry, len);
-    if found == 0 {
-        return Admission::Size;
-    }
-    if found == numbers.blocks {
-        Admission::Passes
+    if geometry::blocks_of(geometry, len) == Some(numbers.blocks) {
+        Ok(())
     } else {
-        Admission::Size
+        Err(Refusal::Size)
     }
 }
 
-// The tests 2, 1 and 3 of an insert or a delete: accepted where all pass.
-pub fn update_tests(numbers: Numbers, len: usize) -> Answer
+// The tests 2, 1 and 3 of an insert or a delete.
+pub fn update_tests(numbers: Numbers, len: usize) -> Result<(), Refusal>
     ensures { answer_of result ≡ answer_for (update_tests (geometry_of numbers.nand) numbers.on numbers.blocks numbers.pending len) }
 {
-    match admit(numbers, len) {
-        Admission::Off => Answer::Off,
-        Admission::Size => Answer::Size,
-        Admission::Passes => {
-            if numbers.pending >= PENDING {
-                Answer::Full
-            } else {
-                Answer::Accepted
-            }
-        }
+    admit(numbers, len)?;
+    if numbers.pending >= PENDING {
+        return Err(Refusal::Full);
     }
+    Ok(())
 }
 
-// The tests 2, 1 and 6 of a commit: accepted where all pass.
-fn commit_tests(numbers: Numbers, len: usize, torn: usize) -> Answer
+// The tests 2, 1 and 6 of a commit.
+fn commit_tests(numbers: Numbers, len: usize, torn: usize) -> Result<(), Refusal>
     ensures { answer_of result ≡ answer_for (tests_of numbers len torn) }
 {
-    match admit(numbers, len) {
-        Admission::Off => Answer::Off,
-        Admission::Size => Answer::Size,
-        Admission::Passes => {
-            let nand = numbers.nand;
-            if torn != page_size(nand) {
-                return Answer::Size;
-            }
-            if numbers.pending == 0 {
-                return Answer::Accepted;
-            }
-            if numbers.commit >= LAST {
-                Answer::Last
-            } else {
-                Answer::Accepted
-            }
-        }
-    }
-}
-
-// A commit, or a forecast of one, goes on to its plan where its tests pass, updates are pending and the buffer holds its units.
-pub fn commit_begins(numbers: Numbers, len: usize, torn: usize) -> Beginning
-    ensures { CommitBegins numbers len torn result }
-{
-    let answer = commit_tests(numbers, len, torn);
-    if answer::number(answer) > 0 {
-        return Beginning::Ends(answer);
+    admit(numbers, len)?;
+    let nand = numbers.nand;
+    if torn != page_size(nand) {
+        return Err(Refusal::Size);
     }
     if numbers.pending == 0 {
-        return Beginning::Ends(Answer::Accepted);
+        return Ok(());
     }
-    if numbers.count > UNITS {
-        return Beginning::Ends(Answer::Last);
+    if numbers.commit >= LAST {
+        Err(Refusal::Last)
+    } else {
+        Ok(())
     }
-    Beginning::Plans
 }
 
-// The blocks of an image that a format or a mount is lent with a torn slice; 0 where one of them has a wrong size.
-pub fn sized(geometry: Geometry, len: usize, torn: usize) -> usize
+// Whether a commit, or a forecast of one, goes on to its plan: its tests pass, updates are pending and the buffer holds its units. With nothing pending it
+// ends, accepted.
+pub fn commit_begins(numbers: Numbers, len: usize, torn: usize) -> Result<bool, Refusal>
+    ensures { CommitBegins numbers len torn result }
+{
+    commit_tests(numbers, len, torn)?;
+    if numbers.pending == 0 {
+        return Ok(false);
+    }
+    if numbers.count > UNITS {
+        return Err(Refusal::Last);
+    }
+    Ok(true)
+}
+
+// The blocks of an image that a format or a mount is lent with a torn slice; none where one of them has a wrong size.
+pub fn sized(geometry: Geometry, len: usize, torn: usize) -> Option<usize>
     requires { Fits geometry }
     ensures { Sized geometry len torn result }
 {
     if torn != geometry.area + geometry.spare {
-        return 0;
+        return None;
     }
     geometry::blocks_of(geometry, len)
 }

@@ -1,14 +1,10 @@
-// What the calls answer. The definitions of Answers give each answer the number that it has in the requirement.
+// What the calls answer. The definitions of Answers give each refusal the number that it has in the requirement.
 ghost use Rattle.std.specs.Prelude.{◌≡◌};
-ghost use Rattle.store.specs.Answers.{refusal_number};
+ghost use Rattle.store.specs.Answers.{number_of, refusal_number};
 
-use chip::progress::Counts;
-
-// Accepted, or the value that a look up found, or why a call is refused, by the number of the refusal from 1 to 10, or 12.
-#[derive(Clone, Copy)]
-pub enum Answer {
-    Accepted,
-    Found(u32),
+// Why a call is refused, by the number of the refusal from 1 to 10, or 12.
+#[derive(Clone, Copy, PartialEq, Eq)]
+pub enum Refusal {
     Size,
     Off,
     Full,
@@ -22,49 +18,47 @@ pub enum Answer {
     Thin,
 }
 
-// What a look up answers: the value found and the pages read, the pages read where the key is absent, or the refusals 2 and 1.
-#[derive(Clone, Copy)]
-pub enum Look {
-    Found(u32, u32),
-    Absent(u32),
-    Off,
-    Size,
+impl From<Refusal> for u32 {
+    ghost from_gives = { λ refusal number. number ≡ number_of refusal };
+
+    fn from(refusal: Refusal) -> u32 {
+        match refusal {
+            Refusal::Size => 1,
+            Refusal::Off => 2,
+            Refusal::Full => 3,
+            Refusal::Absent => 4,
+            Refusal::Nodes => 5,
+            Refusal::Last => 6,
+            Refusal::Blank => 7,
+            Refusal::Layout => 8,
+            Refusal::Shape => 9,
+            Refusal::Cut => 10,
+            Refusal::Thin => 12,
+        }
+    }
 }
 
-// What a block report answers: how many pages of the block are free, the first free one and the erases of the block, or the refusals 2, 1
-// and 4.
+// What a look up that is not refused with 2 or 1 gives: the value, none where the key is absent (4), and the pages read.
 #[derive(Clone, Copy)]
-pub enum Report {
-    Free(u32, u32, u64),
-    Off,
-    Size,
-    Absent,
+pub struct Look {
+    pub value: Option<u32>,
+    pub pages: u32,
 }
 
-// What a forecast answers: what a commit made now, with power enough, would, and the operations that it would tell by kind.
+// What a block report gives: how many pages of the block are free, the first free one and the erases of the block.
 #[derive(Clone, Copy)]
-pub struct Forecast {
-    pub answer: Answer,
-    pub ops: Counts,
+pub struct Report {
+    pub free: u32,
+    pub first: u32,
+    pub erases: u64,
 }
 
 // The number of a refusal, 0 for none.
-pub fn number(answer: Answer) -> u32
+pub fn number(answer: Result<(), Refusal>) -> u32
     ensures { result ≡ refusal_number answer }
 {
     match answer {
-        Answer::Accepted => 0,
-        Answer::Found(_) => 0,
-        Answer::Size => 1,
-        Answer::Off => 2,
-        Answer::Full => 3,
-        Answer::Absent => 4,
-        Answer::Nodes => 5,
-        Answer::Last => 6,
-        Answer::Blank => 7,
-        Answer::Layout => 8,
-        Answer::Shape => 9,
-        Answer::Cut => 10,
-        Answer::Thin => 12,
+        Ok(()) => 0,
+        Err(refusal) => u32::from(refusal),
     }
 }

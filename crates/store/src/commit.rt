@@ -1,12 +1,10 @@
 // Commit: the pending updates written as commit G + 1. 2; 1; 6 when updates are pending and G is the last number; 10.
-ghost use Rattle.std.specs.Prelude.{length};
-ghost use Rattle.store.specs.declared.admit.Beginning.TheVariants.{Plans};
+ghost use Rattle.std.specs.Prelude.{true, length, Ok};
 ghost use Rattle.store.specs.AdmitCode.{CommitBegins};
 ghost use Rattle.store.specs.Ensured.{Commits};
 ghost use Rattle.store.specs.Lent.{CommitsLent};
 
-use crate::admit::Beginning;
-use crate::answer::Answer;
+use crate::answer::Refusal;
 use crate::state::{Numbers, State, Wrote, WroteParts};
 use crate::{admit, ending, scope, state};
 use chip::progress;
@@ -24,7 +22,7 @@ fn commit_pending(
     torn: &[u8],
     allowance: u32,
 ) -> WroteParts
-    requires { CommitBegins numbers (length image.old) (length torn.now) Plans }
+    requires { CommitBegins numbers (length image.old) (length torn.now) (Ok true) }
     ensures { CommitsLent allowance torn.now numbers buffer.now lens.old slots.old erases.old
         image.old result lens.new slots.new erases.new image.new }
 {
@@ -38,10 +36,9 @@ fn commit_pending(
     let e = execute::execute(
         image, lens, slots, buffer, basis, torn, start, &mut l, &mut s, &mut f,
     );
-    if e.stuck {
-        return ending::quiet(numbers, Answer::Last);
-    }
-    let reached = e.reached;
+    let Some(reached) = e else {
+        return ending::quiet(numbers, Err(Refusal::Last));
+    };
     let mut n = numbers;
     n.commit = numbers.commit + 1;
     n.pending = 0;
@@ -64,10 +61,9 @@ pub fn commit_lent(
         image.old result lens.new slots.new erases.new image.new }
 {
     match admit::commit_begins(numbers, image.len(), torn.len()) {
-        Beginning::Ends(answer) => ending::quiet(numbers, answer),
-        Beginning::Plans => commit_pending(
-            numbers, lens, slots, erases, buffer, image, torn, allowance,
-        ),
+        Err(refusal) => ending::quiet(numbers, Err(refusal)),
+        Ok(false) => ending::quiet(numbers, Ok(())),
+        Ok(true) => commit_pending(numbers, lens, slots, erases, buffer, image, torn, allowance),
     }
 }
 

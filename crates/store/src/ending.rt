@@ -1,18 +1,18 @@
 // What format, mount and commit give back: nothing done, refused, or ended after their operations.
-ghost use Rattle.std.specs.Prelude.{◌≡◌, List, ℕ};
+ghost use Rattle.std.specs.Prelude.{◌≡◌, List, ℕ, Err};
 ghost use Rattle.chip.specs.Counts.{nothing};
-ghost use Rattle.store.specs.declared.answer.Answer.TheVariants.{Cut};
+ghost use Rattle.store.specs.declared.answer.Refusal.TheVariants.{Cut};
 ghost use Rattle.store.specs.EndingCode.{ended_with};
 ghost use Rattle.store.specs.Parts.{joined, numbers_off, wrote_with};
 
-use crate::answer::Answer;
+use crate::answer::Refusal;
 use crate::state;
 use crate::state::{Numbers, WroteParts};
 use chip::progress::{Counts, Progress};
 use chip::{power, progress};
 
 // Nothing done: the numbers are given back as they were.
-pub fn quiet(numbers: Numbers, answer: Answer) -> WroteParts
+pub fn quiet(numbers: Numbers, answer: Result<(), Refusal>) -> WroteParts
     ensures { result ≡ record { answer = answer; ops = nothing; numbers = numbers } }
 {
     let ops = progress::nothing();
@@ -24,20 +24,20 @@ pub fn quiet(numbers: Numbers, answer: Answer) -> WroteParts
 }
 
 // Refused before any operation: the state is off.
-pub fn refused(numbers: Numbers, answer: Answer) -> WroteParts
-    ensures { result ≡ record { answer = answer; ops = nothing; numbers = numbers_off numbers } }
+pub fn refused(numbers: Numbers, refusal: Refusal) -> WroteParts
+    ensures { result ≡ record { answer = Err refusal; ops = nothing; numbers = numbers_off numbers } }
 {
     let off = state::turned_off(numbers);
-    quiet(off, answer)
+    quiet(off, Err(refusal))
 }
 
 // Refused with 10 after these operations: the state is off.
 fn cut(numbers: Numbers, ops: Counts) -> WroteParts
-    ensures { result ≡ record { answer = Cut; ops = ops; numbers = numbers_off numbers } }
+    ensures { result ≡ record { answer = Err Cut; ops = ops; numbers = numbers_off numbers } }
 {
     let off = state::turned_off(numbers);
     WroteParts {
-        answer: Answer::Cut,
+        answer: Err(Refusal::Cut),
         ops,
         numbers: off,
     }
@@ -69,7 +69,7 @@ pub fn ended(
     *slots = *new_slots;
     *erases = *new_erases;
     WroteParts {
-        answer: Answer::Accepted,
+        answer: Ok(()),
         ops,
         numbers: after,
     }

@@ -3,14 +3,12 @@ ghost use Rattle.std.specs.Prelude.{List, ℕ};
 ghost use Rattle.store.specs.Ensured.{Looks};
 ghost use Rattle.store.specs.Parts.{joined, with_free};
 
-use crate::admit::Admission;
-use crate::answer::Look;
+use crate::answer::{Look, Refusal};
 use crate::state::{Numbers, State};
 use crate::{admit, scope, state};
 use tree::find;
-use tree::find::Hit;
 
-// Look up on lent arrays: the value of `key`, or 4 where it is absent, with the pages read on the way to its leaf.
+// Look up on lent arrays: the value of `key`, or none where it is absent, with the pages read on the way to its leaf.
 pub fn look_up_lent<'a>(
     numbers: Numbers,
     lens: &'a [u32; 256],
@@ -18,27 +16,19 @@ pub fn look_up_lent<'a>(
     buffer: &'a [u8; 11520],
     image: &[u8],
     key: u32,
-) -> Look
+) -> Result<Look, Refusal>
     ensures { (free erases : List ℕ) → Looks key (joined (with_free numbers free) buffer.now lens.now slots.now erases) image.now result }
 {
-    match admit::admit(numbers, image.len()) {
-        Admission::Off => Look::Off,
-        Admission::Size => Look::Size,
-        Admission::Passes => {
-            let scope = scope::scope_of(numbers);
-            let looked = find::find(image, lens, slots, buffer, scope, key);
-            let pages = looked.pages;
-            let hit = looked.hit;
-            match hit {
-                Hit::At(value) => Look::Found(value, pages),
-                Hit::Nothing => Look::Absent(pages),
-            }
-        }
-    }
+    admit::admit(numbers, image.len())?;
+    let nodes = scope::nodes_of(numbers, image, lens, slots);
+    let looked = find::find(nodes, buffer, numbers.count, key);
+    let value = looked.hit;
+    let pages = looked.pages;
+    Ok(Look { value, pages })
 }
 
 // Look up on a state by value.
-pub fn look_up(state: State, image: &[u8], key: u32) -> Look
+pub fn look_up(state: State, image: &[u8], key: u32) -> Result<Look, Refusal>
     ensures { Looks key state image.now result }
 {
     let numbers = state::numbers_of(state);

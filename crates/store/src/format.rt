@@ -3,7 +3,7 @@ ghost use Rattle.std.specs.Prelude.{List, ℕ};
 ghost use Rattle.store.specs.Ensured.{Formats};
 ghost use Rattle.store.specs.Parts.{joined, wrote_with};
 
-use crate::answer::Answer;
+use crate::answer::Refusal;
 use crate::state::{Numbers, State, Wrote, WroteParts};
 use crate::{admit, ending, state};
 use chip::geometry::Nand;
@@ -27,10 +27,9 @@ pub fn format_lent(
         image.old (wrote_with result buffer lens.new slots.new erases.new) image.new }
 {
     let geometry = geometry::geometry_of(nand);
-    let blocks = admit::sized(geometry, image.len(), torn.len());
-    if blocks == 0 {
-        return ending::quiet(numbers, Answer::Size);
-    }
+    let Some(blocks) = admit::sized(geometry, image.len(), torn.len()) else {
+        return ending::quiet(numbers, Err(Refusal::Size));
+    };
     let start = progress::begin(allowance);
     let reached = journal::format::format(geometry, image, blocks, torn, start);
     let mut l = [0; 256];

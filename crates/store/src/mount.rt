@@ -3,8 +3,7 @@ ghost use Rattle.std.specs.Prelude.{List, ℕ};
 ghost use Rattle.store.specs.Ensured.{Mounts};
 ghost use Rattle.store.specs.Parts.{joined, wrote_with};
 
-use crate::answer::Answer;
-use crate::check::Checked;
+use crate::answer::Refusal;
 use crate::state::{Numbers, State, Wrote, WroteParts};
 use crate::{admit, check, ending, state};
 use chip::geometry::Nand;
@@ -26,33 +25,30 @@ pub fn mount_lent(
         image.old (wrote_with result buffer lens.new slots.new erases.new) image.new }
 {
     let geometry = geometry::geometry_of(nand);
-    let blocks = admit::sized(geometry, image.len(), torn.len());
-    if blocks == 0 {
-        return ending::quiet(numbers, Answer::Size);
-    }
+    let Some(blocks) = admit::sized(geometry, image.len(), torn.len()) else {
+        return ending::quiet(numbers, Err(Refusal::Size));
+    };
     let mut l = [0; 256];
     let mut s = [0; 1024];
     let e = [0; 32];
     let mut free = [0; 4];
     match check::check(geometry, image, blocks, &mut l, &mut s, &mut free) {
-        Checked::Blank => ending::refused(numbers, Answer::Blank),
-        Checked::Layout => ending::refused(numbers, Answer::Layout),
-        Checked::Shape => ending::refused(numbers, Answer::Shape),
-        Checked::Means(commit, void, thin) => {
-            if thin {
-                return ending::refused(numbers, Answer::Thin);
+        Err(refusal) => ending::refused(numbers, refusal),
+        Ok(meaning) => {
+            if meaning.thin {
+                return ending::refused(numbers, Refusal::Thin);
             }
             let mounted = Numbers {
                 on: true,
                 nand,
                 blocks,
-                commit,
+                commit: meaning.commit,
                 pending: 0,
                 free,
                 count: 0,
             };
             let start = progress::begin(allowance);
-            let reached = journal::mount::retire(geometry, image, void, torn, start);
+            let reached = journal::mount::retire(geometry, image, meaning.void, torn, start);
             ending::ended(numbers, lens, slots, erases, mounted, &l, &s, &e, reached)
         }
     }

@@ -4,8 +4,7 @@ ghost use Rattle.std.specs.Prelude.{List, ℕ};
 ghost use Rattle.store.specs.Ensured.{Rebuilds};
 ghost use Rattle.store.specs.Parts.{joined, wrote_with};
 
-use crate::answer::Answer;
-use crate::prepare::Prepared;
+use crate::answer::Refusal;
 use crate::state::{Numbers, State, Wrote, WroteParts};
 use crate::{admit, ending, prepare, state};
 use chip::geometry::Nand;
@@ -28,20 +27,20 @@ pub fn rebuild_lent(
         image.old (wrote_with result buffer lens.new slots.new erases.new) image.new }
 {
     let geometry = geometry::geometry_of(nand);
-    let blocks = admit::sized(geometry, image.len(), torn.len());
-    if blocks == 0 {
-        return ending::quiet(numbers, Answer::Size);
-    }
+    let Some(blocks) = admit::sized(geometry, image.len(), torn.len()) else {
+        return ending::quiet(numbers, Err(Refusal::Size));
+    };
     let mut l = [0; 256];
     let mut s = [0; 1024];
     let mut ring = [0; 32];
     match prepare::prepare(geometry, image, blocks, &mut l, &mut s, &mut ring) {
-        Prepared::Blank => ending::refused(numbers, Answer::Blank),
-        Prepared::Layout => ending::refused(numbers, Answer::Layout),
-        Prepared::Shape => ending::refused(numbers, Answer::Shape),
-        Prepared::Last => ending::quiet(numbers, Answer::Last),
-        Prepared::Full => ending::quiet(numbers, Answer::Nodes),
-        Prepared::Ready(commit, void) => {
+        Err(refusal) => match refusal {
+            Refusal::Last | Refusal::Nodes => ending::quiet(numbers, Err(refusal)),
+            _ => ending::refused(numbers, refusal),
+        },
+        Ok(ready) => {
+            let commit = ready.commit;
+            let void = ready.void;
             let ground = Ground {
                 geometry,
                 blocks,

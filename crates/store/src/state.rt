@@ -3,7 +3,7 @@ ghost use Rattle.std.specs.Prelude.{◌≡◌};
 ghost use Rattle.store.specs.State.{initial};
 ghost use Rattle.store.specs.Parts.{numbers_of, numbers_off, joined, updated_with, wrote_with};
 
-use crate::answer::Answer;
+use crate::answer::Refusal;
 use chip::geometry::Nand;
 use chip::progress::Counts;
 
@@ -43,7 +43,7 @@ pub struct Numbers {
 // What format, mount and commit give back: the answer, the operations done by kind, the state.
 #[derive(Clone, Copy)]
 pub struct Wrote {
-    pub answer: Answer,
+    pub answer: Result<(), Refusal>,
     pub ops: Counts,
     pub state: State,
 }
@@ -51,21 +51,21 @@ pub struct Wrote {
 // What insert and delete give back: the answer and the state.
 #[derive(Clone, Copy)]
 pub struct Updated {
-    pub answer: Answer,
+    pub answer: Result<(), Refusal>,
     pub state: State,
 }
 
 // What insert and delete on lent arrays give back: the answer and the numbers.
 #[derive(Clone, Copy)]
 pub struct UpdatedParts {
-    pub answer: Answer,
+    pub answer: Result<(), Refusal>,
     pub numbers: Numbers,
 }
 
 // What format, mount and commit on lent arrays give back: the answer, the operations done by kind, the numbers.
 #[derive(Clone, Copy)]
 pub struct WroteParts {
-    pub answer: Answer,
+    pub answer: Result<(), Refusal>,
     pub ops: Counts,
     pub numbers: Numbers,
 }

@@ -1,8 +1,8 @@
 // One call of any kind: what a list of calls is made of.
 ghost use Rattle.std.specs.Prelude.{◌≡◌};
-ghost use Rattle.store.specs.Step.{of_wrote, of_updated, of_look, of_forecast, StepsBy};
+ghost use Rattle.store.specs.Step.{told, found, of_wrote, of_updated, of_look, of_forecast, StepsBy};
 
-use crate::answer::{Answer, Forecast, Look};
+use crate::answer::{Look, Refusal};
 use crate::state::{State, Updated, Wrote};
 use crate::{commit, find, forecast, format, mount, update};
 use chip::geometry::Nand;
@@ -21,19 +21,27 @@ pub enum Call {
     Mount(Nand, u32),
 }
 
-// What a call gives back: the answer, the operations told (by a forecast: foretold), the state.
+// What a call gives back: the answer, with the value that a look up found, the operations told (by a forecast: foretold), the state.
 #[derive(Clone, Copy)]
 pub struct Stepped {
-    pub answer: Answer,
+    pub answer: Result<Option<u32>, Refusal>,
     pub ops: Counts,
     pub state: State,
+}
+
+// An answer without a value.
+fn told(answer: Result<(), Refusal>) -> Result<Option<u32>, Refusal>
+    ensures { result ≡ told answer }
+{
+    answer?;
+    Ok(None)
 }
 
 // What format, commit and mount give back.
 fn wrote(w: Wrote) -> Stepped
     ensures { result ≡ of_wrote w }
 {
-    let answer = w.answer;
+    let answer = told(w.answer);
     let ops = w.ops;
     let state = w.state;
     Stepped { answer, ops, state }
@@ -43,33 +51,47 @@ fn wrote(w: Wrote) -> Stepped
 fn updated(u: Updated) -> Stepped
     ensures { result ≡ of_updated u }
 {
-    let answer = u.answer;
+    let answer = told(u.answer);
     let state = u.state;
     let ops = progress::nothing();
     Stepped { answer, ops, state }
 }
 
+// The value that a look up found, or its refusal, 4 where the key is absent.
+fn found(look: Result<Look, Refusal>) -> Result<Option<u32>, Refusal>
+    ensures { result ≡ found look }
+{
+    match look?.value {
+        Some(value) => Ok(Some(value)),
+        None => Err(Refusal::Absent),
+    }
+}
+
 // What a look up gives back: the state is as it was.
-fn looked(look: Look, state: State) -> Stepped
+fn looked(look: Result<Look, Refusal>, state: State) -> Stepped
     ensures { result ≡ of_look look state }
 {
+    let answer = found(look);
     let ops = progress::nothing();
-    let answer = match look {
-        Look::Found(value, _) => Answer::Found(value),
-        Look::Absent(_) => Answer::Absent,
-        Look::Off => Answer::Off,
-        Look::Size => Answer::Size,
-    };
     Stepped { answer, ops, state }
 }
 
 // What a forecast gives back: the state is as it was.
-fn foreseen(forecast: Forecast, state: State) -> Stepped
+fn foreseen(forecast: Result<Counts, Refusal>, state: State) -> Stepped
     ensures { result ≡ of_forecast forecast state }
 {
-    let answer = forecast.answer;
-    let ops = forecast.ops;
-    Stepped { answer, ops, state }
+    match forecast {
+        Ok(ops) => Stepped {
+            answer: Ok(None),
+            ops,
+            state,
+        },
+        Err(refusal) => Stepped {
+            answer: Err(refusal),
+            ops: progress::nothing(),
+            state,
+        },
+    }
 }
 
 // A call on a lent image: what it ensures is its whole contract.

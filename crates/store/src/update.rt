@@ -1,21 +1,34 @@
 // Insert and delete: the tree step, as units in the reservation buffer.
-ghost use Rattle.std.specs.Prelude.{List, ℕ, ◌<◌, length};
-ghost use Rattle.chip.specs.Geometry.{geometry_of};
-ghost use Rattle.store.specs.AdmitCode.{ChipOf};
+ghost use Rattle.std.specs.Prelude.{◌≡◌, List, ℕ};
 ghost use Rattle.store.specs.Ensured.{Inserts, Deletes};
-ghost use Rattle.store.specs.Parts.{joined, updated_with};
-ghost use Rattle.store.specs.UpdateCode.{InsertsIn, DeletesIn};
+ghost use Rattle.store.specs.Parts.{joined, parts_of, updated_with};
 
-use crate::answer::Answer;
+use crate::answer::Refusal;
 use crate::state::{Numbers, State, Updated, UpdatedParts};
-use crate::{admit, answer, scope, state};
+use crate::{admit, scope, state};
 use tree::{delete, insert};
 
 // The most units that the buffer of a state that calls gave holds before an update: 60 for each of 15.
 const UNITS: usize = 900;
 
-// (key, value) inserted into P: 5 where the tree step needs a number or a level too many.
-fn insert_admitted<'a>(
+// What an update that gives these numbers, or is refused, gives back for `numbers`: a refusal changes none of them.
+fn parts_of(numbers: Numbers, given: Result<Numbers, Refusal>) -> UpdatedParts
+    ensures { result ≡ parts_of numbers given }
+{
+    match given {
+        Ok(after) => UpdatedParts {
+            answer: Ok(()),
+            numbers: after,
+        },
+        Err(refusal) => UpdatedParts {
+            answer: Err(refusal),
+            numbers,
+        },
+    }
+}
+
+// (key, value) inserted into P: 2, 1, 3; 5 where the tree step needs a number or a level too many.
+fn insert_tested<'a>(
     numbers: Numbers,
     lens: &'a [u32; 256],
     slots: &'a [u32; 1024],
@@ -23,72 +36,52 @@ fn insert_admitted<'a>(
     image: &[u8],
     key: u32,
     value: u32,
-) -> UpdatedParts
-    requires { ChipOf (geometry_of numbers.nand) numbers.blocks (length image.now) × (numbers.pending < 16) }
-    ensures { (erases : List ℕ) → InsertsIn key value (joined numbers buffer.old lens.now slots.now erases)
-        image.now (updated_with result buffer.new lens.now slots.now erases) }
+) -> Result<Numbers, Refusal>
+    ensures { (erases : List ℕ) → Inserts key value (joined numbers buffer.old lens.now slots.now erases)
+        image.now (updated_with (parts_of numbers result) buffer.new lens.now slots.now erases) }
 {
+    admit::update_tests(numbers, image.len())?;
     if numbers.count > UNITS {
-        return UpdatedParts {
-            answer: Answer::Nodes,
-            numbers,
-        };
+        return Err(Refusal::Nodes);
     }
-    let scope = scope::scope_of(numbers);
+    let nodes = scope::nodes_of(numbers, image, lens, slots);
     let mut free = numbers.free;
-    let r = insert::insert(image, lens, slots, buffer, scope, &mut free, key, value);
-    if r.refused {
-        return UpdatedParts {
-            answer: Answer::Nodes,
-            numbers,
-        };
-    }
+    let Some(used) = insert::insert(nodes, buffer, numbers.count, &mut free, key, value) else {
+        return Err(Refusal::Nodes);
+    };
     let mut n = numbers;
-    n.count = r.count;
+    n.count = used;
     n.free = free;
     n.pending = numbers.pending + 1;
-    UpdatedParts {
-        answer: Answer::Accepted,
-        numbers: n,
-    }
+    Ok(n)
 }
 
-// The entry of `key` taken out of P: 4 where it is absent.
-fn delete_admitted<'a>(
+// The entry of `key` taken out of P: 2, 1, 3; 4 where it is absent.
+fn delete_tested<'a>(
     numbers: Numbers,
     lens: &'a [u32; 256],
     slots: &'a [u32; 1024],
     buffer: &mut [u8; 11520],
     image: &[u8],
     key: u32,
-) -> UpdatedParts
-    requires { ChipOf (geometry_of numbers.nand) numbers.blocks (length image.now) × (numbers.pending < 16) }
-    ensures { (erases : List ℕ) → DeletesIn key (joined numbers buffer.old lens.now slots.now erases)
-        image.now (updated_with result buffer.new lens.now slots.now erases) }
+) -> Result<Numbers, Refusal>
+    ensures { (erases : List ℕ) → Deletes key (joined numbers buffer.old lens.now slots.now erases)
+        image.now (updated_with (parts_of numbers result) buffer.new lens.now slots.now erases) }
 {
+    admit::update_tests(numbers, image.len())?;
     if numbers.count > UNITS {
-        return UpdatedParts {
-            answer: Answer::Absent,
-            numbers,
-        };
+        return Err(Refusal::Absent);
     }
-    let scope = scope::scope_of(numbers);
+    let nodes = scope::nodes_of(numbers, image, lens, slots);
     let mut free = numbers.free;
-    let d = delete::delete(image, lens, slots, buffer, scope, &mut free, key);
-    if d.absent {
-        return UpdatedParts {
-            answer: Answer::Absent,
-            numbers,
-        };
-    }
+    let Some(count) = delete::delete(nodes, buffer, numbers.count, &mut free, key) else {
+        return Err(Refusal::Absent);
+    };
     let mut n = numbers;
-    n.count = d.count;
+    n.count = count;
     n.free = free;
     n.pending = numbers.pending + 1;
-    UpdatedParts {
-        answer: Answer::Accepted,
-        numbers: n,
-    }
+    Ok(n)
 }
 
 // Insert on lent arrays: 2, 1, 3, 5. A refusal leaves every byte of the buffer.
@@ -104,11 +97,8 @@ pub fn insert_lent<'a>(
     ensures { (erases : List ℕ) → Inserts key value (joined numbers buffer.old lens.now slots.now erases)
         image.now (updated_with result buffer.new lens.now slots.now erases) }
 {
-    let answer = admit::update_tests(numbers, image.len());
-    if answer::number(answer) > 0 {
-        return UpdatedParts { answer, numbers };
-    }
-    insert_admitted(numbers, lens, slots, buffer, image, key, value)
+    let given = insert_tested(numbers, lens, slots, buffer, image, key, value);
+    parts_of(numbers, given)
 }
 
 // Delete on lent arrays: 2, 1, 3, 4. A refusal leaves every byte of the buffer.
@@ -123,11 +113,8 @@ pub fn delete_lent<'a>(
     ensures { (erases : List ℕ) → Deletes key (joined numbers buffer.old lens.now slots.now erases)
         image.now (updated_with result buffer.new lens.now slots.now erases) }
 {
-    let answer = admit::update_tests(numbers, image.len());
-    if answer::number(answer) > 0 {
-        return UpdatedParts { answer, numbers };
-    }
-    delete_admitted(numbers, lens, slots, buffer, image, key)
+    let given = delete_tested(numbers, lens, slots, buffer, image, key);
+    parts_of(numbers, given)
 }
 
 // Insert on a state by value.

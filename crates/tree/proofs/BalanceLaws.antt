@@ -5,10 +5,10 @@ use mathlib.Core.List.{List, [], ◌∷◌, ◌++◌, map}
 use Prim.Native.Nat.{ℕ, zero, suc, ◌+◌, ◌-◌, ◌*◌, ◌<◌, ◌≤◌}
 use native.Mathlib.Numerals.{add-one}
 use native.Mathlib.Omega.{arith}
-use lib.Dec.{leb, ltb}
+use lib.Dec.{leb}
 use lib.ListN.{length, take, drop, get_or, length-map, drop_of_length-le}
 use lib.Seq.{length-take-le, get_or-take, take-suc, drop-cons}
-use borrow.Author.Tests.{lt-ltb, le-ltb, ltb-true, ltb-false, lt-leb, le-leb}
+use borrow.Author.Tests.{lt-ltb, le-ltb, lt-leb, le-leb}
 use Rattle.lists.specs.Lists.{patch}
 use Rattle.lists.proofs.Tests.{clash}
 use Rattle.lists.proofs.Flats.{map_append}
@@ -24,13 +24,11 @@ use Rattle.views.proofs.NodeLaws.{length_entries}
 use Rattle.numbers.specs.NumberSet.{Changes}
 use Rattle.tree.specs.declared.balance.Fall.{Fall}
 use Rattle.tree.specs.declared.balance.Pair.{Pair}
-use Rattle.tree.specs.declared.find.Hit.{Hit}
-use Rattle.tree.specs.FindCode.{hit_of}
-use Rattle.tree.specs.Tree.{first_key, Found, is_absent}
+use Rattle.tree.specs.Tree.{first_key}
 use Rattle.tree.specs.Delete.{Two, two, behind, neighbours}
 use Rattle.tree.specs.DeleteUnits.{first_of, join_units, to_left, to_right, share_units}
 use Rattle.tree.specs.UpdateCode.{UnitsPushed}
-use Rattle.tree.specs.BalanceCode.{left_of, right_of, last_of, NumbersFit, HasRoom, Keeps, Shares, Balances, Loses, IsLeft, take_over_units}
+use Rattle.tree.specs.BalanceCode.{left_of, right_of, last_of, NumbersFit, Keeps, Shares, Balances, IsLeft, take_over_units}
 use Rattle.tree.proofs.PairUnits.{join_length, share_length}
 use Rattle.tree.proofs.PushLaws.{written_one, written_two, written_more, length_before, front_pushed, front_same}
 
@@ -138,17 +136,6 @@ module _ (k : ℕ) (n : N.Node) (lk : length n.keys ≡ 17) (lv : length n.value
   pub index_pass : i + 2 < n.len → get_or n.keys (i + 1) 0 ≤ k → Passed k (entries_of n) (i + 1)
   index_pass h b = left_pass k (entries_of n) i (omega (arith, size)) (omega (arith, next_key_lem (omega arith))) p
 
--- ---- whether units fit
-module _ (count more : ℕ) (p : Pair) where
-  pub room_none : (count + more ≤ 960 → NumbersFit p → ⊥) → HasRoom count more p false
-  room_none f = record { fits = λ e. clash e refl; full = λ _. f }
-
-  pub room_last : count + more ≤ 960 → p.parent < 65536 → p.left < 65536 → HasRoom count more p (ltb p.right 65536)
-  room_last h a b = record {
-    fits = λ e. (h, record { parent = a; left = b; right = ltb-true p.right 65536 e });
-    full = λ e _ m. absurd (omega (arith, ltb-false p.right 65536 e, m.right));
-  }
-
 -- ---- the units of a move
 module _ (p : Pair) (n : N.Node) (lk : length n.keys ≡ 17) (lv : length n.values ≡ 17) (le : n.len ≤ 16) (count used : ℕ) (old new : List ℕ) where
   abbrev key : ℕ → ℕ
@@ -255,11 +242,10 @@ module _ (p : Pair) (len : ℕ) (x y : N.Node) (lx : length (entries_of x) ≡ x
   share_is = share_units p.parent (left_of p) (right_of p) (entries_of x) (entries_of y)
 
   -- the units of a move are pushed
-  module _ (old new : List ℕ) (used : ℕ) (r : Fall) (h : count + 4 ≤ 960) (k : Keeps false len used r) where
+  module _ (old new : List ℕ) (used : ℕ) (r : Fall) (h : count + 4 ≤ 960) (k : Keeps len used r) where
     share_pushes : UnitsPushed share_is count old new used → Shares p len (entries_of x) (entries_of y) count old new r
     share_pushes w = record {
       keeps = front_pushed share_is count r.count old new (rw k.count w) (omega (arith, k.count, w.size, share_length p.parent (left_of p) (right_of p) (entries_of x) (entries_of y)));
-      there = k.absent;
       stays = (k.lost, k.len);
       pushed = λ _ _. rw k.count w;
     }
@@ -277,11 +263,10 @@ module _ (p : Pair) (len : ℕ) (x y : N.Node) (lx : length (entries_of x) ≡ x
     share_right b w = share_pushes (rw (le-ltb (length (entries_of x)) (length (entries_of y)) (omega arith)) w)
 
   -- they do not fit
-  pub share_full : (old : List ℕ) (r : Fall) → count ≤ 960 → Keeps false len count r → (count + 4 ≤ 960 → NumbersFit p → ⊥)
+  pub share_full : (old : List ℕ) (r : Fall) → count ≤ 960 → Keeps len count r → (count + 4 ≤ 960 → NumbersFit p → ⊥)
       → Shares p len (entries_of x) (entries_of y) count old old r
   share_full old r h k f = record {
     keeps = front_same count r.count old k.count h;
-    there = k.absent;
     stays = (k.lost, k.len);
     pushed = λ a b. absurd (f b a);
   }
@@ -293,7 +278,6 @@ module _ (p : Pair) (len : ℕ) (x y : N.Node) (lx : length (entries_of x) ≡ x
       let no : leb (length (entries_of x) + length (entries_of y)) 16 ≡ false = lt-leb (length (entries_of x) + length (entries_of y)) 16 (omega arith) in
       record {
         keeps = s.keeps;
-        there = s.there;
         pushed = rw no (λ a b. s.pushed a (omega (arith, share_length p.parent (left_of p) (right_of p) (entries_of x) (entries_of y))));
         joins = λ e. clash e no;
         shares = λ _. (s.stays.0, s.stays.1, refl);
@@ -310,11 +294,10 @@ module _ (p : Pair) (len : ℕ) (x y : N.Node) (lx : length (entries_of x) ≡ x
     size_join = join_length p.parent (left_of p) (right_of p) (entries_of y) ∙ ap (λ (m : ℕ). m + 2) ly
 
     -- 16 or fewer, but their units do not fit
-    pub balance_full : (old free : List ℕ) (r : Fall) → count ≤ 960 → Keeps false len count r → (count + (y.len + 2) ≤ 960 → NumbersFit p → ⊥)
+    pub balance_full : (old free : List ℕ) (r : Fall) → count ≤ 960 → Keeps len count r → (count + (y.len + 2) ≤ 960 → NumbersFit p → ⊥)
         → Balances p len (entries_of x) (entries_of y) count old free old free r
     balance_full old free r h k f = record {
       keeps = front_same count r.count old k.count h;
-      there = k.absent;
       pushed = rw few (λ a b. absurd (f (omega (arith, size_join)) a));
       joins = rw few (λ _ a b. absurd (f (omega (arith, size_join)) a));
       shares = λ e. clash few e;
@@ -322,46 +305,11 @@ module _ (p : Pair) (len : ℕ) (x y : N.Node) (lx : length (entries_of x) ≡ x
 
     -- they join
     pub balance_join : (old free new after : List ℕ) (used : ℕ) (r : Fall) → UnitsPushed join_is count old new used → Changes true p.right free after
-        → count + (y.len + 2) ≤ 960 → r.absent ≡ false → r.lost ≡ true → r.len ≡ len - 1 → r.count ≡ used
+        → count + (y.len + 2) ≤ 960 → r.lost ≡ true → r.len ≡ len - 1 → r.count ≡ used
         → Balances p len (entries_of x) (entries_of y) count old free new after r
-    balance_join old free new after used r w ch h e₁ e₂ e₃ e₄ = record {
+    balance_join old free new after used r w ch h e₂ e₃ e₄ = record {
       keeps = front_pushed join_is count r.count old new (rw e₄ w) (omega (arith, e₄, w.size, size_join));
-      there = e₁;
       pushed = rw few (λ _ _. rw e₄ w);
       joins = λ _ _ _. (e₂, e₃, ch);
       shares = λ e. clash few e;
     }
-
--- ---- a leaf
--- what a hit says
-pub hit_is : (h g : Hit) (f : Found) → hit_of h ≡ f → h ≡ g → is_absent f ≡ is_absent (hit_of g)
-hit_is h g f e q = ap is_absent (sym e) ∙ ap (λ (x : Hit). is_absent (hit_of x)) q
-
-module _ (n k : ℕ) (es : List Entry) (hit : Found) (count : ℕ) (old : List ℕ) (us : List U.Unit) (left : ℕ) (r : Fall) where
-  -- the key is not there
-  pub leaf_absent : (len : ℕ) → is_absent hit ≡ true → Keeps true len count r → count ≤ 960 → Loses n k es hit count old old us left r
-  leaf_absent len e q h = record {
-    keeps = front_same count r.count old q.count h;
-    absent = q.absent ∙ sym e;
-    stays = λ _. (q.count, refl, q.lost);
-    gone = λ f. clash e f;
-  }
-
-  -- its unit does not fit
-  pub leaf_full : (len : ℕ) → is_absent hit ≡ false → Keeps false len count r → count ≤ 960 → (n < 65536 → count < 960 → ⊥) → Loses n k es hit count old old us left r
-  leaf_full len e q h f = record {
-    keeps = front_same count r.count old q.count h;
-    absent = q.absent ∙ sym e;
-    stays = λ a. clash a e;
-    gone = λ _ a b. absurd (f a b);
-  }
-
-  -- it goes
-  pub leaf_gone : (new : List ℕ) → is_absent hit ≡ false → UnitsPushed us count old new r.count → r.count ≤ 960 → r.absent ≡ false → r.lost ≡ true → r.len ≡ left
-      → Loses n k es hit count old new us left r
-  leaf_gone new e w h e₁ e₂ e₃ = record {
-    keeps = front_pushed us count r.count old new w h;
-    absent = e₁ ∙ sym e;
-    stays = λ a. clash a e;
-    gone = λ _ _ _. (w, e₂, e₃);
-  }

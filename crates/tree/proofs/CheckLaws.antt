@@ -6,20 +6,20 @@ use mathlib.Core.List.{List, [], ◌∷◌, ◌++◌, map}
 use Prim.Native.Nat.{ℕ, zero, suc, ◌+◌, ◌<◌, ◌≤◌}
 use native.Mathlib.Numerals.{add-one}
 use native.Mathlib.Omega.{arith}
-use lib.Dec.{ltb, leb, eqb}
-use lib.ListN.{length, take, drop, get_or, set, replicate, length-take, drop_of_length-le, get_or-eq_default}
-use lib.Seq.{slice-cons, get_or-set_same, get_or-set_other}
+use lib.Dec.{leb, eqb}
+use lib.ListN.{length, take, drop, get_or, replicate, length-take, drop_of_length-le, get_or-eq_default}
+use lib.Seq.{slice-cons}
 use borrow.Author.Tests.{eq-eqb, ne_eqb, le-leb, lt-leb, lt-ltb, le-ltb, eqb-true}
 use Rattle.lists.specs.Lists.{tab}
 use Rattle.lists.proofs.Places.{get_d_same}
-use Rattle.lists.proofs.Tests.{cases, clash, and_left, and_right, and_intro, below_or_not, same_or_not}
+use Rattle.lists.proofs.Tests.{cases, clash, and_left, and_right, and_intro, below_or_not}
 use Rattle.lists.proofs.Flats.{length_tab}
 use Rattle.chip.specs.Geometry.{Geometry}
 use Rattle.chip.specs.Chip.{pages_of}
 use Rattle.views.specs.declared.node.Node.{Node}
 use Rattle.views.specs.declared.fold.Stage.{Stage}
 use Rattle.views.specs.declared.fold.Stage.TheVariants.{Untouched, Freed, Broken, Full}
-use Rattle.views.specs.Nodes.{Entry, entry, View, untouched, freed, broken, view}
+use Rattle.views.specs.Nodes.{Entry, entry, View, untouched, broken}
 use Rattle.views.specs.NodeCode as C
 use Rattle.views.specs.FoldCode.{view_at}
 use Rattle.views.specs.Stored.{stored_list, list_view, buffer_view}
@@ -29,9 +29,9 @@ use Rattle.tree.specs.Step6.{top, is_level, keys_in, are_subtrees, is_subtree, r
 use Rattle.tree.specs.Free.{is_open}
 use Rattle.tree.specs.Shown.{shown}
 use Rattle.tree.specs.FindCode.{entries_from, ShowsView}
-use Rattle.tree.specs.CheckCode.{pages_table, starts_at, obeys_at, own_at, under, Twice, Walks, MarksNumber, counts_from, CountsNodes, is_grown, is_found_thin, ChecksTree}
+use Rattle.tree.specs.CheckCode.{pages_table, starts_at, obeys_at, own_at, under, Twice, Walks, MarksNumber, counts_from, CountsNodes, is_grown, is_found_thin, is_some_true, ChecksTree}
 use Rattle.tree.specs.Thick.{fewest, is_thin, thin_from, thin}
-use Rattle.tree.specs.declared.check.Counted.{Counted}
+use Rattle.std.specs.Prelude.{Option, Some, None, is_some}
 use Rattle.tree.specs.declared.check.Growth.{Growth}
 use Rattle.tree.specs.declared.check.Growth.TheVariants.{NoTree}
 use Rattle.tree.proofs.Shape.{times_append, hit_same}
@@ -58,9 +58,6 @@ pub from_end : (n i : ℕ) (ks vs : List ℕ) → n ≤ i → entries_from n i k
 from_end n i ks vs h = rw (drop_of_length-le (take n ks) {i = i} (omega (arith, length-take n ks)))
 
 -- ---- the start of one node
-pub starts_none : (lo m : ℕ) (ks vs : List ℕ) → m ≡ 0 → starts_at lo (entries_from m 0 ks vs) ≡ false
-starts_none lo m ks vs e = rw e
-
 pub starts_some : (lo : ℕ) (n : Node) → length n.keys ≡ 17 → length n.values ≡ 17 → n.len ≤ 16 → (n.len ≡ 0 → ⊥)
     → eqb (get_or n.keys 0 0) lo ≡ starts_at lo (C.entries_of n)
 starts_some lo n lk lv h z =
@@ -69,10 +66,6 @@ starts_some lo n lk lv h z =
     from_next n.len 0 n.keys n.values (omega arith) (omega arith) (omega arith) in
     let f : first_key 0 (C.entries_of n) ≡ get_or n.keys 0 0 = ap (first_key 0) e in
     sym (rw (le-leb 1 (length (C.entries_of n)) (omega arith), le-leb (length (C.entries_of n)) 16 (omega arith), f))
-
-pub obeys_branch : (l lo hi : ℕ) (es : List Entry) → (l ≡ 0 → ⊥) → obeys_at l lo hi es ≡ (starts_at lo es && keys_in lo hi es)
-obeys_branch zero lo hi es h = absurd (h refl)
-obeys_branch (suc l) lo hi es h = refl
 
 -- ---- a view that is a node's
 pub level_entries : (l : ℕ) (s : Stage) (n : Node) → is_level l (view_at s n) ≡ true → entries_of (view_at s n) ≡ C.entries_of n
@@ -87,17 +80,6 @@ end_next n i hi ks vs h lk lv = sym (ap (first_key hi) (from_next n i ks vs h lk
 
 pub end_last : (n i hi : ℕ) (ks vs : List ℕ) → n ≤ i → hi ≡ first_key hi (entries_from n i ks vs)
 end_last n i hi ks vs h = sym (ap (first_key hi) (from_end n i ks vs h))
-
--- ---- a number counted
-pub mark_new : (size n : ℕ) (s : List ℕ) → n < length s → get_or s n 0 ≡ 0 → MarksNumber size n s (set s n 1) true
-mark_new size n s h z =
-    record {
-      new = λ _ j. ⊎_elim
-          (λ (e : n ≡ j). rw (← e, get_or-set_same s n 1 0 h, eq-eqb n n refl) (omega arith))
-          (λ (d : n ≡ j → ⊥). rw (get_or-set_other s n j 1 0 (λ e. d (sym e)), ne_eqb n j d) (omega arith))
-          (same_or_not n j);
-      old = λ e. clash refl e;
-    }
 
 -- ---- the table of the pages, node by node
 module _ (g : Geometry) (image lens slots : List ℕ) (limit : ℕ) where
@@ -324,20 +306,6 @@ pub fewest_more : (n : ℕ) → (n ≡ 0 → ⊥) → 8 ≡ fewest n
 fewest_more zero d = absurd (d refl)
 fewest_more (suc n) d = refl
 
-pub thin_leaf : (n : ℕ) (w : View) → level_of w ≡ 0 → false ≡ is_thin n w
-thin_leaf n untouched e = refl
-thin_leaf n freed e = refl
-thin_leaf n broken e = refl
-thin_leaf n (view zero es) e = refl
-thin_leaf n (view (suc l) es) e = absurd (omega arith)
-
-pub thin_branch : (n : ℕ) (w : View) → (level_of w ≡ 0 → ⊥) → ltb (length (entries_of w)) (fewest n) ≡ is_thin n w
-thin_branch n untouched d = absurd (d refl)
-thin_branch n freed d = absurd (d refl)
-thin_branch n broken d = absurd (d refl)
-thin_branch n (view zero es) d = absurd (d refl)
-thin_branch n (view (suc l) es) d = refl
-
 pub thin_pass : (t : Table) (n : ℕ) (b : Bool) → n < length t
     → ((b || is_thin n (at t n)) || thin_from (n + 1) (drop (n + 1) t)) ≡ (b || thin_from n (drop n t))
 thin_pass t n true h = refl
@@ -350,13 +318,13 @@ thin_end t n false h = rw (drop_of_length-le t {i = n} h)
 -- ---- what the counts and the nodes say, up to node n
 module _ (t : Table) (s : List ℕ) (n : ℕ) (e : counts_from n (drop n t) s ≡ counts_from 0 t s) where
   -- node n is not counted once
-  pub counted_fail : n < length t → (get_or s n 0 ≡ there (at t n) → ⊥) → CountsNodes t s (record { once = false; thin = false })
-  counted_fail h d = record { once = sym (counts_fail t n s h d) ∙ e; thin = λ q. clash q refl }
+  pub counted_fail : n < length t → (get_or s n 0 ≡ there (at t n) → ⊥) → CountsNodes t s None
+  counted_fail h d = record { once = sym (counts_fail t n s h d) ∙ e; thin = tt }
 
   -- no node is left
-  pub counted_end : (b : Bool) → length t ≤ n → (b || thin_from n (drop n t)) ≡ thin_from 0 t → CountsNodes t s (record { once = true; thin = b })
+  pub counted_end : (b : Bool) → length t ≤ n → (b || thin_from n (drop n t)) ≡ thin_from 0 t → CountsNodes t s (Some b)
   unfolding thin
-  counted_end b h k = record { once = sym (counts_end t n s h) ∙ e; thin = λ q. sym (thin_end t n b h) ∙ k }
+  counted_end b h k = record { once = sym (counts_end t n s h) ∙ e; thin = sym (thin_end t n b h) ∙ k }
 
 -- ---- the whole of step 6
 module _ (t : Table) (l : ℕ) (s u : List ℕ) (el : l ≡ root_level t) (es : s ≡ replicate 256 0) where
@@ -371,12 +339,17 @@ module _ (t : Table) (l : ℕ) (s u : List ℕ) (el : l ≡ root_level t) (es : 
       let k = counts_once 0 t u (reached (root_level t) t 0) (λ j. w.counts refl j ∙ omega (arith, z j, ap (λ (m : ℕ). times j (reached m t 0)) el)) in
       e ∙ k ∙ sym (rw (b, a))
 
-  pub tree_counts : (c : Counted) (r : Growth) → is_grown r ≡ c.once → is_found_thin r ≡ (c.once && c.thin)
+  -- whether some node is thin, where all are counted
+  is_thin_of : (c : Option Bool) → CountsNodes t u c → is_some c ≡ true → is_some_true c ≡ thin t
+  is_thin_of None k e = clash e refl
+  is_thin_of (Some b) k e = k.thin
+
+  pub tree_counts : (c : Option Bool) (r : Growth) → is_grown r ≡ is_some c → is_found_thin r ≡ is_some_true c
       → Walks t (is_subtree l t 0 0 top) (reached l t 0) s u true → CountsNodes t u c → ChecksTree t u r
   tree_counts c r eg ef w k =
       record {
-        is = eg ∙ tree_step c.once w k.once;
-        thin = λ q. ef ∙ ap (λ (b : Bool). b && c.thin) (sym eg ∙ q) ∙ k.thin (sym eg ∙ q);
+        is = eg ∙ tree_step (is_some c) w k.once;
+        thin = λ q. ef ∙ is_thin_of c k (sym eg ∙ q);
         counted = λ q. counts_open 0 t u (sym k.once ∙ sym eg ∙ q);
       }
 

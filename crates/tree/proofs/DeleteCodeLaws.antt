@@ -1,5 +1,6 @@
 -- What the functions of a delete answer, from the answers of those that they call. Assumes nothing.
 use mathlib.Core.Path.{◌≡◌, refl, sym, ap, ap₂, ◌∙◌, subst}
+use Rattle.std.specs.Prelude.{Option, Some, None}
 use mathlib.Core.Bool.{Bool, true, false, ◌&&◌}
 use mathlib.Core.List.{List, [], ◌∷◌, ◌++◌, append-nil, append_assoc}
 use Prim.Native.Nat.{ℕ, suc, ◌+◌, ◌-◌, ◌<◌, ◌≤◌}
@@ -12,7 +13,7 @@ use Rattle.lists.proofs.Tests.{cases, clash}
 use Rattle.chip.specs.Geometry.{Geometry}
 use Rattle.chip.specs.Chip.{pages_of}
 use Rattle.pages.specs.declared.unit.Unit as U
-use Rattle.pages.specs.declared.unit.Decoded.TheVariants.{Good}
+use Rattle.std.proofs.Common.{Some}
 use Rattle.pages.specs.declared.unit.Update.TheVariants.{Delete}
 use Rattle.pages.specs.Units.{decodes}
 use Rattle.numbers.specs.NumberSet.{Changes}
@@ -148,7 +149,7 @@ module _ (g : Geometry) (image lens slots : List ℕ) (limit : ℕ) (hl : limit 
 
   -- the count is that of the units
   pub holds_count : {count : ℕ} {bytes free : List ℕ} {us : List U.Unit} {t : Table} → TableHeld show limit count bytes free us t → count ≡ length us
-  holds_count {count} {bytes} {us = us} H = sym (length_decodes limit count bytes) ∙ ap length H.units ∙ length-map us Good
+  holds_count {count} {bytes} {us = us} H = sym (length_decodes limit count bytes) ∙ ap length H.units ∙ length-map us Some
 
   -- units that are pushed
   pub holds_pushed : {count used : ℕ} {old new free after : List ℕ} {us vs : List U.Unit} {t u : Table} → TableHeld show limit count old free us t → UnitsPushed vs count old new used
@@ -164,18 +165,21 @@ module _ (g : Geometry) (image lens slots : List ℕ) (limit : ℕ) (hl : limit 
   }
 
   -- ---- the leaf
-  pub falls_leaf : (l n k count : ℕ) (es : List Entry) (old free new : List ℕ) (r : Fall) → l ≡ 0 → es ≡ entries_at (show count old) n
+  pub falls_leaf : (l n k count : ℕ) (es : List Entry) (old free new : List ℕ) (r : Option Fall) → l ≡ 0 → es ≡ entries_at (show count old) n
       → Loses n k es (lookup k es) count old new (unit_for n (Delete k) ∷ []) (length (delete_entry k es)) r → Falls show limit l n k count old free new free r
   unfolding delete_at delete_units_at
-  falls_leaf l n k count es old free new r z e L =
+  falls_leaf l n k count es old free new None z e L =
+      rw z
+      (record { keeps = tt; absent = L.absent ∙ ap (λ (xs : List Entry). is_absent (lookup k xs)) e; stays = (L.stays, refl); is = tt })
+  falls_leaf l n k count es old free new (Some f) z e L =
       rw z
       (record {
         keeps = L.keeps;
         absent = L.absent ∙ ap (λ (xs : List Entry). is_absent (lookup k xs)) e;
-        stays = λ q. let s = L.stays (sym L.absent ∙ q) in (s.0, s.1, refl);
-        is = λ q us t H w room.
+        stays = tt;
+        is = λ us t H w room.
             let m : es ≡ entries_at t n = e ∙ ap (λ (s : Table). entries_at s n) H.table in
-            let s = L.gone (sym L.absent ∙ q) (holds_small H n w.0) (omega arith) in
+            let s = L.gone (holds_small H n w.0) (omega arith) in
             let ds = delete_entry k (entries_at t n) in
             record {
               holds = holds_pushed H s.0 (omega arith) w.1 (H.numbers ∙ sym (free_kept n 0 ds t w.0));
@@ -187,11 +191,10 @@ module _ (g : Geometry) (image lens slots : List ℕ) (limit : ℕ) (hl : limit 
   -- ---- two neighbours
   module _ (n k count : ℕ) (es : List Entry) (old free : List ℕ) where
     -- without a neighbour nothing happens
-    pub settles_alone : (len : ℕ) (r : Fall) → count ≤ 960 → length es ≡ len → len < 2 → Keeps false len count r → Settles show limit n k es count old free old free r
+    pub settles_alone : (len : ℕ) (r : Fall) → count ≤ 960 → length es ≡ len → len < 2 → Keeps len count r → Settles show limit n k es count old free old free r
     unfolding settle settle_units
     settles_alone len r h el lt K = record {
       keeps = front_same count r.count old K.count h;
-      there = K.absent;
       is = λ l us t H e S room.
           let G : TableHeld show limit r.count old free (us ++ []) t
           = subst (λ (c : ℕ). TableHeld show limit c old free (us ++ []) t) (sym K.count) (subst (λ (vs : List U.Unit). TableHeld show limit count old free vs t) (sym (append-nil us)) H) in
@@ -263,7 +266,6 @@ module _ (g : Geometry) (image lens slots : List ℕ) (limit : ℕ) (hl : limit 
         → Settles show limit n k es count old free new after r
     settles_pair i len xs ys p new after r el L P ex ey B = record {
       keeps = B.keeps;
-      there = B.there;
       is = λ l us t H e S room.
           let bs = take i es in
           let a = get_or es i (entry 0 0) in
@@ -283,11 +285,10 @@ module _ (g : Geometry) (image lens slots : List ℕ) (limit : ℕ) (hl : limit 
 
   -- ---- a node after its child's answer r
   module _ (n k : ℕ) (es : List Entry) (r : Fall) (old free : List ℕ) where
-    pub mends_kept : (b : Bool) (len : ℕ) (f : Fall) → r.count ≤ 960 → length es ≡ len → b ≡ (r.lost && ltb r.len 8) → b ≡ false → Keeps false len r.count f
+    pub mends_kept : (b : Bool) (len : ℕ) (f : Fall) → r.count ≤ 960 → length es ≡ len → b ≡ (r.lost && ltb r.len 8) → b ≡ false → Keeps len r.count f
         → Mends show limit n k es r old free old free f
     mends_kept b len f h el z zb K = record {
       keeps = front_same r.count f.count old K.count h;
-      there = K.absent;
       is = λ l c us d F e S room.
           let q = mend_kept l n c k d r F.lost F.len (sym z ∙ zb) in
           let H : TableHeld show limit f.count old free (us ++ []) (leaves d)
@@ -301,7 +302,6 @@ module _ (g : Geometry) (image lens slots : List ℕ) (limit : ℕ) (hl : limit 
         → Mends show limit n k es r old free new after f
     mends_thin b new after f z zb S = record {
       keeps = S.keeps;
-      there = S.there;
       is = λ l c us d F e N room.
           let q = mend_thin l n c k d r F.lost F.len (sym z ∙ zb) in
           let w : neighbours k (entries_at (leaves d) n) ≡ neighbours k es = ap (neighbours k) (sym e) in
@@ -313,36 +313,35 @@ module _ (g : Geometry) (image lens slots : List ℕ) (limit : ℕ) (hl : limit 
     }
 
   -- ---- above the leaf: node n of level l = m + 1 with the entries es, and its child c
-  module _ (l m n c k count : ℕ) (es : List Entry) (old free mid freed : List ℕ) (r : Fall) (z : l ≡ suc m) (ec : c ≡ below k 0 es) (e : es ≡ entries_at (show count old) n)
-      (F : Falls show limit m c k count old free mid freed r) where
+  module _ (l m n c k count : ℕ) (es : List Entry) (old free mid freed : List ℕ) (z : l ≡ suc m) (ec : c ≡ below k 0 es) (e : es ≡ entries_at (show count old) n) where
     same_find : is_absent (find_at m c k (show count old)) ≡ is_absent (find_at m (child (show count old) n k) k (show count old))
     same_find = ap (λ (i : ℕ). is_absent (find_at m i k (show count old))) (ec ∙ ap (below k 0) e)
 
-    pub falls_absent : r.absent ≡ true → Falls show limit l n k count old free mid freed r
-    falls_absent q = rw z (record { keeps = F.keeps; absent = F.absent ∙ same_find; stays = F.stays; is = λ p us t H w room. clash q p })
+    pub falls_absent : Falls show limit m c k count old free mid freed None → Falls show limit l n k count old free mid freed None
+    falls_absent F = rw z (record { keeps = tt; absent = F.absent ∙ same_find; stays = F.stays; is = tt })
 
-    module _ (new after : List ℕ) (f : Fall) (q : r.absent ≡ false) (M : Mends show limit n k es r mid freed new after f) where
+    module _ (r : Fall) (F : Falls show limit m c k count old free mid freed (Some r)) (new after : List ℕ) (f : Fall) (M : Mends show limit n k es r mid freed new after f) where
       up_is : (us : List U.Unit) (t : Table) → TableHeld show limit count old free us t → DeleteWay limit (suc m) n k t → count + length (delete_units_at (suc m) n k t) ≤ 960
           → Fell show limit n (us ++ delete_units_at (suc m) n k t) (delete_at (suc m) n k t) new after f
       unfolding delete_at delete_units_at
       up_is us t H w room =
           let et : es ≡ entries_at t n = e ∙ ap (λ (s : Table). entries_at s n) H.table in
           let i = child t n k in
-          let F' : Falls show limit m (child t n k) k count old free mid freed r = subst (λ (j : ℕ). Falls show limit m j k count old free mid freed r) (ec ∙ ap (below k 0) et) F in
+          let F' : Falls show limit m (child t n k) k count old free mid freed (Some r) = subst (λ (j : ℕ). Falls show limit m j k count old free mid freed (Some r)) (ec ∙ ap (below k 0) et) F in
           let xs = delete_units_at m (child t n k) k t in
           let d = delete_at m (child t n k) k t in
           let ys = mend_units n (child t n k) k (delete_at m (child t n k) k t) in
           let all : count + length (xs ++ ys) ≤ 960 = room in
-          let G : Fell show limit i (us ++ xs) d mid freed r = F'.is q us t H w.1 (omega (arith, length-append xs ys)) in
+          let G : Fell show limit i (us ++ xs) d mid freed r = F'.is us t H w.1 (omega (arith, length-append xs ys)) in
           let R : Fell show limit n ((us ++ xs) ++ ys) (mend m n i k d) new after f
           = M.is m i (us ++ xs) d G (et ∙ sym w.0.same) w.0.settling
           (omega (arith, length-append xs ys, length-append us xs, holds_count G.holds, holds_count H)) in
           subst (λ (vs : List U.Unit). Fell show limit n vs (mend m n i k d) new after f) (append_assoc us xs ys) R
 
-      pub falls_up : Falls show limit l n k count old free new after f
+      pub falls_up : Falls show limit l n k count old free new after (Some f)
       falls_up = rw z (record {
         keeps = front_then count r.count f.count old mid new F.keeps M.keeps;
-        absent = M.there ∙ sym q ∙ F.absent ∙ same_find;
-        stays = λ p. clash p M.there;
-        is = λ p us t H w room. up_is us t H w room;
+        absent = F.absent ∙ same_find;
+        stays = tt;
+        is = up_is;
       })

@@ -1,5 +1,6 @@
 -- What the functions of a delete at node 0 answer, from the answers of those that they call. Assumes nothing.
 use mathlib.Core.Path.{◌≡◌, refl, sym, ap, ap₂, ◌∙◌, subst}
+use Rattle.std.specs.Prelude.{Some, None}
 use mathlib.Core.Bool.{Bool, true, false, ◌&&◌}
 use mathlib.Core.List.{List, [], ◌∷◌, ◌++◌, map, foldl, append-nil, append_assoc}
 use Prim.Native.Nat.{ℕ, zero, suc, ◌+◌, ◌<◌, ◌≤◌}
@@ -7,7 +8,7 @@ use native.Mathlib.Omega.{arith}
 use lib.Dec.{leb, ltb}
 use lib.ListN.{length, get_or, length-append, length-map}
 use borrow.Author.Tests.{eq-eqb, ne_eqb, lt-ltb, le-leb, lt-leb}
-use Rattle.lists.proofs.Tests.{cases, clash}
+use Rattle.lists.proofs.Tests.{cases}
 use Rattle.chip.specs.Geometry.{Geometry}
 use Rattle.pages.specs.declared.unit.Update.{Update}
 use Rattle.pages.specs.declared.unit.Update.TheVariants.{Reset}
@@ -484,31 +485,40 @@ module _ (g : Geometry) (image lens slots : List ℕ) (limit : ℕ) (hl : limit 
       }
 
     -- node 0 is a leaf
-    module _ (new : List ℕ) (r : Fall) (z : root_level (show count old) ≡ 0) (F : Falls show limit 0 0 k count old free new free r) where
-      leaf_done : (us : List U.Unit) (R : Ready limit count free old us (show count old)) → r.absent ≡ false
+    module _ (new : List ℕ) (r : Fall) (z : root_level (show count old) ≡ 0) (F : Falls show limit 0 0 k count old free new free (Some r)) where
+      leaf_done : (us : List U.Unit) (R : Ready limit count free old us (show count old))
           → Stepped g image lens slots limit count us (delete_units k (show count old)) (delete k (show count old)) new free r.count
       unfolding delete_units delete_units_from delete
-      leaf_done us R q =
+      leaf_done us R =
           let W : DeleteWay limit 0 0 k t = subst (λ (i : ℕ). DeleteWay limit i 0 k t) z (plan us R).way in
           let eu : delete_units k t ≡ delete_units_at 0 0 k t = rw z refl in
           let ed : delete k t ≡ leaves (delete_at 0 0 k t) = rw z refl in
-          let G = F.is q us t (start us R) W (omega (arith, R.room, (plan us R).few, ap length eu)) in
+          let G = F.is us t (start us R) W (omega (arith, R.room, (plan us R).few, ap length eu)) in
           stepped us R new free r.count
           (subst (λ (w : Table). TableHeld show limit r.count new free (us ++ delete_units k t) w) (sym ed)
           (subst (λ (vs : List U.Unit). TableHeld show limit r.count new free (us ++ vs) (leaves (delete_at 0 0 k t))) (sym eu) G.holds))
 
-      pub deletes_leaf : Deletes g image lens slots limit k count old free new free (record { absent = r.absent; count = r.count })
+      pub deletes_leaf : Deletes g image lens slots limit k count old free new free (Some r.count)
       unfolding find
       deletes_leaf = record {
         keeps = F.keeps;
         found = F.absent ∙ ap (λ (i : ℕ). is_absent (find_at i 0 k t)) (sym z);
-        stays = F.stays;
-        is = λ q us R. leaf_done us R q;
+        stays = tt;
+        is = leaf_done;
       }
 
+    pub deletes_leaf_absent : (new : List ℕ) → root_level (show count old) ≡ 0 → Falls show limit 0 0 k count old free new free None
+        → Deletes g image lens slots limit k count old free new free None
+    unfolding find
+    deletes_leaf_absent new z F = record {
+      keeps = tt;
+      found = F.absent ∙ ap (λ (i : ℕ). is_absent (find_at i 0 k t)) (sym z);
+      stays = F.stays;
+      is = tt;
+    }
+
     -- node 0 of level m + 1 with the entries es, and its child c
-    module _ (m c : ℕ) (es : List Entry) (mid freed : List ℕ) (r : Fall) (z : root_level (show count old) ≡ suc m) (ec : c ≡ below k 0 es) (e : es ≡ entries_at (show count old) 0)
-        (F : Falls show limit m c k count old free mid freed r) where
+    module _ (m c : ℕ) (es : List Entry) (mid freed : List ℕ) (z : root_level (show count old) ≡ suc m) (ec : c ≡ below k 0 es) (e : es ≡ entries_at (show count old) 0) where
       child_of : c ≡ child (show count old) 0 k
       child_of = ec ∙ ap (below k 0) e
 
@@ -516,17 +526,11 @@ module _ (g : Geometry) (image lens slots : List ℕ) (limit : ℕ) (hl : limit 
       unfolding find
       same_find = ap (λ (j : ℕ). is_absent (find_at m j k t)) child_of ∙ ap (λ (i : ℕ). is_absent (find_at i 0 k t)) (sym z)
 
-      pub deletes_absent : count ≤ 960 → r.absent ≡ true → Deletes g image lens slots limit k count old free mid freed (record { absent = true; count = count })
-      deletes_absent h q =
-          let s = F.stays q in
-          record {
-            keeps = subst (λ (b : List ℕ). FrontKept count old count b) (sym s.1) (front_same count count old refl h);
-            found = sym q ∙ F.absent ∙ same_find;
-            stays = λ _. (refl, s.1, s.2);
-            is = λ p. clash refl p;
-          }
+      pub deletes_absent : Falls show limit m c k count old free mid freed None → Deletes g image lens slots limit k count old free mid freed None
+      deletes_absent F = record { keeps = tt; found = F.absent ∙ same_find; stays = F.stays; is = tt }
 
-      module _ (lv : ℕ) (new after : List ℕ) (used : ℕ) (zl : lv ≡ suc m) (q : r.absent ≡ false) (N : Finishes show limit lv k es r mid freed new after used) where
+      module _ (r : Fall) (F : Falls show limit m c k count old free mid freed (Some r)) (lv : ℕ) (new after : List ℕ) (used : ℕ) (zl : lv ≡ suc m)
+          (N : Finishes show limit lv k es r mid freed new after used) where
         delete_done : (us : List U.Unit) (R : Ready limit count free old us (show count old))
             → Stepped g image lens slots limit count us (delete_units k (show count old)) (delete k (show count old)) new after used
         unfolding delete_units delete_units_from delete delete_at
@@ -540,8 +544,8 @@ module _ (g : Geometry) (image lens slots : List ℕ) (limit : ℕ) (hl : limit 
             let eu : delete_units k t ≡ xs ++ ys = rw z refl in
             let ed : delete k t ≡ u = rw z refl in
             let few : length (xs ++ ys) ≤ 57 = subst (λ (vs : List U.Unit). length vs ≤ 57) eu (plan us R).few in
-            let F' : Falls show limit m (child t 0 k) k count old free mid freed r = subst (λ (j : ℕ). Falls show limit m j k count old free mid freed r) child_of F in
-            let G : Fell show limit i (us ++ xs) d mid freed r = F'.is q us t (start us R) W.1 (omega (arith, R.room, length-append xs ys)) in
+            let F' : Falls show limit m (child t 0 k) k count old free mid freed (Some r) = subst (λ (j : ℕ). Falls show limit m j k count old free mid freed (Some r)) child_of F in
+            let G : Fell show limit i (us ++ xs) d mid freed r = F'.is us t (start us R) W.1 (omega (arith, R.room, length-append xs ys)) in
             let H : TableHeld show limit used new after ((us ++ xs) ++ ys) u
             = N.is m i (us ++ xs) d zl G (e ∙ sym W.0.same) ((plan us R).topping m z)
             (omega (
@@ -557,10 +561,10 @@ module _ (g : Geometry) (image lens slots : List ℕ) (limit : ℕ) (hl : limit 
             (subst (λ (vs : List U.Unit). TableHeld show limit used new after (us ++ vs) u) (sym eu)
             (subst (λ (vs : List U.Unit). TableHeld show limit used new after vs u) (append_assoc us xs ys) H)))
 
-        pub deletes_done : Deletes g image lens slots limit k count old free new after (record { absent = false; count = used })
+        pub deletes_done : Deletes g image lens slots limit k count old free new after (Some used)
         deletes_done = record {
           keeps = front_then count r.count used old mid new F.keeps N.keeps;
-          found = sym q ∙ F.absent ∙ same_find;
-          stays = λ p. clash p refl;
-          is = λ _ us R. delete_done us R;
+          found = F.absent ∙ same_find;
+          stays = tt;
+          is = delete_done;
         }

@@ -28,7 +28,7 @@ use Rattle.tree.specs.Tree.{level_of, entries_of, Table, at, entries_at, root_le
 use Rattle.tree.specs.Shown.{shown, pages_read}
 use Rattle.tree.specs.FindCode.{entries_from, hit_of, ShowsView, ShowsRead, Finds, Answers}
 use Rattle.tree.specs.declared.find.NodeRead.{NodeRead}
-use Rattle.tree.specs.declared.find.Hit.{Hit}
+use Rattle.std.specs.Prelude.{Option}
 use Rattle.tree.specs.declared.find.Looked.{Looked}
 
 -- ---- a table made node by node
@@ -145,7 +145,7 @@ reads_shown g limit pages lens slots count bytes n w q r h e s =
 -- ---- the way down, at node n of the table, which x shows; f are the lengths of the nodes on flash
 module _ (f : ℕ → ℕ) (n k : ℕ) (t : Table) (x : NodeRead) (hx : ShowsRead (at t n) (f n) x) where
   -- at the leaf
-  pub at_leaf : (l : ℕ) (h : Hit) → l ≡ 0 → hit_of h ≡ lookup k (C.entries_of x.node) → Finds f l n k t (record { hit = h; pages = x.pages })
+  pub at_leaf : (l : ℕ) (h : Option ℕ) → l ≡ 0 → hit_of h ≡ lookup k (C.entries_of x.node) → Finds f l n k t (record { hit = h; pages = x.pages })
   at_leaf l h z e =
       rw z
       (record {

@@ -1,12 +1,13 @@
 -- The halves of a node, what is pushed for a node that gains an entry, and the entry at its leaf. Assumes nothing.
 use mathlib.Core.Path.{◌≡◌, refl, sym, ap, ap₂, ◌∙◌, subst}
+use Rattle.std.specs.Prelude.{Option, Some, None}
 use mathlib.Core.Bool.{true, false}
 use mathlib.Core.Logic.{⊎_elim}
 use mathlib.Core.List.{List, [], ◌∷◌, ◌++◌, map}
 use Prim.Native.Nat.{ℕ, zero, suc, ◌+◌, ◌<◌, ◌≤◌}
 use native.Mathlib.Omega.{arith}
 use native.Mathlib.Numerals.{add-one}
-use lib.ListN.{length, take, drop, get_or, length-map, length-drop, drop_of_length-le}
+use lib.ListN.{length, take, drop, get_or, length-map, drop_of_length-le}
 use lib.Seq.{length-take-le, drop-cons, take_all}
 use borrow.Author.Tests.{lt-ltb, le-ltb, le-leb, lt-leb, eq-eqb, ne_eqb}
 use Rattle.views.specs.declared.node.Node as N
@@ -18,16 +19,17 @@ use Rattle.views.specs.Groups.{unit_for}
 use Rattle.views.specs.PassCode.{pushed, node_units}
 use Rattle.views.specs.NodeCode.{pairs, entries_of, Shows}
 use Rattle.views.proofs.NodeLaws.{length_entries}
-use Rattle.lists.specs.Lists.{count as count_of}
+use Rattle.lists.specs.Lists.{first, count as count_of}
 use Rattle.numbers.specs.NumberSet.{is_in, Counts, IsLeast, Changes}
 use Rattle.tree.specs.Tree.{there, Table, at, put, first_key, least, least2}
 use Rattle.tree.specs.Insert.{Up, stop, gains, table_of, halve, raise, fit_or_split}
 use Rattle.tree.specs.Units.{anew_at}
 use Rattle.tree.specs.InsertUnits.{halve_units, raise_units, hold_units}
-use Rattle.tree.specs.Free.{free_numbers}
+use Rattle.tree.specs.Free.{is_open, free_numbers}
 use Rattle.tree.specs.UpdateCode.{UnitsPushed, FrontKept}
-use Rattle.tree.specs.InsertCode.{root_entries, spare, needs_of, gives_of, Went, Stops, FitsOne, TakesLeast, ChangesNode, FitsOrSplits, Refused, Lands, PassesUp}
+use Rattle.tree.specs.InsertCode.{root_entries, spare, needs_of, gives_of, Went, Stops, FitsOne, TakesLeast, ChangesNode, FitsOrSplits, gained, Lands, PassesUp}
 use Rattle.tree.specs.declared.insert.Rise.{Rise}
+use Rattle.tree.specs.declared.insert.Gain.{Gain}
 use Rattle.tree.proofs.Tables.{there_old}
 use Rattle.tree.proofs.Least.{least_free, least_put, least_kept, nodes_old, nodes_new, there_length, put_length}
 use Rattle.tree.proofs.FreeLaws.{open_length, open_kept, open_count, least_first, free_taken, free_kept}
@@ -79,17 +81,6 @@ module _ (n : N.Node) (h : n.len ≡ 17) (lk : length n.keys ≡ 17) (lv : lengt
         ∙ ap₂ (λ (ks vs : List ℕ). pairs (take 9 ks) (take 9 vs)) e₃ e₄
         ∙ sym (take_pairs 9 n.keys n.values) ∙ ap (take 9) (sym all_entries);
     len = length-take-le 9 (entries_of n) (omega (arith, entries_17)) ∙ sym e₂;
-    room = omega arith;
-  }
-
-  pub upper_shows : (r : N.Node) (l : ℕ) → r.level ≡ l → r.len ≡ 8 → take 8 r.keys ≡ drop 9 n.keys → take 8 r.values ≡ drop 9 n.values
-      → Shows r l (drop 9 (entries_of n))
-  upper_shows r l e₁ e₂ e₃ e₄ = record {
-    same = e₁;
-    is =
-        ap (λ (m : ℕ). pairs (take m r.keys) (take m r.values)) e₂
-        ∙ ap₂ pairs e₃ e₄ ∙ sym (drop_pairs 9 n.keys n.values) ∙ ap (drop 9) (sym all_entries);
-    len = length-drop 9 (entries_of n) ∙ omega (arith, entries_17);
     room = omega arith;
   }
 
@@ -173,16 +164,41 @@ module _ (l : ℕ) (es : List Entry) (t : Table) (h : 0 < spare t) where
   least_spare =
       omega (arith, open_count t, open_count (put (least t) (view l es) t), nodes_new (least t) l es t (least_free t), least_length)
 
+-- what an option has
+pub some_is : {A : Type 0} {a b : A} → Some a ≡ Some b → a ≡ b
+some_is e = cc
+
+pub none_some : {A : Type 0} {Q : Type 0} {a : A} {o : Option A} → o ≡ Some a → o ≡ None → Q
+none_some p q = cc
+
 -- the code's set
-pub takes_least : (free after : List ℕ) (m : ℕ) → IsLeast free m → Changes false m free after → TakesLeast free after m
+pub takes_least : (free after : List ℕ) (m : ℕ) → IsLeast free (Some m) → Changes false m free after → TakesLeast free after (Some m)
 unfolding free_numbers
 takes_least free after m i c = record {
   is =
       λ t e few h. let f = least_first t h in
-      let q : m ≡ least t = i.is _ (omega (arith, open_length t)) e h ∙ sym f.0 in
-      (q, λ l es. free_taken (least t) l es t e few f.1 (subst (λ (j : ℕ). Changes false j free after) q c));
+      let s : Some m ≡ Some (first is_in (map is_open t)) = i.is _ (omega (arith, open_length t)) e h in
+      let q : m ≡ least t = cc (f.0) in
+      (ap Some q, λ l es. free_taken (least t) l es t e few f.1 (subst (λ (j : ℕ). Changes false j free after) q c));
   few = i.few;
 }
+
+pub takes_none : (free : List ℕ) → IsLeast free None → TakesLeast free free None
+unfolding free_numbers
+takes_none free i = record {
+  is = λ t e few h. let s : None ≡ Some (first is_in (map is_open t)) = i.is _ (omega (arith, open_length t)) e h in cc;
+  few = tt;
+}
+
+-- a table with a number to spare has a least one, and with two to spare a second one
+pub none_first : (free after : List ℕ) → TakesLeast free after None → (t : Table) → free ≡ free_numbers t → length t ≤ 256 → 0 < spare t → ⊥
+none_first free after p t e few h = let s : None ≡ Some (least t) = (p.is t e few h).0 in cc
+
+pub none_second : (free mid after : List ℕ) (low : ℕ) → TakesLeast free mid (Some low) → TakesLeast mid after None
+    → (t : Table) → free ≡ free_numbers t → length t ≤ 256 → 2 ≤ spare t → ⊥
+none_second free mid after low p₁ p₂ t e few h =
+    none_first mid after p₂ (put (least t) (view 0 []) t) ((p₁.is t e few (omega arith)).1 0 [])
+    (omega (arith, least_length 0 [] t (omega arith))) (omega (arith, least_spare 0 [] t (omega arith)))
 
 -- ---- what a node that is to hold es leaves, with numbers enough
 pub record NumbersLeft (need : ℕ) (t : Table) (up : Up) : Type 0 where
@@ -237,7 +253,7 @@ module _ (need l n : ℕ) (es : List Entry) (t : Table) (few : length t ≤ 256)
 pub fits_none : (n k v count : ℕ) (old : List ℕ) (r : Rise) → count ≤ 960 → Stops count r → (count < 960 → n < 65536 → ⊥) → FitsOne n k v count old old r
 fits_none n k v count old r h s never = record {
   keeps = front_same count r.count old s.used h;
-  stops = record { refused = s.refused; gains = s.gains; key = s.key; number = s.number; used = refl };
+  gain = s.gain;
   is = λ p q. absurd (never p q);
 }
 
@@ -247,17 +263,17 @@ fits_made n k v count old new r h w s =
     let y : UnitsPushed (unit_for n (Insert k v) ∷ []) count old new r.count = subst (λ (x : ℕ). UnitsPushed (unit_for n (Insert k v) ∷ []) count old new x) (sym s.used) w in
     record {
       keeps = front_pushed (unit_for n (Insert k v) ∷ []) count r.count old new y (omega (arith, s.used));
-      stops = record { refused = s.refused; gains = s.gains; key = s.key; number = s.number; used = refl };
+      gain = s.gain;
       is = λ _ _. y;
     }
 
 -- nothing is done: no table leads here
-pub makes_none : (n need : ℕ) (us : Table → List U.Unit) (up : Table → Up) (count : ℕ) (old free : List ℕ) (r : Rise) → count ≤ 960 → Stops count r
-    → ((t : Table) → length t ≤ 256 → there (at t n) ≡ 1 → need ≤ spare t → count + length (us t) ≤ 960 → ⊥) → ChangesNode n need us up count old free old free r
-makes_none n need us up count old free r h s never = record {
+pub makes_none : (n need : ℕ) (us : Table → List U.Unit) (up : Table → Up) (count : ℕ) (old free after : List ℕ) (r : Rise) → count ≤ 960 → Stops count r
+    → ((t : Table) → free ≡ free_numbers t → length t ≤ 256 → there (at t n) ≡ 1 → need ≤ spare t → count + length (us t) ≤ 960 → ⊥)
+    → ChangesNode n need us up count old free old after r
+makes_none n need us up count old free after r h s never = record {
   keeps = front_same count r.count old s.used h;
-  plain = s.refused;
-  is = λ t _ few on q room. absurd (never t few on q room);
+  is = λ t e few on q room. absurd (never t e few on q room);
 }
 
 -- the same units and the same table
@@ -265,7 +281,6 @@ makes_same : (n need need' : ℕ) (us us' : Table → List U.Unit) (up up' : Tab
     → ((t : Table) → us t ≡ us' t) → ((t : Table) → up t ≡ up' t) → ChangesNode n need us up count old free new after r → ChangesNode n need' us' up' count old free new after r
 makes_same n need need' us us' up up' count old free new after r e f g M = record {
   keeps = M.keeps;
-  plain = M.plain;
   is =
       λ t q few on h room.
       subst (λ (x : Up). Went (us' t) x count old new after r) (g t)
@@ -275,13 +290,12 @@ makes_same n need need' us us' up up' count old free new after r e f g M = recor
 module _ (l : ℕ) (es : List Entry) (count : ℕ) (old free new after : List ℕ) (r : Rise) where
   -- node 0 splits
   module _ (low high used : ℕ) (mid : List ℕ) where
-    pub makes_raise : TakesLeast free mid low → TakesLeast mid after high → UnitsPushed (raise_units l low high es) count old new used → used ≤ 960
+    pub makes_raise : TakesLeast free mid (Some low) → TakesLeast mid after (Some high) → UnitsPushed (raise_units l low high es) count old new used → used ≤ 960
         → Stops used r
         → ChangesNode 0 2 (λ (t : Table). raise_units l (least t) (least2 t) es) (λ (t : Table). stop (raise l (least t) (least2 t) es t)) count old free new after r
     unfolding raise
     makes_raise p₁ p₂ w room f = record {
       keeps = subst (λ (x : ℕ). FrontKept count old x new) (sym f.used) (front_pushed (raise_units l low high es) count used old new w room);
-      plain = f.refused;
       is =
           λ t q few on s _.
           let t₁ = put (least t) (view l (take 9 es)) t in
@@ -294,24 +308,20 @@ module _ (l : ℕ) (es : List Entry) (count : ℕ) (old free new after : List �
           record {
             units =
                 subst (λ (x : ℕ). UnitsPushed (raise_units l (least t) (least2 t) es) count old new x) (sym f.used)
-                (subst (λ (x : ℕ). UnitsPushed (raise_units l x (least2 t) es) count old new used) a.0
-                (subst (λ (x : ℕ). UnitsPushed (raise_units l low x es) count old new used) (b.0 ∙ o) w));
-            refused = f.refused;
-            gains = f.gains;
-            key = f.key;
-            number = f.number;
+                (subst (λ (x : ℕ). UnitsPushed (raise_units l x (least2 t) es) count old new used) (some_is a.0)
+                (subst (λ (x : ℕ). UnitsPushed (raise_units l low x es) count old new used) (some_is b.0 ∙ o) w));
+            gain = f.gain;
             numbers = b.1 l (drop 9 es) ∙ ap (λ (x : ℕ). free_numbers (put x (view l (drop 9 es)) t₁)) o ∙ sym (free_kept 0 (suc l) two t₂ on₂);
           };
     }
 
   -- another node splits
-  pub makes_halve : (n number used : ℕ) → TakesLeast free after number → UnitsPushed (halve_units l n number es) count old new used → used ≤ 960
-      → r.refused ≡ false → r.gains ≡ true → r.count ≡ used → r.key ≡ first_key 0 (drop 9 es) → r.number ≡ number
+  pub makes_halve : (n number used : ℕ) → TakesLeast free after (Some number) → UnitsPushed (halve_units l n number es) count old new used → used ≤ 960
+      → r.count ≡ used → (key : ℕ) → r.gain ≡ gained key number → key ≡ first_key 0 (drop 9 es)
       → ChangesNode n 1 (λ (t : Table). halve_units l n (least t) es) (λ (t : Table). gains (first_key 0 (drop 9 es)) (least t) (halve l n (least t) es t)) count old free new after r
   unfolding halve
-  makes_halve n number used p w room f g e k m = record {
+  makes_halve n number used p w room e key g k = record {
     keeps = subst (λ (x : ℕ). FrontKept count old x new) (sym e) (front_pushed (halve_units l n number es) count used old new w room);
-    plain = f;
     is =
         λ t q few on s _.
         let t₁ = put n (view l (take 9 es)) t in
@@ -321,11 +331,8 @@ module _ (l : ℕ) (es : List Entry) (count : ℕ) (old free new after : List �
         record {
           units =
               subst (λ (x : ℕ). UnitsPushed (halve_units l n (least t) es) count old new x) (sym e)
-              (subst (λ (x : ℕ). UnitsPushed (halve_units l n x es) count old new used) (a.0 ∙ same) w);
-          refused = f;
-          gains = g;
-          key = k;
-          number = m ∙ a.0 ∙ same;
+              (subst (λ (x : ℕ). UnitsPushed (halve_units l n x es) count old new used) (some_is a.0 ∙ same) w);
+          gain = g ∙ ap₂ gained k (some_is a.0 ∙ same);
           numbers = a.1 l (drop 9 es) ∙ ap (λ (x : ℕ). free_numbers (put x (view l (drop 9 es)) t₁)) same;
         };
   }
@@ -339,14 +346,10 @@ module _ (l n k v : ℕ) (es : List Entry) (count : ℕ) (old free new : List �
       (sym (needs_none 0 n (length es) q)) (λ t. rw (le-leb (length es) 16 q)) (λ t. rw (le-leb (length es) 16 q))
       (record {
         keeps = F.keeps;
-        plain = F.stops.refused;
         is =
             λ t e few on _ room. record {
               units = F.is (omega arith) (omega (arith, there_length t n on));
-              refused = F.stops.refused;
-              gains = F.stops.gains;
-              key = F.stops.key;
-              number = F.stops.number;
+              gain = F.gain;
               numbers = e ∙ sym (free_kept n l es t on);
             };
       })
@@ -373,7 +376,7 @@ module _ (l n k v : ℕ) (es : List Entry) (count : ℕ) (old free new after : L
 
 -- ---- the entry at its leaf
 module _ (need n k v count : ℕ) (es : List Entry) (l : ℕ) (y : N.Node) (S : Shows y l (insert_entry k v es)) (told : ℕ) (e : told ≡ needs_of need n y.len)
-    (old free new after : List ℕ) (r : Rise) (found : ℕ) (C : Counts free found) where
+    (old free : List ℕ) (found : ℕ) (C : Counts free found) where
   told_is : told ≡ needs_of need n (length (insert_entry k v es))
   told_is = e ∙ ap (needs_of need n) (sym S.len)
 
@@ -381,25 +384,29 @@ module _ (need n k v count : ℕ) (es : List Entry) (l : ℕ) (y : N.Node) (S : 
   unfolding free_numbers
   spare_is t q few = C.is _ (omega (arith, open_length t)) q
 
-  pub lands_held : told ≤ found → FitsOrSplits 0 n k v (entries_of y) count old free new after r → Lands need n k v count es old free new after r
-  lands_held h H = record {
-    refuses = λ t q few. H.plain ∙ sym (le-ltb (spare t) (needs_of need n (length (insert_entry k v es))) (omega (arith, told_is, spare_is t q few)));
-    stays = λ f. clash f H.plain;
-    held = λ _. subst (λ (ds : List Entry). FitsOrSplits 0 n k v ds count old free new after r) S.is H;
+  pub lands_held : (new after : List ℕ) (r : Rise) → told ≤ found → FitsOrSplits 0 n k v (entries_of y) count old free new after r
+      → Lands need n k v count es old free new after (Some r)
+  lands_held new after r h H = record {
+    refuses = λ t q few. sym (le-ltb (spare t) (needs_of need n (length (insert_entry k v es))) (omega (arith, told_is, spare_is t q few)));
+    stays = tt;
+    held = subst (λ (ds : List Entry). FitsOrSplits 0 n k v ds count old free new after r) S.is H;
   }
 
-  pub lands_refused : found < told → r.refused ≡ true → Refused count old free new after r → Lands need n k v count es old free new after r
-  lands_refused h f F = record {
-    refuses = λ t q few. f ∙ sym (lt-ltb (spare t) (needs_of need n (length (insert_entry k v es))) (omega (arith, told_is, spare_is t q few)));
-    stays = λ _. F;
-    held = λ g. clash f g;
+  pub lands_refused : found < told → Lands need n k v count es old free old free None
+  lands_refused h = record {
+    refuses = λ t q few. sym (lt-ltb (spare t) (needs_of need n (length (insert_entry k v es))) (omega (arith, told_is, spare_is t q few)));
+    stays = (refl, refl);
+    held = tt;
   }
 
 -- ---- what a child gave up
-pub passes_gained : (l n : ℕ) (es : List Entry) (a : Rise) (d : ℕ) (y : N.Node) (old free new after : List ℕ) (r : Rise) → a.gains ≡ true
-    → Shows y d (insert_entry a.key a.number es) → FitsOrSplits l n a.key a.number (entries_of y) a.count old free new after r
+pub passes_gained : (l n : ℕ) (es : List Entry) (a : Rise) (d : ℕ) (y : N.Node) (old free new after : List ℕ) (r : Rise) (x : Gain) → a.gain ≡ Some x
+    → Shows y d (insert_entry x.key x.number es) → FitsOrSplits l n x.key x.number (entries_of y) a.count old free new after r
     → PassesUp l n es a old free new after r
-passes_gained l n es a d y old free new after r g S H = record {
-  gained = λ _. subst (λ (ds : List Entry). FitsOrSplits l n a.key a.number ds a.count old free new after r) S.is H;
-  same = λ e. clash g e;
+passes_gained l n es a d y old free new after r x g S H = record {
+  gained =
+      λ z e. let q : x ≡ z = some_is (sym g ∙ e) in
+      subst (λ (o : Gain). FitsOrSplits l n o.key o.number (insert_entry o.key o.number es) a.count old free new after r) q
+      (subst (λ (ds : List Entry). FitsOrSplits l n x.key x.number ds a.count old free new after r) S.is H);
+  same = λ e. none_some g e;
 }

@@ -1,5 +1,6 @@
 -- What the code of an insert answers where the arrays show a tree: the way up from the leaf, and when it is refused. Assumes nothing.
 use mathlib.Core.Path.{◌≡◌, refl, sym, ap, ap₂, ◌∙◌, subst}
+use Rattle.std.specs.Prelude.{Option, Some, None}
 use mathlib.Core.Bool.{Bool, true, false, cond, ◌&&◌}
 use mathlib.Core.Logic.{⊎_elim}
 use mathlib.Core.List.{List, ◌++◌, append-nil}
@@ -20,10 +21,10 @@ use Rattle.tree.specs.Insert.{Up, stop, gains, table_of, halve, fit_or_split, ga
 use Rattle.tree.specs.InsertUnits.{gain_units, pass_units, insert_units_at, insert_units}
 use Rattle.tree.specs.Free.{free_numbers}
 use Rattle.tree.specs.Shown.{table_in}
-use Rattle.tree.specs.UpdateCode.{UnitsPushed, FrontKept, Ready, Stepped, Inserts}
-use Rattle.tree.specs.InsertCode.{spare, needs_of, needs_from, answers, FitsOrSplits, Lands, PassesUp, InsertWay, Outcome, Rises}
+use Rattle.tree.specs.UpdateCode.{UnitsPushed, Ready, Stepped, Inserts}
+use Rattle.tree.specs.InsertCode.{spare, needs_of, needs_from, FitsOrSplits, Lands, PassesUp, InsertWay, Outcome, Rises}
 use Rattle.tree.specs.declared.insert.Rise.{Rise}
-use Rattle.tree.specs.declared.insert.Inserted.{Inserted}
+use Rattle.tree.specs.declared.insert.Gain.{Gain}
 use Rattle.tree.proofs.Tables.{at_other, next_length}
 use Rattle.tree.proofs.Least.{least_free}
 use Rattle.tree.proofs.FreeLaws.{open_count, shown_length}
@@ -33,10 +34,10 @@ use Rattle.tree.proofs.Fresh.{fresh}
 use Rattle.tree.proofs.InsertNumbers.{insert_exact}
 use Rattle.tree.proofs.InsertDone.{insert_done}
 use Rattle.tree.proofs.InsertUnits.{insert_units_lem, insert_valid}
-use Rattle.tree.proofs.PushLaws.{written_two, front_same, front_then}
+use Rattle.tree.proofs.PushLaws.{written_two, front_then}
 use Rattle.tree.proofs.ShownLaws.{shown_pushed, pushed_good}
 use Rattle.tree.proofs.Height.{thick_level, inserted_level}
-use Rattle.tree.proofs.InsertCodeLaws.{needs_less, numbers_left}
+use Rattle.tree.proofs.InsertCodeLaws.{some_is, none_some, needs_less, numbers_left}
 
 -- ---- what is not on the way stays
 gain_other : (l n k v : ℕ) (u : Table) (j : ℕ) → (n ≡ j → ⊥) → (n ≡ 0 → ⊥) → there (at u j) ≡ 1 → at (table_of (gain l n k v u)) j ≡ at u j
@@ -126,10 +127,15 @@ gain_outcome need l n k v count u few on h old free new after r e room H =
 
 -- ---- the way up
 -- the child gave up nothing
-stop_outcome : (need told l n : ℕ) (t : Table) (xs : List U.Unit) (up : Up) (count : ℕ) (old new after : List ℕ) (r : Rise) → r.gains ≡ false
+stop_outcome : (need told l n : ℕ) (t : Table) (xs : List U.Unit) (up : Up) (count : ℕ) (old new after : List ℕ) (r : Rise) → r.gain ≡ None
     → Outcome told t xs up count old new after r → Outcome need t (xs ++ pass_units l n up) (pass l n up) count old new after r
 stop_outcome need told l n t xs (stop u) count old new after r g O = rw append-nil (record { went = O.went; long = O.long; left = λ q. clash q refl })
-stop_outcome need told l n t xs (gains k m u) count old new after r g O = clash O.went.gains g
+stop_outcome need told l n t xs (gains k m u) count old new after r g O = none_some O.went.gain g
+
+-- by what a parent gains
+by_gain : {Q : Type 0} (o : Option Gain) → ((x : Gain) → o ≡ Some x → Q) → (o ≡ None → Q) → Q
+by_gain None f h = h refl
+by_gain (Some x) f h = f x refl
 
 -- the parent's units after its child's
 then_outcome : (need : ℕ) (t u : Table) (xs ys : List U.Unit) (up : Up) (count i : ℕ) (old mid new after : List ℕ) (r : Rise) → UnitsPushed xs count old mid i → i ≤ 960
@@ -139,10 +145,7 @@ then_outcome need t u xs ys up count i old mid new after r w h q O =
     record {
       went = record {
         units = written_two xs ys count i r.count old mid new w W.units h;
-        refused = W.refused;
-        gains = W.gains;
-        key = W.key;
-        number = W.number;
+        gain = W.gain;
         numbers = W.numbers;
       };
       long = O.long ∙ q;
@@ -163,27 +166,24 @@ module _ (g : Geometry) (image lens slots : List ℕ) (limit : ℕ) (hl : limit 
   few = omega (arith, shown_length g image lens slots limit count old)
 
   -- ---- at the leaf
-  leaf_rises : (need n : ℕ) (new after : List ℕ) (r : Rise) → count ≤ 960 → Lands need n k v count (entries_at t n) old free new after r
+  leaf_rises : (need n : ℕ) (new after : List ℕ) (r : Option Rise) → Lands need n k v count (entries_at t n) old free new after r
       → Rises g image lens slots limit 0 n need k v count old free new after r
   unfolding insert_at insert_units_at
-  leaf_rises need n new after r room L = record {
-    keeps =
-        cases r.refused
-        (λ b. let F = L.stays b in subst (λ (x : List ℕ). FrontKept count old r.count x) (sym F.bytes) (front_same count r.count old F.used room))
-        (λ b. (L.held b).keeps);
-    plain = λ y. cases r.refused (λ b. clash y (L.stays b).gains) (λ b. b);
-    whole = λ b. let F = L.stays b in (F.bytes, F.numbers);
+  leaf_rises need n new after None L = record { keeps = tt; whole = L.stays; refuses = λ e. L.refuses t e few; is = tt }
+  leaf_rises need n new after (Some x) L = record {
+    keeps = L.held.keeps;
+    whole = tt;
     refuses = λ e. L.refuses t e few;
     is =
-        λ b e W h. gain_outcome need 0 n k v count t few (ap there (leads_view 0 n k t W.leads))
-        (ltb-false (spare t) (needs_of need n (length (insert_entry k v (entries_at t n)))) (sym (L.refuses t e few) ∙ b)) old free new after r e h (L.held b);
+        λ e W h. gain_outcome need 0 n k v count t few (ap there (leads_view 0 n k t W.leads))
+        (ltb-false (spare t) (needs_of need n (length (insert_entry k v (entries_at t n)))) (sym (L.refuses t e few))) old free new after x e h L.held;
   }
 
-  pub rises_leaf : (need n : ℕ) (new after : List ℕ) (r : Rise) (l : ℕ) (es : List Entry) → l ≡ 0 → es ≡ entries_at t n → count ≤ 960 → Lands need n k v count es old free new after r
+  pub rises_leaf : (need n : ℕ) (new after : List ℕ) (r : Option Rise) (l : ℕ) (es : List Entry) → l ≡ 0 → es ≡ entries_at t n → Lands need n k v count es old free new after r
       → Rises g image lens slots limit l n need k v count old free new after r
-  rises_leaf need n new after r l es z e room L =
+  rises_leaf need n new after r l es z e L =
       subst (λ (i : ℕ). Rises g image lens slots limit i n need k v count old free new after r) (sym z)
-      (leaf_rises need n new after r room (subst (λ (ds : List Entry). Lands need n k v count ds old free new after r) e L))
+      (leaf_rises need n new after r (subst (λ (ds : List Entry). Lands need n k v count ds old free new after r) e L))
 
   -- ---- from a child to its parent
   way_child : (m n : ℕ) → InsertWay (suc m) n k v t → InsertWay m (child t n k) k v t
@@ -203,29 +203,35 @@ module _ (g : Geometry) (image lens slots : List ℕ) (limit : ℕ) (hl : limit 
         let vn = leads_view (suc m) n k t W.leads in
         insert_other k v t n (ap there vn) m (child t n k) W.leads.1 (omega (arith, W.low)) (omega (arith, ap level_of vn))
 
-    module _ (mid fewer : List ℕ) (r : Rise) (A : Rises g image lens slots limit m c told k v count old free mid fewer r) where
+    -- a refusal is passed on
+    refused_up : (mid fewer : List ℕ) → Rises g image lens slots limit m c told k v count old free mid fewer None
+        → Rises g image lens slots limit (suc m) n need k v count old free mid fewer None
+    refused_up mid fewer A = record { keeps = tt; whole = A.whole; refuses = A.refuses; is = tt }
+
+    module _ (mid fewer : List ℕ) (r : Rise) (A : Rises g image lens slots limit m c told k v count old free mid fewer (Some r)) where
       -- the child's answer is passed on
-      rises_stop : r.gains ≡ false → Rises g image lens slots limit (suc m) n need k v count old free mid fewer r
+      rises_stop : r.gain ≡ None → Rises g image lens slots limit (suc m) n need k v count old free mid fewer (Some r)
       unfolding insert_at insert_units_at
       rises_stop y = record {
         keeps = A.keeps;
-        plain = A.plain;
-        whole = A.whole;
+        whole = tt;
         refuses = A.refuses;
         is =
-            λ b e W h. let xs = insert_units_at m c k v t in
+            λ e W h. let xs = insert_units_at m c k v t in
             let up = insert_at m c k v t in
             stop_outcome need told (suc m) n t xs up count old mid fewer r y
-            (A.is b e (way_child m n W) (omega (arith, length-append xs (pass_units (suc m) n up))));
+            (A.is e (way_child m n W) (omega (arith, length-append xs (pass_units (suc m) n up))));
       }
 
-      module _ (new after : List ℕ) (r₂ : Rise) (y : r.gains ≡ true) (H : FitsOrSplits (suc m) n r.key r.number (insert_entry r.key r.number (entries_at t n)) r.count mid fewer new after r₂) where
+      module _ (new after : List ℕ) (r₂ : Rise) (x : Gain) (y : r.gain ≡ Some x)
+          (H : FitsOrSplits (suc m) n x.key x.number (insert_entry x.key x.number (entries_at t n)) r.count mid fewer new after r₂) where
         -- the node gains what its child gave up
         up_outcome : InsertWay (suc m) n k v t → (xs : List U.Unit) (up : Up) → insert_at m (child t n k) k v t ≡ up → count + length (xs ++ pass_units (suc m) n up) ≤ 960
             → Outcome told t xs up count old mid fewer r → Outcome need t (xs ++ pass_units (suc m) n up) (pass (suc m) n up) count old new after r₂
-        up_outcome W xs (stop u) e room O = clash y O.went.gains
+        up_outcome W xs (stop u) e room O = none_some y O.went.gain
         up_outcome W xs (gains k' m' u) e room O =
             let X = O.went in
+            let z : x ≡ record { key = k'; number = m' } = some_is (sym y ∙ X.gain) in
             let ys = gain_units (suc m) n k' m' u in
             let en : at u n ≡ at t n = ap (λ (q : Up). at (table_of q) n) (sym e) ∙ node_kept W in
             let one : suc (length (entries_at t n)) ≡ length (insert_entry k' m' (entries_at u n))
@@ -234,40 +240,51 @@ module _ (g : Geometry) (image lens slots : List ℕ) (limit : ℕ) (hl : limit 
             (gain_outcome need (suc m) n k' m' r.count u (omega (arith, O.long, few)) (ap there (en ∙ leads_view (suc m) n k t W.leads))
             (subst (λ (a : ℕ). needs_of need n a ≤ spare u) one (O.left refl)) mid fewer new after r₂ X.numbers
             (omega (arith, X.units.size, length-append xs ys))
-            (holds_same (suc m) n r.key k' r.number m' r.count (entries_at t n) (entries_at u n) mid fewer new after r₂ X.key X.number (ap entries_in (sym en)) H))
+            (holds_same (suc m) n x.key k' x.number m' r.count (entries_at t n) (entries_at u n) mid fewer new after r₂ (ap (λ (o : Gain). o.key) z) (ap (λ (o : Gain). o.number) z) (ap entries_in (sym en)) H))
 
-        rises_gain : Rises g image lens slots limit (suc m) n need k v count old free new after r₂
+        rises_gain : Rises g image lens slots limit (suc m) n need k v count old free new after (Some r₂)
         unfolding insert_at insert_units_at
         rises_gain = record {
           keeps = front_then count r.count r₂.count old mid new A.keeps H.keeps;
-          plain = λ _. H.plain;
-          whole = λ b. clash b H.plain;
-          refuses = λ e. H.plain ∙ sym (A.plain y) ∙ A.refuses e;
+          whole = tt;
+          refuses = A.refuses;
           is =
-              λ _ e W h. let xs = insert_units_at m c k v t in
+              λ e W h. let xs = insert_units_at m c k v t in
               let up = insert_at m c k v t in
-              up_outcome W xs up refl h (A.is (A.plain y) e (way_child m n W) (omega (arith, length-append xs (pass_units (suc m) n up))));
+              up_outcome W xs up refl h (A.is e (way_child m n W) (omega (arith, length-append xs (pass_units (suc m) n up))));
         }
 
-      rises_up : (new after : List ℕ) (a : Rise) → PassesUp (suc m) n (entries_at t n) r mid fewer new after a → Rises g image lens slots limit (suc m) n need k v count old free new after a
+      rises_up : (new after : List ℕ) (a : Rise) → PassesUp (suc m) n (entries_at t n) r mid fewer new after a → Rises g image lens slots limit (suc m) n need k v count old free new after (Some a)
       rises_up new after a P =
-          cases r.gains
-          (λ y. rises_gain new after a y (P.gained y))
+          by_gain r.gain
+          (λ x y. rises_gain new after a x y (P.gained x y))
           (λ y. let s = P.same y in
-          subst (λ (b : List ℕ). Rises g image lens slots limit (suc m) n need k v count old free b after a) (sym s.0)
-          (subst (λ (b : List ℕ). Rises g image lens slots limit (suc m) n need k v count old free mid b a) (sym s.1)
-          (subst (λ (b : Rise). Rises g image lens slots limit (suc m) n need k v count old free mid fewer b) (sym s.2) (rises_stop y))))
+          subst (λ (b : List ℕ). Rises g image lens slots limit (suc m) n need k v count old free b after (Some a)) (sym s.0)
+          (subst (λ (b : List ℕ). Rises g image lens slots limit (suc m) n need k v count old free mid b (Some a)) (sym s.1)
+          (subst (λ (b : Rise). Rises g image lens slots limit (suc m) n need k v count old free mid fewer (Some b)) (sym s.2) (rises_stop y))))
+
+  -- what the child is told, by the entries of the node
+  child_told : (need l m n c told : ℕ) (es : List Entry) (mid fewer : List ℕ) (r : Option Rise) → es ≡ entries_at t n → c ≡ below k 0 es
+      → told ≡ needs_of need n (suc (length es)) → Rises g image lens slots limit m c told k v count old free mid fewer r
+      → Rises g image lens slots limit m (child t n k) (needs_of need n (suc (length (entries_at t n)))) k v count old free mid fewer r
+  child_told need l m n c told es mid fewer r e q w A =
+      let w' : told ≡ needs_of need n (suc (length (entries_at t n))) = w ∙ ap (λ (ds : List Entry). needs_of need n (suc (length ds))) e in
+      subst (λ (i : ℕ). Rises g image lens slots limit m i (needs_of need n (suc (length (entries_at t n)))) k v count old free mid fewer r) (q ∙ ap (below k 0) e)
+      (subst (λ (i : ℕ). Rises g image lens slots limit m c i k v count old free mid fewer r) w' A)
+
+  pub rises_refused : (need l m n c told : ℕ) (es : List Entry) (mid fewer : List ℕ) → l ≡ suc m → es ≡ entries_at t n → c ≡ below k 0 es
+      → told ≡ needs_of need n (suc (length es)) → Rises g image lens slots limit m c told k v count old free mid fewer None
+      → Rises g image lens slots limit l n need k v count old free mid fewer None
+  rises_refused need l m n c told es mid fewer z e q w A =
+      subst (λ (i : ℕ). Rises g image lens slots limit i n need k v count old free mid fewer None) (sym z)
+      (refused_up need m n mid fewer (child_told need l m n c told es mid fewer None e q w A))
 
   pub rises_pass : (need l m n c told : ℕ) (es : List Entry) (mid fewer new after : List ℕ) (r a : Rise) → l ≡ suc m → es ≡ entries_at t n → c ≡ below k 0 es
-      → told ≡ needs_of need n (suc (length es)) → Rises g image lens slots limit m c told k v count old free mid fewer r → PassesUp l n es r mid fewer new after a
-      → Rises g image lens slots limit l n need k v count old free new after a
+      → told ≡ needs_of need n (suc (length es)) → Rises g image lens slots limit m c told k v count old free mid fewer (Some r) → PassesUp l n es r mid fewer new after a
+      → Rises g image lens slots limit l n need k v count old free new after (Some a)
   rises_pass need l m n c told es mid fewer new after r a z e q w A P =
-      let w' : told ≡ needs_of need n (suc (length (entries_at t n))) = w ∙ ap (λ (ds : List Entry). needs_of need n (suc (length ds))) e in
-      subst (λ (i : ℕ). Rises g image lens slots limit i n need k v count old free new after a) (sym z)
-      (rises_up need m n mid fewer r
-      (subst (λ (i : ℕ). Rises g image lens slots limit m i (needs_of need n (suc (length (entries_at t n)))) k v count old free mid fewer r) (q ∙ ap (below k 0) e)
-      (subst (λ (i : ℕ). Rises g image lens slots limit m c i k v count old free mid fewer r) w' A))
-      new after a
+      subst (λ (i : ℕ). Rises g image lens slots limit i n need k v count old free new after (Some a)) (sym z)
+      (rises_up need m n mid fewer r (child_told need l m n c told es mid fewer (Some r) e q w A) new after a
       (subst (λ (i : ℕ). PassesUp i n (entries_at t n) r mid fewer new after a) z (subst (λ (ds : List Entry). PassesUp l n ds r mid fewer new after a) e P)))
 
   -- ---- an insert from node 0
@@ -301,9 +318,9 @@ module _ (g : Geometry) (image lens slots : List ℕ) (limit : ℕ) (hl : limit 
     low_after = inserted_level k v t R.tree hk R.thick high
 
     -- it is made
-    module _ (new after : List ℕ) (a : Rise) (A : Rises g image lens slots limit (root_level t) 0 0 k v count old free new after a) (b : a.refused ≡ false) where
+    module _ (new after : List ℕ) (a : Rise) (A : Rises g image lens slots limit (root_level t) 0 0 k v count old free new after (Some a)) where
       made : insert limit k v t ≡ done (inserted k v t)
-      made = enough (ltb-false (spare t) (needs_from 0 (root_level t) 0 k v t) (sym (A.refuses R.numbers) ∙ b))
+      made = enough (ltb-false (spare t) (needs_from 0 (root_level t) 0 k v t) (sym (A.refuses R.numbers)))
 
       -- at most 60 units, which obey the layout
       short : length (insert_units k v t) ≤ 60
@@ -311,7 +328,7 @@ module _ (g : Geometry) (image lens slots : List ℕ) (limit : ℕ) (hl : limit 
 
       outcome : Outcome 0 t (insert_units k v t) (insert_at (root_level t) 0 k v t) count old new after a
       unfolding insert_units
-      outcome = A.is b R.numbers way (omega (arith, short, R.room))
+      outcome = A.is R.numbers way (omega (arith, short, R.room))
 
       stepped : Stepped g image lens slots limit count us (insert_units k v t) (inserted k v t) new after a.count
       unfolding inserted
@@ -333,29 +350,24 @@ module _ (g : Geometry) (image lens slots : List ℕ) (limit : ℕ) (hl : limit 
             few = omega (arith, P.size, short);
           }
 
-  module _ (hk : k < top) (hv : v < top) (room : count ≤ 960) (a : Rise) (new after : List ℕ) (A : Rises g image lens slots limit (root_level t) 0 0 k v count old free new after a) where
-    insert_refused : a.refused ≡ true → Inserts g image lens slots limit k v count old free new after (record { refused = true; count = count })
-    insert_refused b =
-        let w = A.whole b in
-        record {
-          keeps = record { same = A.keeps.same; front = A.keeps.front; more = omega arith; room = room };
-          stays = λ _. (refl, w.0, w.1);
-          refused = λ _ us R. too_few hk hv us R (ltb-true (spare t) (needs_from 0 (root_level t) 0 k v t) (sym (A.refuses R.numbers) ∙ b));
-          done = λ y. clash refl y;
-        }
+  pub insert_refused : k < top → v < top → (l : ℕ) → l ≡ root_level t → (new after : List ℕ) → Rises g image lens slots limit l 0 0 k v count old free new after None
+      → Inserts g image lens slots limit k v count old free new after None
+  insert_refused hk hv l e new after B =
+      let A = subst (λ (i : ℕ). Rises g image lens slots limit i 0 0 k v count old free new after None) e B in
+      record {
+        keeps = tt;
+        stays = A.whole;
+        refused = λ us R. too_few hk hv us R (ltb-true (spare t) (needs_from 0 (root_level t) 0 k v t) (sym (A.refuses R.numbers)));
+        done = tt;
+      }
 
-    insert_made : a.refused ≡ false → Inserts g image lens slots limit k v count old free new after (record { refused = false; count = a.count })
-    insert_made b = record {
-      keeps = A.keeps;
-      stays = λ y. clash y refl;
-      refused = λ y. clash y refl;
-      done = λ _ us R. (made hk hv us R new after a A b, stepped hk hv us R new after a A b);
-    }
-
-    answered : (r : Inserted) → r ≡ answers a count → Inserts g image lens slots limit k v count old free new after r
-    answered r q = cases a.refused (λ b. rw (q, b) (insert_refused b)) (λ b. rw (q, b) (insert_made b))
-
-  pub insert_answers : k < top → v < top → count ≤ 960 → (l : ℕ) → l ≡ root_level t → (a : Rise) (new after : List ℕ) → Rises g image lens slots limit l 0 0 k v count old free new after a
-      → (r : Inserted) → r ≡ answers a count → Inserts g image lens slots limit k v count old free new after r
-  insert_answers hk hv room l e a new after A r q =
-      answered hk hv room a new after (subst (λ (i : ℕ). Rises g image lens slots limit i 0 0 k v count old free new after a) e A) r q
+  pub insert_made : k < top → v < top → (l : ℕ) → l ≡ root_level t → (a : Rise) (new after : List ℕ)
+      → Rises g image lens slots limit l 0 0 k v count old free new after (Some a) → Inserts g image lens slots limit k v count old free new after (Some a.count)
+  insert_made hk hv l e a new after B =
+      let A = subst (λ (i : ℕ). Rises g image lens slots limit i 0 0 k v count old free new after (Some a)) e B in
+      record {
+        keeps = A.keeps;
+        stays = tt;
+        refused = tt;
+        done = λ us R. (made hk hv us R new after a A, stepped hk hv us R new after a A);
+      }

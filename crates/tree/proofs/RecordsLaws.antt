@@ -1,14 +1,17 @@
 -- How records are gathered in two arrays: an entry, the entries of a node, and the records under its entries. Assumes nothing.
-use mathlib.Core.Path.{◌≡◌, refl, sym, ap, ◌∙◌}
+use mathlib.Core.Path.{◌≡◌, refl, sym, ap, ap₂, ◌∙◌}
 use mathlib.Core.List.{List, [], ◌∷◌, ◌++◌, append-nil, append_assoc}
-use Prim.Native.Nat.{ℕ, zero, suc, ◌+◌, ◌<◌, ◌≤◌}
+use Prim.Native.Nat.{ℕ, zero, suc, ◌+◌, ◌-◌, ◌<◌, ◌≤◌}
 use native.Mathlib.Numerals.{add-one}
 use native.Mathlib.Omega.{arith}
-use lib.ListN.{length, get_or, set, length-append, length-set}
+use lib.ListN.{length, take, get_or, set, length-append, length-take, length-drop}
+use lib.Seq.{length-take-le}
+use borrow.Rule.Slice.PartMut.{put_mid, mid_of, same_len_mid}
+use Rattle.std.proofs.lemmas.Slice.{take-put_mid}
 use Rattle.lists.specs.Lists.{flat}
 use Rattle.lists.proofs.Flats.{flat_append}
 use Rattle.views.specs.Nodes.{Entry, entry}
-use Rattle.views.specs.NodeCode.{entries_in}
+use Rattle.views.specs.NodeCode.{pairs, entries_in}
 use Rattle.tree.specs.Tree.{Table, entries_at, root_level, records_at, records}
 use Rattle.tree.specs.RecordsCode.{Gathers, GathersRecords}
 
@@ -46,16 +49,33 @@ pub gathers_full : (es : List Entry) (n : ℕ) (ks vs : List ℕ) → n ≤ 4096
 gathers_full es n ks vs h q =
     record { few = h; keys = refl; values = refl; count = λ p. absurd (omega arith); is = λ p. absurd (omega arith) }
 
--- one entry
-gathers_one : (n k v : ℕ) (ks vs : List ℕ) → n < 4096 → length ks ≡ 4096 → length vs ≡ 4096
-    → Gathers (entry k v ∷ []) n ks vs (n + 1) (set ks n k) (set vs n v)
-gathers_one n k v ks vs h lk lv =
+-- the entries of two arrays, one behind the other
+pairs_append : (ps rs qs ss : List ℕ) → length ps ≡ length qs → pairs (ps ++ rs) (qs ++ ss) ≡ pairs ps qs ++ pairs rs ss
+pairs_append [] rs [] ss e = refl
+pairs_append [] rs (q ∷ qs) ss e = absurd (omega arith)
+pairs_append (p ∷ ps) rs [] ss e = absurd (omega arith)
+pairs_append (p ∷ ps) rs (q ∷ qs) ss e = ap (λ (es : List Entry). entry p q ∷ es) (pairs_append ps rs qs ss (omega arith))
+
+-- the entries of a node, copied at once
+pub gathers_copied : (m n : ℕ) (ps qs ks vs : List ℕ) → length (entries_in m ps qs) ≡ m → m ≤ length ps → m ≤ length qs → n + m ≤ 4096
+    → length ks ≡ 4096 → length vs ≡ 4096 → (xs ys : List ℕ) → xs ≡ take m ps → ys ≡ take m qs
+    → Gathers (entries_in m ps qs) n ks vs (n + m) (put_mid n (n + m - n) ks xs) (put_mid n (n + m - n) vs ys)
+gathers_copied m n ps qs ks vs el lp lq h lk lv xs ys ex ey =
+    let lx : length xs ≡ m = ap length ex ∙ length-take-le m ps lp in
+    let ly : length ys ≡ m = ap length ey ∙ length-take-le m qs lq in
+    let ln : length (take n ks) ≡ n = length-take-le n ks (omega arith) in
+    let lm : length (take n vs) ≡ n = length-take-le n vs (omega arith) in
+    let mk : length xs ≡ length (mid_of n (n + m - n) ks) = simp (length-take, length-drop) (omega arith) in
+    let mv : length ys ≡ length (mid_of n (n + m - n) vs) = simp (length-take, length-drop) (omega arith) in
     record {
-      few = omega arith;
-      keys = length-set ks n k;
-      values = length-set vs n v;
+      few = h;
+      keys = same_len_mid n (n + m - n) ks xs mk;
+      values = same_len_mid n (n + m - n) vs ys mv;
       count = λ _. omega arith;
-      is = λ _. rw add-one (entries_set n k v ks vs (omega arith) (omega arith));
+      is =
+          λ _. ap₂ pairs (take-put_mid n (n + m - n) ks xs (n + m) (omega arith) (omega arith)) (take-put_mid n (n + m - n) vs ys (n + m) (omega arith) (omega arith))
+          ∙ pairs_append (take n ks) xs (take n vs) ys (omega arith)
+          ∙ ap₂ (λ (rs ss : List ℕ). entries_in n ks vs ++ pairs rs ss) ex ey;
     }
 
 -- some entries, and then others
@@ -75,17 +95,6 @@ gathers_next xs ys n r q ks vs ms ws ps qs g h =
 
 -- ---- the first i + 1 entries of keys us and values bs
 module _ (i n : ℕ) (us bs ks vs : List ℕ) (a : i < length us) (b : i < length bs) where
-  -- put behind one by one
-  pub append_step : (ms ws : List ℕ) → n + i < 4096 → length ms ≡ 4096 → length ws ≡ 4096 → Gathers (entries_in i us bs) n ks vs (n + i) ms ws
-      → Gathers (entries_in (i + 1) us bs) n ks vs (n + (i + 1)) (set ms (n + i) (get_or us i 0)) (set ws (n + i) (get_or bs i 0))
-  append_step ms ws h lk lv g =
-      let k = get_or us i 0 in
-      let v = get_or bs i 0 in
-      let e : n + (i + 1) ≡ n + i + 1 = omega arith in
-      let f : entries_in (i + 1) us bs ≡ entries_in i us bs ++ (entry k v ∷ []) = rw add-one (entries_more i us bs a b) in
-      rw (e, f)
-      (gathers_next (entries_in i us bs) (entry k v ∷ []) n (n + i) (n + i + 1) ks vs ms ws (set ms (n + i) k) (set ws (n + i) v) g (gathers_one (n + i) k v ms ws h lk lv))
-
   -- the records under them, one after another
   pub under_step : (l : ℕ) (t : Table) (r q : ℕ) (ms ws ps qs : List ℕ) → Gathers (flat (λ (e : Entry). records_at l t e.value) (entries_in i us bs)) n ks vs r ms ws
       → Gathers (records_at l t (get_or bs i 0)) r ms ws q ps qs → Gathers (flat (λ (e : Entry). records_at l t e.value) (entries_in (i + 1) us bs)) n ks vs q ps qs

@@ -14,7 +14,7 @@ use Rattle.lists.proofs.Flats.{tab_same}
 use Rattle.chip.specs.Geometry.{Geometry}
 use Rattle.chip.specs.Page.{Page}
 use Rattle.pages.specs.declared.unit.Unit as U
-use Rattle.pages.specs.declared.unit.Decoded.TheVariants.{Good}
+use Rattle.std.proofs.Common.{Some}
 use Rattle.pages.specs.Units.{decodes, Valid}
 use Rattle.views.specs.Nodes.{View, apply}
 use Rattle.views.specs.Groups.{present}
@@ -61,7 +61,7 @@ module _ (g : Geometry) (limit : ℕ) (pages : List Page) (lens slots : List ℕ
   abbrev stored : ℕ → View
   stored n = list_view g limit pages n (stored_list lens slots n)
 
-  shown_good : (count : ℕ) (bytes : List ℕ) (us : List U.Unit) → count ≤ 960 → decodes limit count bytes ≡ map Good us
+  shown_good : (count : ℕ) (bytes : List ℕ) (us : List U.Unit) → count ≤ 960 → decodes limit count bytes ≡ map Some us
       → shown g limit pages lens slots count bytes ≡ tab 0 limit (λ n. present n (stored n) us)
   unfolding shown
   shown_good count bytes us h e =
@@ -69,7 +69,7 @@ module _ (g : Geometry) (limit : ℕ) (pages : List Page) (lens slots : List ℕ
       (λ n _. buffer_good limit n count bytes (stored n) us h e)
 
   -- the law of pushing: the table after the units vs behind the units us
-  pub shown_pushed : (count : ℕ) (bytes : List ℕ) (us vs : List U.Unit) → decodes limit count bytes ≡ map Good us → All (Valid limit) vs
+  pub shown_pushed : (count : ℕ) (bytes : List ℕ) (us vs : List U.Unit) → decodes limit count bytes ≡ map Some us → All (Valid limit) vs
       → count + length vs ≤ 960 → length bytes ≡ 11520
       → shown g limit pages lens slots (count + length vs) (pushed bytes count vs) ≡ after_units vs (shown g limit pages lens slots count bytes)
   shown_pushed count bytes us vs e v h l =
@@ -80,6 +80,6 @@ module _ (g : Geometry) (limit : ℕ) (pages : List Page) (lens slots : List ℕ
       ∙ ap (after_units vs) (sym (shown_good count bytes us (omega arith) e))
 
   -- and the buffer is one of units again
-  pub pushed_good : (count : ℕ) (bytes : List ℕ) (us vs : List U.Unit) → decodes limit count bytes ≡ map Good us → All (Valid limit) vs
-      → count + length vs ≤ 960 → length bytes ≡ 11520 → decodes limit (count + length vs) (pushed bytes count vs) ≡ map Good (us ++ vs)
+  pub pushed_good : (count : ℕ) (bytes : List ℕ) (us vs : List U.Unit) → decodes limit count bytes ≡ map Some us → All (Valid limit) vs
+      → count + length vs ≤ 960 → length bytes ≡ 11520 → decodes limit (count + length vs) (pushed bytes count vs) ≡ map Some (us ++ vs)
   pushed_good count bytes us vs e v h l = pushed_read limit count bytes us (omega arith) e vs v

@@ -1,5 +1,5 @@
 -- What the functions ensure that push the units of two neighbours, of a leaf and of node 0: on any arrays.
-use Rattle.std.specs.Prelude.{◌≡◌, Bool, true, false, cond, List, [], ◌∷◌, ◌++◌, map, ℕ, ◌+◌, ◌-◌, ◌<◌, ◌≤◌, leb, length, take, drop, get_or}
+use Rattle.std.specs.Prelude.{◌≡◌, Bool, true, false, cond, List, [], ◌∷◌, ◌++◌, map, ℕ, ◌+◌, ◌-◌, ◌<◌, ◌≤◌, leb, length, take, drop, get_or, Option, IfSome, IfNone, is_none}
 use Rattle.pages.specs.declared.unit.Unit as U
 use Rattle.pages.specs.declared.unit.Update.TheVariants.{Reset}
 use Rattle.views.specs.Groups.{unit_for}
@@ -35,8 +35,7 @@ pub record HasRoom (count more : ℕ) (p : Pair) (r : Bool) : Type 0 where
   pub full : r ≡ false → count + more ≤ 960 → NumbersFit p → ⊥
 
 -- ---- the answer of a node that keeps its entries
-pub record Keeps (a : Bool) (n c : ℕ) (r : Fall) : Type 0 where
-  pub absent : r.absent ≡ a
+pub record Keeps (n c : ℕ) (r : Fall) : Type 0 where
   pub lost : r.lost ≡ false
   pub len : r.len ≡ n
   pub count : r.count ≡ c
@@ -45,7 +44,6 @@ pub record Keeps (a : Bool) (n c : ℕ) (r : Fall) : Type 0 where
 -- an entry moves over; the parent has len entries, before and after
 pub record Shares (p : Pair) (len : ℕ) (xs ys : List Entry) (count : ℕ) (old new : List ℕ) (r : Fall) : Type 0 where
   pub keeps : FrontKept count old r.count new
-  pub there : r.absent ≡ false
   pub stays : (r.lost ≡ false) × (r.len ≡ len)
   pub pushed : NumbersFit p → count + 4 ≤ 960 → UnitsPushed (share_units p.parent (left_of p) (right_of p) xs ys) count old new r.count
 
@@ -59,17 +57,16 @@ pair_units p xs ys =
 -- what a function that does this ensures; the parent had len entries
 pub record Balances (p : Pair) (len : ℕ) (xs ys : List Entry) (count : ℕ) (old free new after : List ℕ) (r : Fall) : Type 0 where
   pub keeps : FrontKept count old r.count new
-  pub there : r.absent ≡ false
   pub pushed : NumbersFit p → count + length (pair_units p xs ys) ≤ 960 → UnitsPushed (pair_units p xs ys) count old new r.count
   pub joins : leb (length xs + length ys) 16 ≡ true → NumbersFit p → count + length (pair_units p xs ys) ≤ 960 → (r.lost ≡ true) × (r.len ≡ len - 1) × Changes true p.right free after
   pub shares : leb (length xs + length ys) 16 ≡ false → (r.lost ≡ false) × (r.len ≡ len) × (after ≡ free)
 
--- ---- a leaf with the entries es loses that of k, if it has one; hit is what it holds for k
-pub record Loses (n k : ℕ) (es : List Entry) (hit : Found) (count : ℕ) (old new : List ℕ) (us : List U.Unit) (left : ℕ) (r : Fall) : Type 0 where
-  pub keeps : FrontKept count old r.count new
-  pub absent : r.absent ≡ is_absent hit
-  pub stays : is_absent hit ≡ true → (r.count ≡ count) × (new ≡ old) × (r.lost ≡ false)
-  pub gone : is_absent hit ≡ false → n < 65536 → count < 960 → UnitsPushed us count old new r.count × (r.lost ≡ true) × (r.len ≡ left)
+-- ---- a leaf with the entries es loses that of k, if it has one, or answers None; hit is what it holds for k
+pub record Loses (n k : ℕ) (es : List Entry) (hit : Found) (count : ℕ) (old new : List ℕ) (us : List U.Unit) (left : ℕ) (r : Option Fall) : Type 0 where
+  pub keeps : IfSome r (λ (f : Fall). FrontKept count old f.count new)
+  pub absent : is_none r ≡ is_absent hit
+  pub stays : IfNone r (new ≡ old)
+  pub gone : IfSome r (λ (f : Fall). n < 65536 → count < 960 → UnitsPushed us count old new f.count × (f.lost ≡ true) × (f.len ≡ left))
 
 -- ---- index i is that of the left one of the two neighbours on the way to k
 pub record IsLeft (k : ℕ) (es : List Entry) (i : ℕ) : Type 0 where

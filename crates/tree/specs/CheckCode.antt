@@ -1,5 +1,5 @@
 -- What the code of step 6 answers: the rules of one node by themselves, and what a walk over nodes says with the counts that it leaves.
-use Rattle.std.specs.Prelude.{◌≡◌, ◌⊎◌, Bool, true, false, ◌&&◌, List, [], ◌∷◌, map, ℕ, zero, suc, ◌+◌, ◌≤◌, leb, eqb, length, get_or}
+use Rattle.std.specs.Prelude.{◌≡◌, ◌⊎◌, Bool, true, false, ◌&&◌, List, [], ◌∷◌, map, ℕ, zero, suc, ◌+◌, ◌≤◌, leb, eqb, length, get_or, Option, Some, None, is_some, IfSome}
 use Rattle.lists.specs.Lists.{flat}
 use Rattle.chip.specs.Geometry.{Geometry}
 use Rattle.chip.specs.Chip.{pages_of}
@@ -10,7 +10,6 @@ use Rattle.tree.specs.Step6.{is_level, keys_in, reached, times, step6}
 use Rattle.tree.specs.Free.{is_open}
 use Rattle.tree.specs.Shown.{shown}
 use Rattle.tree.specs.Thick.{thin}
-use Rattle.tree.specs.declared.check.Counted.{Counted}
 use Rattle.tree.specs.declared.check.Growth.{Growth}
 use Rattle.tree.specs.declared.check.Growth.TheVariants.{NoTree, Thin, Thick}
 
@@ -59,9 +58,14 @@ counts_from n [] counts = true
 counts_from n (w ∷ t) counts = eqb (get_or counts n 0) (there w) && counts_from (suc n) t counts
 
 -- the same, and whether some node is thin where all are counted so
-pub record CountsNodes (t : Table) (counts : List ℕ) (r : Counted) : Type 0 where
-  pub once : r.once ≡ counts_from 0 t counts
-  pub thin : r.once ≡ true → r.thin ≡ thin t
+pub record CountsNodes (t : Table) (counts : List ℕ) (r : Option Bool) : Type 0 where
+  pub once : is_some r ≡ counts_from 0 t counts
+  pub thin : IfSome r (λ (b : Bool). b ≡ thin t)
+
+-- all are counted so, and some node is thin
+abbrev pub is_some_true : Option Bool → Bool
+is_some_true None = false
+is_some_true (Some b) = b
 
 -- what is found, as tests: step 6 passes, and the tree is thin
 abbrev pub is_grown : Growth → Bool

@@ -1,8 +1,7 @@
 -- What the functions of a delete rely on and ensure: on any arrays, and where they show a tree.
-use Rattle.std.specs.Prelude.{◌≡◌, Bool, true, false, cond, List, ◌++◌, map, ℕ, zero, suc, ◌+◌, ◌<◌, ◌≤◌, length, get_or}
+use Rattle.std.specs.Prelude.{◌≡◌, Bool, true, false, cond, List, ◌++◌, map, ℕ, zero, suc, ◌+◌, ◌<◌, ◌≤◌, length, get_or, Some, Option, IfSome, IfNone, is_none}
 use Rattle.lists.specs.Lists.{All}
 use Rattle.pages.specs.declared.unit.Unit as U
-use Rattle.pages.specs.declared.unit.Decoded.TheVariants.{Good}
 use Rattle.pages.specs.Units.{decodes, Valid}
 use Rattle.views.specs.Nodes.{Entry, entry, view}
 use Rattle.tree.specs.declared.balance.Fall.{Fall}
@@ -20,7 +19,7 @@ use Rattle.tree.specs.UpdateCode.{FrontKept}
 pub record TableHeld (show : ℕ → List ℕ → Table) (limit count : ℕ) (bytes free : List ℕ) (us : List U.Unit) (t : Table) : Type 0 where
   pub table : show count bytes ≡ t
   pub numbers : free ≡ free_numbers t
-  pub units : decodes limit count bytes ≡ map Good us
+  pub units : decodes limit count bytes ≡ map Some us
 
 -- the units vs are valid, and table t becomes u by them
 pub record UnitsMake (limit : ℕ) (t : Table) (vs : List U.Unit) (u : Table) : Type 0 where
@@ -56,7 +55,6 @@ pub record Settling (limit l n k : ℕ) (t : Table) : Type 0 where
 -- what a function ensures that settles two neighbours under node n, which has the entries es
 pub record Settles (show : ℕ → List ℕ → Table) (limit n k : ℕ) (es : List Entry) (count : ℕ) (old free new after : List ℕ) (r : Fall) : Type 0 where
   pub keeps : FrontKept count old r.count new
-  pub there : r.absent ≡ false
   pub is : (l : ℕ) (us : List U.Unit) (t : Table) → TableHeld show limit count old free us t → es ≡ entries_at t n → Settling limit l n k t
       → count + length (settle_units n (neighbours k es) t) ≤ 960
       → Fell show limit n (us ++ settle_units n (neighbours k es) t) (settle l n (neighbours k es) t) new after r
@@ -64,7 +62,6 @@ pub record Settles (show : ℕ → List ℕ → Table) (limit n k : ℕ) (es : L
 -- what a function ensures that mends node n after its child's answer r
 pub record Mends (show : ℕ → List ℕ → Table) (limit n k : ℕ) (es : List Entry) (r : Fall) (old free new after : List ℕ) (f : Fall) : Type 0 where
   pub keeps : FrontKept r.count old f.count new
-  pub there : f.absent ≡ false
   pub is : (l c : ℕ) (us : List U.Unit) (d : Down) → Fell show limit c us d old free r → es ≡ entries_at (leaves d) n
       → (length (entries_at (leaves d) c) < 8 → Settling limit l n k (leaves d)) → r.count + length (mend_units n c k d) ≤ 960
       → Fell show limit n (us ++ mend_units n c k d) (mend l n c k d) new after f
@@ -80,14 +77,15 @@ abbrev pub DeleteWay : ℕ → ℕ → ℕ → ℕ → Table → Type 0
 DeleteWay limit zero n k t = (there (at t n) ≡ 1) × UnitsMake limit t (delete_units_at 0 n k t) (leaves (delete_at 0 n k t))
 DeleteWay limit (suc l) n k t = Joint limit l n (child t n k) k t (leaves (delete_at l (child t n k) k t)) × DeleteWay limit l (child t n k) k t
 
--- a delete under node n of level l: whether the key is absent is told on any arrays, and an absent key changes nothing
-pub record Falls (show : ℕ → List ℕ → Table) (limit l n k count : ℕ) (old free new after : List ℕ) (r : Fall) : Type 0 where
-  pub keeps : FrontKept count old r.count new
-  pub absent : r.absent ≡ is_absent (find_at l n k (show count old))
-  pub stays : r.absent ≡ true → (r.count ≡ count) × (new ≡ old) × (after ≡ free)
-  pub is : r.absent ≡ false → (us : List U.Unit) (t : Table) → TableHeld show limit count old free us t → DeleteWay limit l n k t
+-- a delete under node n of level l, None where the key is absent: that is told on any arrays, and an absent key changes nothing
+pub record Falls (show : ℕ → List ℕ → Table) (limit l n k count : ℕ) (old free new after : List ℕ) (r : Option Fall) : Type 0 where
+  pub keeps : IfSome r (λ (f : Fall). FrontKept count old f.count new)
+  pub absent : is_none r ≡ is_absent (find_at l n k (show count old))
+  pub stays : IfNone r ((new ≡ old) × (after ≡ free))
+  pub is : IfSome r
+      (λ (f : Fall). (us : List U.Unit) (t : Table) → TableHeld show limit count old free us t → DeleteWay limit l n k t
       → count + length (delete_units_at l n k t) ≤ 960
-      → Fell show limit n (us ++ delete_units_at l n k t) (delete_at l n k t) new after r
+      → Fell show limit n (us ++ delete_units_at l n k t) (delete_at l n k t) new after f)
 
 -- ---- node 0 that takes over its only child
 -- child c of level l is a node, and the units make the table

@@ -1,11 +1,9 @@
 -- What the code that finds a key answers, in the terms of the tree.
-use Rattle.std.specs.Prelude.{◌≡◌, List, ℕ, ◌+◌, ◌*◌, ◌≤◌, length, take, drop}
+use Rattle.std.specs.Prelude.{◌≡◌, List, ℕ, ◌+◌, ◌*◌, ◌≤◌, length, take, drop, Option, Some, None}
 use Rattle.views.specs.declared.node.Node.{Node}
 use Rattle.views.specs.Nodes.{Entry, View}
 use Rattle.views.specs.NodeCode as C
 use Rattle.tree.specs.declared.find.NodeRead.{NodeRead}
-use Rattle.tree.specs.declared.find.Hit.{Hit}
-use Rattle.tree.specs.declared.find.Hit.TheVariants.{At, Nothing}
 use Rattle.tree.specs.declared.find.Looked.{Looked}
 use Rattle.tree.specs.Tree.{level_of, entries_of, Table, Found, absent, found, find_at, find, path_at, path}
 use Rattle.tree.specs.Shown.{pages_read}
@@ -15,9 +13,9 @@ abbrev pub entries_from : ℕ → ℕ → List ℕ → List ℕ → List Entry
 entries_from n i ks vs = C.pairs (drop i (take n ks)) (drop i (take n vs))
 
 -- what a hit says
-abbrev pub hit_of : Hit → Found
-hit_of (At v) = found v
-hit_of Nothing = absent
+abbrev pub hit_of : Option ℕ → Found
+hit_of (Some v) = found v
+hit_of None = absent
 
 -- a node of the code that shows the level and the entries of a view
 pub record ShowsView (w : View) (r : Node) : Type 0 where

@@ -12,19 +12,18 @@ ghost use Rattle.tree.specs.BalanceCode.{left_of, right_of, last_of, NumbersFit,
 ghost use Rattle.tree.specs.DeleteUnits.{first_of, join_units, to_left, to_right};
 ghost use Rattle.tree.specs.UpdateCode.{UnitsPushed};
 
-use crate::find::{Hit, lookup};
+use crate::find::lookup;
 use numbers::set;
 use pages::unit::{Unit, Update};
 use views::node::Node;
-use views::{buffer, node};
+use views::{buffer, node, units};
 
 // The value of a reset that frees its node.
 const FREED: u32 = 255;
 
-// What a delete under a node leaves: whether the key is absent, whether the node lost an entry, how many it has then, and how many units there are.
+// What a delete under a node leaves: whether the node lost an entry, how many it has then, and how many units there are.
 #[derive(Clone, Copy)]
 pub struct Fall {
-    pub absent: bool,
     pub lost: bool,
     pub len: usize,
     pub count: usize,
@@ -39,6 +38,13 @@ pub struct Pair {
     pub key: u32,
 }
 
+// An update of node `node`.
+pub fn unit_of(node: u32, update: Update) -> Unit
+    ensures { result ≡ unit_for node update }
+{
+    Unit { node, update }
+}
+
 // How many entries a node has without `key`.
 fn len_without(n: Node, key: u32) -> usize
     requires { n.len ≤ 16 }
@@ -50,48 +56,38 @@ fn len_without(n: Node, key: u32) -> usize
 }
 
 // The node keeps its entries.
-pub fn keep(absent: bool, len: usize, count: usize) -> Fall
-    ensures { Keeps absent len count result }
+pub fn keep(len: usize, count: usize) -> Fall
+    ensures { Keeps len count result }
 {
     Fall {
-        absent,
         lost: false,
         len,
         count,
     }
 }
 
-// The entry taken out of its leaf `node`.
-pub fn delete_leaf(buffer: &mut [u8; 11520], count: usize, node: u32, n: Node, key: u32) -> Fall
+// The entry taken out of its leaf `node`. None, and nothing is pushed, where the key is absent.
+pub fn delete_leaf(
+    buffer: &mut [u8; 11520],
+    count: usize,
+    node: u32,
+    n: Node,
+    key: u32,
+) -> Option<Fall>
     requires { (count ≤ 960) × (n.len ≤ 16) }
     ensures { Loses node key (entries_of n) (T.lookup key (entries_of n)) count buffer.old buffer.new
         (unit_for node (K.Delete key) ∷ []) (length (delete_entry key (entries_of n))) result }
 {
-    let hit = lookup(n, key);
-    let Hit::At(_) = hit else {
-        return keep(true, n.len, count);
-    };
-    if count >= 960 {
-        return keep(false, n.len, count);
+    lookup(n, key)?;
+    if count >= 960 || node >= 65536 {
+        return Some(keep(n.len, count));
     }
-    if node >= 65536 {
-        return keep(false, n.len, count);
-    }
-    buffer::push_unit(
-        buffer,
-        count,
-        Unit {
-            node,
-            update: Update::Delete(key),
-        },
-    );
-    let len = len_without(n, key);
-    Fall {
-        absent: false,
+    buffer::push_unit(buffer, count, unit_of(node, Update::Delete(key)));
+    Some(Fall {
         lost: true,
-        len,
+        len: len_without(n, key),
         count: count + 1,
-    }
+    })
 }
 
 // The index of the left one of the two neighbours that the child of `key` and its neighbour are: the child and its right one, or its left one if it is last.
@@ -100,14 +96,12 @@ pub fn left_index(n: Node, key: u32) -> usize
     ensures { IsLeft key (entries_of n) result × (result + 2 ≤ n.len) }
 {
     let last = n.len - 2;
-    let mut i: usize = 0;
-    while i < last {
+    for i in 0..last {
         if key < n.keys[i + 1] {
             return i;
         }
-        i += 1;
     }
-    i
+    last
 }
 
 // Four units behind the `count` units that the buffer holds. Returns the count after them.
@@ -130,22 +124,12 @@ fn join(buffer: &mut [u8; 11520], count: usize, free: &mut [u64; 4], pair: Pair,
 {
     let len = y.len;
     let used = count + len;
-    buffer::push_entries(buffer, count, pair.left, y);
-    buffer::push_unit(
-        buffer,
-        used,
-        Unit {
-            node: pair.right,
-            update: Update::Reset(FREED),
-        },
-    );
+    units::put_entries(buffer, count, pair.left, y);
+    buffer::push_unit(buffer, used, unit_of(pair.right, Update::Reset(FREED)));
     buffer::push_unit(
         buffer,
         used + 1,
-        Unit {
-            node: pair.parent,
-            update: Update::Delete(pair.key),
-        },
+        unit_of(pair.parent, Update::Delete(pair.key)),
     );
     set::put_in(free, pair.right);
     used + 2
@@ -163,22 +147,10 @@ fn to_left(buffer: &mut [u8; 11520], count: usize, pair: Pair, y: Node) -> usize
     push_four(
         buffer,
         count,
-        Unit {
-            node: pair.left,
-            update: Update::Insert(key, value),
-        },
-        Unit {
-            node: pair.right,
-            update: Update::Delete(key),
-        },
-        Unit {
-            node: pair.parent,
-            update: Update::Delete(pair.key),
-        },
-        Unit {
-            node: pair.parent,
-            update: Update::Insert(start, pair.right),
-        },
+        unit_of(pair.left, Update::Insert(key, value)),
+        unit_of(pair.right, Update::Delete(key)),
+        unit_of(pair.parent, Update::Delete(pair.key)),
+        unit_of(pair.parent, Update::Insert(start, pair.right)),
     )
 }
 
@@ -194,22 +166,10 @@ fn to_right(buffer: &mut [u8; 11520], count: usize, pair: Pair, x: Node) -> usiz
     push_four(
         buffer,
         count,
-        Unit {
-            node: pair.left,
-            update: Update::Delete(key),
-        },
-        Unit {
-            node: pair.right,
-            update: Update::Insert(key, value),
-        },
-        Unit {
-            node: pair.parent,
-            update: Update::Delete(pair.key),
-        },
-        Unit {
-            node: pair.parent,
-            update: Update::Insert(key, pair.right),
-        },
+        unit_of(pair.left, Update::Delete(key)),
+        unit_of(pair.right, Update::Insert(key, value)),
+        unit_of(pair.parent, Update::Delete(pair.key)),
+        unit_of(pair.parent, Update::Insert(key, pair.right)),
     )
 }
 
@@ -218,16 +178,7 @@ pub fn has_room(count: usize, more: usize, pair: Pair) -> bool
     requires { (count ≤ 960) × (more ≤ 960) }
     ensures { HasRoom count more pair result }
 {
-    if count + more > 960 {
-        return false;
-    }
-    if pair.parent >= 65536 {
-        return false;
-    }
-    if pair.left >= 65536 {
-        return false;
-    }
-    pair.right < 65536
+    count + more <= 960 && pair.parent < 65536 && pair.left < 65536 && pair.right < 65536
 }
 
 // The nearest entry moves over, from the longer one to the shorter. The parent has `len` entries, before and after.
@@ -243,14 +194,14 @@ pub fn share(
     ensures { Shares pair len (entries_of x) (entries_of y) count buffer.old buffer.new result }
 {
     if !has_room(count, 4, pair) {
-        return keep(false, len, count);
+        return keep(len, count);
     }
     if x.len < y.len {
         let used = to_left(buffer, count, pair, y);
-        return keep(false, len, used);
+        return keep(len, used);
     }
     let used = to_right(buffer, count, pair, x);
-    keep(false, len, used)
+    keep(len, used)
 }
 
 // Neighbours `x` and `y`: together 16 or fewer they join, otherwise an entry moves over. The parent has `len` entries.
@@ -271,11 +222,10 @@ pub fn balance(
         return share(buffer, count, pair, len, x, y);
     }
     if !has_room(count, y.len + 2, pair) {
-        return keep(false, len, count);
+        return keep(len, count);
     }
     let used = join(buffer, count, free, pair, y);
     Fall {
-        absent: false,
         lost: true,
         len: len - 1,
         count: used,
@@ -293,15 +243,8 @@ pub fn take_over(
     requires { (m.len ≤ 16) × (count + m.len + 2 ≤ 960) × (c < 65536) }
     ensures { UnitsPushed (take_over_units m.level c (entries_of m)) count buffer.old buffer.new result × Changes true c free.old free.new }
 {
-    let used = buffer::push_node(buffer, count, 0, m);
-    buffer::push_unit(
-        buffer,
-        used,
-        Unit {
-            node: c,
-            update: Update::Reset(FREED),
-        },
-    );
+    let used = count + units::put_node(buffer, count, 0, m);
+    buffer::push_unit(buffer, used, unit_of(c, Update::Reset(FREED)));
     set::put_in(free, c);
     used + 1
 }
@@ -321,25 +264,11 @@ pub fn merge(
 {
     let mut first = x;
     first.level = level;
-    let half = buffer::push_node(buffer, count, 0, first);
-    buffer::push_entries(buffer, half, 0, y);
+    let half = count + units::put_node(buffer, count, 0, first);
+    units::put_entries(buffer, half, 0, y);
     let used = half + y.len;
-    buffer::push_unit(
-        buffer,
-        used,
-        Unit {
-            node: pair.left,
-            update: Update::Reset(FREED),
-        },
-    );
-    buffer::push_unit(
-        buffer,
-        used + 1,
-        Unit {
-            node: pair.right,
-            update: Update::Reset(FREED),
-        },
-    );
+    buffer::push_unit(buffer, used, unit_of(pair.left, Update::Reset(FREED)));
+    buffer::push_unit(buffer, used + 1, unit_of(pair.right, Update::Reset(FREED)));
     set::put_in(free, pair.left);
     set::put_in(free, pair.right);
     used + 2

@@ -1,14 +1,13 @@
 // The records of a tree in key order, gathered from its pages: leaf after leaf, each behind those before it in two arrays.
-ghost use Rattle.std.specs.Prelude.{◌≡◌, ◌%◌, ◌≤◌, length};
-ghost use Rattle.chip.specs.Geometry.{Fits, page_size};
+ghost use Rattle.std.specs.Prelude.{◌≡◌, ◌≤◌, length};
 ghost use Rattle.views.specs.NodeCode.{entries_of};
 ghost use Rattle.tree.specs.Tree as T;
 ghost use Rattle.tree.specs.CheckCode.{pages_table};
 ghost use Rattle.tree.specs.RecordsCode.{Gathers, GathersRecords};
 
 use crate::check::listed_node;
-use chip::geometry::Geometry;
 use views::node::Node;
+use views::nodes::Nodes;
 
 // How many records the arrays hold: 256 leaves of 16.
 const ROOM: usize = 4096;
@@ -18,69 +17,47 @@ fn append(n: Node, keys: &mut [u32], values: &mut [u32], count: usize) -> usize
     requires { (n.len ≤ 16) × (length keys.old ≡ 4096) × (length values.old ≡ 4096) × (count ≤ 4096) }
     ensures { Gathers (entries_of n) count keys.old values.old result keys.new values.new }
 {
-    let len = n.len;
-    if ROOM < count + len {
+    let end = count + n.len;
+    if ROOM < end {
         return count;
     }
-    let mut i: usize = 0;
-    while i < len {
-        let at = count + i;
-        keys[at] = n.keys[i];
-        values[at] = n.values[i];
-        i += 1;
-    }
-    count + len
+    keys[count..end].copy_from_slice(&n.keys[..n.len]);
+    values[count..end].copy_from_slice(&n.values[..n.len]);
+    end
 }
 
 // The records under node `number` of level `level` behind the first `count` of the arrays. Returns how many there are then.
 fn gather_under(
-    geometry: Geometry,
-    image: &[u8],
-    lens: &[u32; 256],
-    slots: &[u32; 1024],
-    limit: u32,
+    nodes: Nodes<'_>,
     keys: &mut [u32],
     values: &mut [u32],
     level: u32,
     number: u32,
     count: usize,
 ) -> usize
-    requires { (length image.now % page_size geometry ≡ 0) × (length keys.old ≡ 4096) × (length values.old ≡ 4096) × (count ≤ 4096) × Fits geometry }
-    ensures { Gathers (T.records_at level (pages_table geometry image.now lens.now slots.now limit) number)
+    requires { (length keys.old ≡ 4096) × (length values.old ≡ 4096) × (count ≤ 4096) }
+    ensures { let ns = nodes.entry in Gathers (T.records_at level (pages_table ns.geometry ns.image.now ns.lens.now ns.slots.now ns.limit) number)
         count keys.old values.old result keys.new values.new }
 {
-    let n = listed_node(geometry, image, lens, slots, number, limit);
+    let n = listed_node(nodes, number);
     if level == 0 {
         return append(n, keys, values, count);
     }
     let low = level - 1;
-    let len = n.len;
     let mut r = count;
-    let mut i: usize = 0;
-    while i < len {
+    for i in 0..n.len {
         let c = n.values[i];
-        r = gather_under(geometry, image, lens, slots, limit, keys, values, low, c, r);
-        i += 1;
+        r = gather_under(nodes, keys, values, low, c, r);
     }
     r
 }
 
 // The records of the tree in key order. Returns how many there are.
-pub fn gather(
-    geometry: Geometry,
-    image: &[u8],
-    lens: &[u32; 256],
-    slots: &[u32; 1024],
-    limit: u32,
-    keys: &mut [u32; 4096],
-    values: &mut [u32; 4096],
-) -> usize
-    requires { (length image.now % page_size geometry ≡ 0) × Fits geometry }
-    ensures { GathersRecords (pages_table geometry image.now lens.now slots.now limit) result keys.new values.new }
+// No heap: keys and values stand in two arrays of fixed size, with the count beside them.
+pub fn gather(nodes: Nodes<'_>, keys: &mut [u32; 4096], values: &mut [u32; 4096]) -> usize
+    ensures { let ns = nodes.entry in GathersRecords (pages_table ns.geometry ns.image.now ns.lens.now ns.slots.now ns.limit) result keys.new values.new }
 {
-    let n = listed_node(geometry, image, lens, slots, 0, limit);
+    let n = listed_node(nodes, 0);
     let level = n.level;
-    gather_under(
-        geometry, image, lens, slots, limit, keys, values, level, 0, 0,
-    )
+    gather_under(nodes, keys, values, level, 0, 0)
 }

@@ -11,7 +11,7 @@ use Rattle.lists.proofs.Flats.{map_append}
 use Rattle.lists.proofs.Parts.{length_patch}
 use Rattle.pages.specs.declared.unit.Unit as U
 use Rattle.pages.specs.declared.unit.Update.TheVariants.{Insert, Reset}
-use Rattle.pages.specs.declared.unit.Decoded.TheVariants.{Good}
+use Rattle.std.proofs.Common.{Some}
 use Rattle.pages.specs.Units.{decode, decodes, encode, Valid}
 use Rattle.pages.proofs.UnitLaws.{length_encode, length_units, decodes_units}
 use Rattle.views.specs.declared.node.Node as N
@@ -60,6 +60,10 @@ pushed_append b c (u ∷ us) vs h =
     ∙ pushed_append x (c + 1) us vs (omega arith)
     ∙ pushed_more b c u (us ++ vs) (omega arith)
 
+-- a unit written over 12 bytes
+pub length_put : (xs ys : List ℕ) (at : ℕ) (u : U.Unit) → at + 12 ≤ length xs → ys ≡ patch xs at 12 (encode u) → length ys ≡ length xs
+length_put xs ys at u h e = ap length e ∙ length_patch xs at 12 (encode u) h (length_encode u)
+
 -- the buffer keeps its length, and what stands before the units
 pub length_pushed : (b : List ℕ) (c : ℕ) (us : List U.Unit) → 12 * (c + length us) ≤ length b → length (pushed b c us) ≡ length b
 length_pushed b c us h = length_patch b (12 * c) (12 * length us) (flat encode us) (omega arith) (length_units us)
@@ -75,9 +79,6 @@ module _ (n c : ℕ) (b₀ : List ℕ) (x : N.Node) where
 
   abbrev pub Pushing : ℕ → List ℕ → Type 0
   Pushing i b = pushed b (c + i) (entry_units n (left i)) ≡ pushed b₀ c (entry_units n (entries_of x))
-
-  pub pushing_start : Pushing 0 b₀
-  pushing_start = let e : c + 0 ≡ c = omega arith in ap (λ (m : ℕ). pushed b₀ m (entry_units n (entries_of x))) e
 
   -- the first of the keys that are left, and of the values
   first : (i : ℕ) (xs : List ℕ) → i < x.len → x.len ≤ length xs → drop i (take x.len xs) ≡ get_or xs i 0 ∷ drop (i + 1) (take x.len xs)
@@ -144,12 +145,12 @@ decodes_append limit (suc a) b (suc n) x y z e h =
     ∙ decodes_append limit a b n (drop 12 x) y z (omega arith) (length-drop 12 x ∙ omega arith)
     ∙ ap (λ (w : List ℕ). decodes limit a w ++ decodes limit b y) (sym (drop-append-le 12 x z l)))
 
-module _ (limit c : ℕ) (bytes : List ℕ) (us : List U.Unit) (h : 12 * c ≤ length bytes) (e : decodes limit c bytes ≡ map Good us) where
+module _ (limit c : ℕ) (bytes : List ℕ) (us : List U.Unit) (h : 12 * c ≤ length bytes) (e : decodes limit c bytes ≡ map Some us) where
   -- pushed units are read behind those that were there
-  pub pushed_read : (vs : List U.Unit) → All (Valid limit) vs → decodes limit (c + length vs) (pushed bytes c vs) ≡ map Good (us ++ vs)
+  pub pushed_read : (vs : List U.Unit) → All (Valid limit) vs → decodes limit (c + length vs) (pushed bytes c vs) ≡ map Some (us ++ vs)
   pushed_read vs v =
       let x : List ℕ = take (12 * c) bytes in
       let rest : List ℕ = drop (12 * length vs) (drop (12 * c) bytes) in
       decodes_append limit c (length vs) (c + length vs) x (flat encode vs ++ rest) (drop (12 * c) bytes) refl (length-take-le (12 * c) bytes h)
       ∙ ap₂ ◌++◌ (ap (decodes limit c) (take-append-drop (12 * c) bytes) ∙ e) (decodes_units rest v)
-      ∙ sym (map_append Good us vs)
+      ∙ sym (map_append Some us vs)

@@ -13,15 +13,16 @@ use Rattle.lists.specs.Lists.{all}
 use Rattle.lists.proofs.Tests.{below_or_not}
 use Rattle.pages.specs.declared.unit.Update.TheVariants.{Insert, Delete, Reset}
 use Rattle.pages.specs.declared.unit.Unit as U
-use Rattle.pages.specs.declared.unit.Decoded.{Decoded}
-use Rattle.pages.specs.declared.unit.Decoded.TheVariants.{Good, Bad}
+use Rattle.std.proofs.Common.{Option, Some, None}
 use Rattle.pages.specs.Units.{decode, decodes, half, is_reset_value, word}
 use Rattle.views.specs.declared.fold.Shape.{Shape}
-use Rattle.views.specs.declared.fold.Stage.TheVariants.{Broken, Full}
+use Rattle.views.specs.declared.fold.Stage.TheVariants.{Broken, Freed, Full, Untouched}
+use Rattle.views.specs.declared.fold.Stage.{Stage}
+use Rattle.views.specs.declared.node.Node.{Node}
 use Rattle.views.specs.Nodes.{View, broken, insert_entry, delete_entry, apply}
 use Rattle.views.specs.NodeCode.{entries_in, HoldsEntries}
 use Rattle.views.specs.Table.{is_good}
-use Rattle.views.specs.FoldCode.{IsLaid, IsPassed, Skips, view_in, StandsIn}
+use Rattle.views.specs.FoldCode.{IsLaid, IsPassed, Skips, view_at, view_in, StandsIn}
 use Rattle.views.specs.Stored.{turn_view, view_after, view_over}
 
 -- ---- one update of a view so far, its shape s over keys ks and values vs, which leaves the entries in ls and ws
@@ -50,9 +51,22 @@ pub spoilt : (r : Shape) (ks vs : List ℕ) (w : View) → length ks ≡ 17 → 
     → StandsIn r ks vs w
 spoilt r ks vs w lk lv q e = record { is = rw q.0 e; room = q.1; keys = lk; values = lv }
 
+-- an entry put into a view that is not full, or taken out of it, breaks it
+pub not_full_insert : (t : Stage) (x : Node) (k v : ℕ) → (t ≡ Full → ⊥) → broken ≡ apply (view_at t x) (Insert k v)
+not_full_insert Untouched x k v h = refl
+not_full_insert Freed x k v h = refl
+not_full_insert Broken x k v h = refl
+not_full_insert Full x k v h = absurd (h refl)
+
+pub not_full_delete : (t : Stage) (x : Node) (k : ℕ) → (t ≡ Full → ⊥) → broken ≡ apply (view_at t x) (Delete k)
+not_full_delete Untouched x k h = refl
+not_full_delete Freed x k h = refl
+not_full_delete Broken x k h = refl
+not_full_delete Full x k h = absurd (h refl)
+
 -- ---- the loop: what the units from unit i on make of view w is what all of them make of view w₀
 module _ (limit n count : ℕ) (p : List ℕ) (w₀ : View) where
-  abbrev rest : ℕ → List Decoded
+  abbrev rest : ℕ → List (Option U.Unit)
   rest i = decodes limit (count - i) (drop (12 * i) p)
 
   pub record Left (i : ℕ) (w : View) : Type 0 where
@@ -62,7 +76,7 @@ module _ (limit n count : ℕ) (p : List ℕ) (w₀ : View) where
   pub left_start : Left 0 w₀
   left_start = let e : count - 0 ≡ count = omega arith in record { good = rw e; is = rw e }
 
-  module _ (i : ℕ) (w : View) (d : Decoded) (left : Left i w) (h : i < count)
+  module _ (i : ℕ) (w : View) (d : Option U.Unit) (left : Left i w) (h : i < count)
       (ed : d ≡ decode limit (take (length p - 12 * i) (drop (12 * i) p))) where
     next : rest i ≡ d ∷ rest (i + 1)
     next =
@@ -73,24 +87,24 @@ module _ (limit n count : ℕ) (p : List ℕ) (w₀ : View) where
         (ap (decodes limit (count - (i + 1))) (drop-drop 12 (12 * i) p ∙ ap (λ (m : ℕ). drop m p) (sym a)))
 
     -- a unit
-    pub left_next : (u : U.Unit) (t : View) → d ≡ Good u → t ≡ turn_view n w (Good u) → Left (i + 1) t
+    pub left_next : (u : U.Unit) (t : View) → d ≡ Some u → t ≡ turn_view n w (Some u) → Left (i + 1) t
     left_next u t e q = record {
-      good = ap (λ (x : Decoded). all is_good (x ∷ rest (i + 1))) (sym e) ∙ ap (all is_good) (sym next) ∙ left.good;
+      good = ap (λ (x : Option U.Unit). all is_good (x ∷ rest (i + 1))) (sym e) ∙ ap (all is_good) (sym next) ∙ left.good;
       is = ap (λ (v : View). view_after n v (rest (i + 1))) (q ∙ ap (turn_view n w) (sym e)) ∙ ap (view_after n w) (sym next) ∙ left.is;
     }
 
     -- a unit of another node
-    left_passed : (q : (u : U.Unit) × (d ≡ Good u) × (eqb u.node n ≡ false)) → Left (i + 1) w
+    left_passed : (q : (u : U.Unit) × (d ≡ Some u) × (eqb u.node n ≡ false)) → Left (i + 1) w
     left_passed q =
         let t : eqb q.0.node n ≡ false = q.2 in
-        let e : w ≡ turn_view n w (Good q.0) = rw t in
+        let e : w ≡ turn_view n w (Some q.0) = rw t in
         left_next q.0 w q.1 e
 
     -- no unit
-    pub stopped : d ≡ Bad → broken ≡ view_over n w₀ (decodes limit count p)
+    pub stopped : d ≡ None → broken ≡ view_over n w₀ (decodes limit count p)
     stopped e =
         ap (λ (b : Bool). cond b (view_after n w₀ (decodes limit count p)) broken)
-        (ap (λ (x : Decoded). all is_good (x ∷ rest (i + 1))) (sym e) ∙ ap (all is_good) (sym next) ∙ left.good)
+        (ap (λ (x : Option U.Unit). all is_good (x ∷ rest (i + 1))) (sym e) ∙ ap (all is_good) (sym next) ∙ left.good)
 
   -- units of other nodes
   pub left_skip : (i r : ℕ) (w : View) → Left i w → Skips limit n p count i r → Left r w

@@ -15,8 +15,7 @@ use Rattle.lists.proofs.Flats.{flat_append}
 use Rattle.chip.specs.Geometry.{Geometry}
 use Rattle.pages.specs.declared.unit.Update.{Update}
 use Rattle.pages.specs.declared.unit.Update.TheVariants.{Insert, Delete, Reset}
-use Rattle.pages.specs.declared.unit.Decoded.{Decoded}
-use Rattle.pages.specs.declared.unit.Decoded.TheVariants.{Good, Bad}
+use Rattle.std.proofs.Common.{Option, Some, None}
 use Rattle.pages.specs.declared.header.Head.{Head}
 use Rattle.pages.specs.declared.unit.Unit.{Unit}
 use Rattle.pages.specs.Units.{decodes, encode, Valid}
@@ -28,7 +27,7 @@ use Rattle.views.specs.Table.{Event, event_at, events_of, events, is_good, is_so
 use Rattle.views.proofs.Entries.{LevelView, RisingView, FewView, apply_level, apply_rising, apply_few}
 
 -- ---- an event knows its page
-mapped_at : (p : ℕ) (ds : List Decoded) → All (λ (e : Event). e.place ≡ p) (map (event_at p) ds)
+mapped_at : (p : ℕ) (ds : List (Option Unit)) → All (λ (e : Event). e.place ≡ p) (map (event_at p) ds)
 mapped_at p [] = none
 mapped_at p (d ∷ ds) = more refl (mapped_at p ds)
 
@@ -52,20 +51,20 @@ events_filter limit hit (x ∷ xs) =
     (λ t. rw (t, r, a, filter_all k (All-map (λ e h. ap (λ (p : ℕ). not (hit p)) h ∙ rw t) (events_at limit x))))
 
 -- ---- events are sound where what is decoded is units
-pub sound_events : (p : ℕ) (ds : List Decoded) → all is_sound (map (event_at p) ds) ≡ all is_good ds
+pub sound_events : (p : ℕ) (ds : List (Option Unit)) → all is_sound (map (event_at p) ds) ≡ all is_good ds
 sound_events p [] = refl
 sound_events p (d ∷ ds) = rw (sound_events p ds)
 
 -- ---- the units of a page that is laid out with them
 pub events_laid : (g : Geometry) (limit p c i n : ℕ) (us : List Unit) → c < 2 ^ 32 → All (Valid limit) us
-    → events_of limit (record { place = p; bytes = data_of g c i n us }) ≡ map (event_at p) (map Good us)
+    → events_of limit (record { place = p; bytes = data_of g c i n us }) ≡ map (event_at p) (map Some us)
 unfolding events_of
 events_laid g limit p c i n us l h =
     ap (map (event_at p))
     (ap (λ (x : Head). decodes limit x.units (drop 8 (data_of g c i n us))) (laid_head g c i n (length us) (flat encode us) l)
     ∙ data_units g limit c i n us h)
 
-pub good_sound : (p : ℕ) (us : List Unit) → all is_sound (map (event_at p) (map Good us)) ≡ true
+pub good_sound : (p : ℕ) (us : List Unit) → all is_sound (map (event_at p) (map Some us)) ≡ true
 good_sound p [] = refl
 good_sound p (u ∷ us) = good_sound p us
 
@@ -76,9 +75,9 @@ node_append n es fs = foldl-append (turn n) fresh es fs
 
 -- ---- what every update keeps holds of every node
 module _ (P : View → Type 0) (first : P untouched) (keeps : (w : View) (u : Update) → P w → P (apply w u)) where
-  turn_keeps : (n p : ℕ) (d : Decoded) (s : Node) → P s.now → P (turn_unit n p d s).now
-  turn_keeps n p (Good u) s h = cases (eqb u.node n) (λ t. rw t (keeps s.now u.update h)) (λ t. rw t h)
-  turn_keeps n p Bad s h = h
+  turn_keeps : (n p : ℕ) (d : Option Unit) (s : Node) → P s.now → P (turn_unit n p d s).now
+  turn_keeps n p (Some u) s h = cases (eqb u.node n) (λ t. rw t (keeps s.now u.update h)) (λ t. rw t h)
+  turn_keeps n p None s h = h
 
   fold_keeps : (n : ℕ) (es : List Event) (s : Node) → P s.now → P (foldl (turn n) s es).now
   fold_keeps n [] s h = h
@@ -124,13 +123,13 @@ module _ (hit : ℕ → Bool) where
   updated_near (Delete k) p s r (inr h) = inr (joins_keeps p s.pages h)
   updated_near (Reset l) p s r (inr h) = inl refl
 
-  turn_near : (n p : ℕ) (d : Decoded) (s r : Node) → Near s r → Near (turn_unit n p d s) (turn_unit n p d r)
-  turn_near n p (Good u) s r h = cases (eqb u.node n) (λ t. rw t (updated_near u.update p s r h)) (λ t. rw t h)
-  turn_near n p Bad s r h = h
+  turn_near : (n p : ℕ) (d : Option Unit) (s r : Node) → Near s r → Near (turn_unit n p d s) (turn_unit n p d r)
+  turn_near n p (Some u) s r h = cases (eqb u.node n) (λ t. rw t (updated_near u.update p s r h)) (λ t. rw t h)
+  turn_near n p None s r h = h
 
-  turn_hit : (n p : ℕ) (d : Decoded) (s r : Node) → hit p ≡ true → Near s r → Near (turn_unit n p d s) r
-  turn_hit n p (Good u) s r q h = cases (eqb u.node n) (λ t. rw t (inr (listed_hit u.update p s.pages q))) (λ t. rw t h)
-  turn_hit n p Bad s r q h = h
+  turn_hit : (n p : ℕ) (d : Option Unit) (s r : Node) → hit p ≡ true → Near s r → Near (turn_unit n p d s) r
+  turn_hit n p (Some u) s r q h = cases (eqb u.node n) (λ t. rw t (inr (listed_hit u.update p s.pages q))) (λ t. rw t h)
+  turn_hit n p None s r q h = h
 
   fold_near : (n : ℕ) (es : List Event) (s r : Node) → Near s r
       → Near (foldl (turn n) s es) (foldl (turn n) r (filter (λ (e : Event). not (hit e.place)) es))

@@ -1,6 +1,10 @@
--- What the loops of a node do to its two arrays, and what these hold after an entry is put in, replaced or taken out. Assumes nothing.
-use mathlib.Core.Path.{◌≡◌, refl, sym, ap, ◌∙◌}
-use mathlib.Core.List.{List, [], ◌∷◌}
+-- What is done to the two arrays of a node, and what these hold after an entry is put in, replaced or taken out. Assumes nothing.
+use Rattle.std.proofs.Common.{length-set, length-drop, append_assoc}
+use Rattle.std.proofs.lemmas.List.{drop-take, set-append_left, take_more_set}
+use Rattle.std.proofs.lemmas.List.Edits.{take-paste, length-paste}
+use Rattle.std.specs.List.{copy_within}
+use mathlib.Core.Path.{◌≡◌, refl, sym, ap, ap₂, ◌∙◌}
+use mathlib.Core.List.{List, [], ◌∷◌, ◌++◌}
 use Prim.Native.Nat.{ℕ, zero, suc, ◌+◌, ◌-◌, ◌<◌, ◌≤◌}
 use native.Mathlib.Nat.{not-suc-le-zero, le_of_suc-le-suc}
 use native.Mathlib.Numerals.{add-one}
@@ -29,80 +33,55 @@ pub rank_end : (k n : ℕ) (l : List ℕ) → rank k (drop n (take n l)) ≡ 0
 rank_end k n l = rw (slice_empty n l)
 
 module _ {A : Type 0} where
-  -- ---- the loop of insert_at
-  insert_push_suc : (i : ℕ) (a d : A) (l : List A) → i < length l → insert_index (suc i) (get_or l i d) (set l i a) ≡ insert_index i a l
-  insert_push_suc i a d [] h = absurd (not-suc-le-zero h)
-  insert_push_suc zero a d (x ∷ xs) h = refl
-  insert_push_suc (suc i) a d (x ∷ xs) h = ap (λ (r : List A). x ∷ r) (insert_push_suc i a d xs (le_of_suc-le-suc h))
+  -- an element more at an index, and one less, as what stands before it and behind it
+  insert_split : (p : ℕ) (x : A) (l : List A) → p ≤ length l → insert_index p x l ≡ take p l ++ x ∷ drop p l
+  insert_split zero x l h = refl
+  insert_split (suc p) x [] h = absurd (not-suc-le-zero h)
+  insert_split (suc p) x (y ∷ l) h = ap (λ (r : List A). y ∷ r) (insert_split p x l (le_of_suc-le-suc h))
 
-  -- to insert at i is to put it there and to insert what stood there one place further
-  pub insert_push : (i : ℕ) (a d : A) (l : List A) → i < length l → insert_index (i + 1) (get_or l i d) (set l i a) ≡ insert_index i a l
-  insert_push i a d l h = rw add-one (insert_push_suc i a d l h)
+  remove_split : (p : ℕ) (l : List A) → remove_index p l ≡ take p l ++ drop (suc p) l
+  remove_split p [] = sym (ap (λ (r : List A). r ++ []) (take-nil p))
+  remove_split zero (x ∷ xs) = refl
+  remove_split (suc p) (x ∷ xs) = ap (λ (r : List A). x ∷ r) (remove_split p xs)
 
-  take_insert_end : (a : A) (n m : ℕ) (l : List A) → n ≤ m → n ≤ length l → take n (insert_index m a l) ≡ take n l
-  take_insert_end a zero m l g h = refl
-  take_insert_end a (suc n) m [] g h = absurd (not-suc-le-zero h)
-  take_insert_end a (suc n) zero (x ∷ xs) g h = absurd (not-suc-le-zero g)
-  take_insert_end a (suc n) (suc m) (x ∷ xs) g h = ap (λ (r : List A). x ∷ r) (take_insert_end a n m xs (le_of_suc-le-suc g) (le_of_suc-le-suc h))
-
-  -- ---- the loop of remove_at
-  remove_pull_suc : (i : ℕ) (d : A) (l : List A) → suc i < length l → remove_index (suc i) (set l i (get_or l (suc i) d)) ≡ remove_index i l
-  remove_pull_suc i d [] h = absurd (not-suc-le-zero h)
-  remove_pull_suc zero d (x ∷ []) h = absurd (not-suc-le-zero (le_of_suc-le-suc h))
-  remove_pull_suc zero d (x ∷ y ∷ xs) h = refl
-  remove_pull_suc (suc i) d (x ∷ xs) h = ap (λ (r : List A). x ∷ r) (remove_pull_suc i d xs (le_of_suc-le-suc h))
-
-  -- to remove what stands before i is to put the element at i there and to remove the one at i
-  pub remove_pull : (i : ℕ) (d : A) (l : List A) → 1 ≤ i → i < length l
-      → remove_index (i + 1 - 1) (set l (i - 1) (get_or l i d)) ≡ remove_index (i - 1) l
-  remove_pull i d l p h =
-      let e : i ≡ suc (i - 1) = omega arith in
-      let q : i + 1 - 1 ≡ suc (i - 1) = omega arith in
-      ap (λ (m : ℕ). remove_index m (set l (i - 1) (get_or l i d))) q
-      ∙ ap (λ (m : ℕ). remove_index (suc (i - 1)) (set l (i - 1) (get_or l m d))) e ∙ remove_pull_suc (i - 1) d l (omega arith)
-
-  -- to remove the last element is to take the others
-  pub remove_last : (n : ℕ) (l : List A) → length l ≡ suc n → remove_index n l ≡ take n l
-  remove_last n [] h = absurd (omega arith)
-  remove_last zero (x ∷ []) h = refl
-  remove_last zero (x ∷ y ∷ xs) h = absurd (omega arith)
-  remove_last (suc n) (x ∷ xs) h = ap (λ (r : List A). x ∷ r) (remove_last n xs (omega arith))
-
-  -- ---- the first n of a list with one element more or one less
-  take_insert_suc : (n i : ℕ) (a : A) (l : List A) → i ≤ n → take (suc n) (insert_index i a l) ≡ insert_index i a (take n l)
-  take_insert_suc n zero a l h = refl
-  take_insert_suc zero (suc i) a l h = absurd (not-suc-le-zero h)
-  take_insert_suc (suc n) (suc i) a [] h = refl
-  take_insert_suc (suc n) (suc i) a (x ∷ xs) h = ap (λ (r : List A). x ∷ r) (take_insert_suc n i a xs (le_of_suc-le-suc h))
-
-  take_remove : (n i : ℕ) (l : List A) → i ≤ n → take n (remove_index i l) ≡ remove_index i (take (suc n) l)
-  take_remove n i [] h = take-nil n
-  take_remove n zero (x ∷ xs) h = refl
-  take_remove zero (suc i) (x ∷ xs) h = absurd (not-suc-le-zero h)
-  take_remove (suc n) (suc i) (x ∷ xs) h = ap (λ (r : List A). x ∷ r) (take_remove n i xs (le_of_suc-le-suc h))
-
-  take_pulled : (n i : ℕ) (xs ys : List A) → i ≤ n → n < length ys → remove_index n ys ≡ remove_index i xs → take n ys ≡ remove_index i (take (suc n) xs)
-  take_pulled n i xs ys h g q =
-      sym (take-take n (suc n) ys (omega arith)) ∙ sym (remove_last n (take (suc n) ys) (length-take-le (suc n) ys (omega arith)))
-      ∙ sym (take_remove n n ys (omega arith)) ∙ ap (take n) q ∙ take_remove n i xs h
-
--- what the loop of insert_at leaves
-pub pushed : (n p x i carry : ℕ) (xs ys : List ℕ) → p ≤ n → n < length xs → length ys ≡ length xs → n < i
-    → take (n + 1) (insert_index i carry ys) ≡ take (n + 1) (insert_index p x xs) → Pushed n p x xs ys
-pushed n p x i carry xs ys h g e j q = record {
-  is = sym (take_insert_end carry (n + 1) i ys (omega arith) (omega arith)) ∙ q ∙ rw add-one (take_insert_suc n p x xs h);
-  size = e;
-}
-
--- what the loop of remove_at leaves
-pub pulled : (n p i : ℕ) (xs ys : List ℕ) → p < n → n ≤ length xs → length ys ≡ length xs → i ≡ n → remove_index (i - 1) ys ≡ remove_index p xs
-    → Pulled n p xs ys
-pulled n p i xs ys h g e j q =
-    let s : suc (n - 1) ≡ n = omega arith in
-    let t : i - 1 ≡ n - 1 = omega arith in
+-- the elements of n from p on copied one place up, and x put in their place
+pub pushed : (n p x : ℕ) (xs ys : List ℕ) → p ≤ n → n < length xs → ys ≡ set (copy_within xs p n (p + 1)) p x → Pushed n p x xs ys
+pushed n p x xs ys h g e =
+    let m = n - p in
+    let z = take m (drop p xs) in
+    let l : m ≤ length (drop p xs) = omega (arith, length-drop p xs) in
+    let q : n + 1 ≡ p + 1 + m = omega arith in
+    let s : suc p ≡ p + 1 = omega arith in
+    let t : n ≡ p + m = omega arith in
+    let short : length (take (p + 1) xs) ≡ p + 1 = length-take-le (p + 1) xs (omega arith) in
     record {
-      is = take_pulled (n - 1) p xs ys (omega arith) (omega arith) (ap (λ (m : ℕ). remove_index m ys) (sym t) ∙ q) ∙ ap (λ (m : ℕ). remove_index p (take m xs)) s;
-      size = e;
+      is =
+          ap (take (n + 1)) e
+          ∙ take-set-lt (n + 1) (copy_within xs p n (p + 1)) p x (omega arith)
+          ∙ ap (λ (k : ℕ). set (take k (copy_within xs p n (p + 1))) p x) q
+          ∙ ap (λ (r : List ℕ). set r p x) (take-paste xs (p + 1) (drop p xs) m (omega arith) l)
+          ∙ set-append_left (take (p + 1) xs) z p x (omega arith)
+          ∙ ap (λ (r : List ℕ). r ++ z) (sym (take-set-lt (p + 1) xs p x (omega arith)) ∙ take_more_set xs p x (omega arith))
+          ∙ append_assoc (take p xs) (x ∷ []) z
+          ∙ ap₂ (λ (a b : List ℕ). a ++ x ∷ b) (sym (take-take p n xs h)) (sym (drop-take p m xs) ∙ ap (λ (k : ℕ). drop p (take k xs)) (sym t))
+          ∙ sym (insert_split p x (take n xs) (omega (arith, length-take-le n xs (omega arith))));
+      size = ap length e ∙ length-set (copy_within xs p n (p + 1)) p x ∙ length-paste xs (p + 1) (drop p xs) m (omega arith) l;
+    }
+
+-- the elements of n behind p copied one place down
+pub pulled : (n p : ℕ) (xs ys : List ℕ) → p < n → n ≤ length xs → ys ≡ copy_within xs (p + 1) n p → Pulled n p xs ys
+pulled n p xs ys h g e =
+    let m = n - (p + 1) in
+    let l : m ≤ length (drop (p + 1) xs) = omega (arith, length-drop (p + 1) xs) in
+    let q : n - 1 ≡ p + m = omega arith in
+    let t : n ≡ p + 1 + m = omega arith in
+    record {
+      is =
+          ap₂ take q e
+          ∙ take-paste xs p (drop (p + 1) xs) m (omega arith) l
+          ∙ ap₂ ◌++◌ (sym (take-take p n xs (omega arith))) (sym (drop-take (p + 1) m xs) ∙ ap₂ (λ (i k : ℕ). drop i (take k xs)) (let s : p + 1 ≡ suc p = omega arith in s) (sym t))
+          ∙ sym (remove_split p (take n xs));
+      size = ap length e ∙ length-paste xs p (drop (p + 1) xs) m (omega arith) l;
     }
 
 -- ---- insert_entry and delete_entry on the two lists, by the place of the key

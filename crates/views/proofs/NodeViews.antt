@@ -14,8 +14,7 @@ use Rattle.chip.specs.Page.{Page}
 use Rattle.pages.specs.declared.unit.Update.{Update}
 use Rattle.pages.specs.declared.unit.Update.TheVariants.{Insert, Delete, Reset}
 use Rattle.pages.specs.declared.unit.Unit as U
-use Rattle.pages.specs.declared.unit.Decoded.{Decoded}
-use Rattle.pages.specs.declared.unit.Decoded.TheVariants.{Bad, Good}
+use Rattle.std.proofs.Common.{Option, Some, None}
 use Rattle.pages.specs.Units.{is_reset_value, decode, decodes}
 use Rattle.pages.specs.Data.{head_of}
 use Rattle.pages.proofs.UnitLaws.{ValidReset, told}
@@ -27,20 +26,20 @@ use Rattle.views.proofs.Entries.{by_valid}
 use Rattle.views.proofs.ViewLaws.{updates_of, view_is}
 
 -- ---- a buffer of units
-all_good : (us : List U.Unit) → all is_good (map Good us) ≡ true
+all_good : (us : List U.Unit) → all is_good (map Some us) ≡ true
 all_good [] = refl
 all_good (u ∷ us) = all_good us
 
-updates_good : (n : ℕ) (us : List U.Unit) → updates_of n (map Good us) ≡ own n us
+updates_good : (n : ℕ) (us : List U.Unit) → updates_of n (map Some us) ≡ own n us
 updates_good n [] = refl
 updates_good n (u ∷ us) = ap (λ (vs : List Update). cond (eqb u.node n) (u.update ∷ vs) vs) (updates_good n us)
 
 -- the view of a node after a buffer of units
-pub buffer_good : (limit n count : ℕ) (bytes : List ℕ) (w : View) (us : List U.Unit) → count ≤ 960 → decodes limit count bytes ≡ map Good us
+pub buffer_good : (limit n count : ℕ) (bytes : List ℕ) (w : View) (us : List U.Unit) → count ≤ 960 → decodes limit count bytes ≡ map Some us
     → buffer_view limit n count bytes w ≡ present n w us
 unfolding buffer_view
 buffer_good limit n count bytes w us h e =
-    rw (le-leb count 960 h, e, all_good us) (view_is n (map Good us) w ∙ ap (foldl apply w) (updates_good n us))
+    rw (le-leb count 960 h, e, all_good us) (view_is n (map Some us) w ∙ ap (foldl apply w) (updates_good n us))
 
 -- ---- what holds of no node, and what every update of a node below limit keeps, holds of a node's view
 module _ (limit n : ℕ) (P : View → Type 0) (first : P untouched) (bad : P broken)
@@ -55,12 +54,12 @@ module _ (limit n : ℕ) (P : View → Type 0) (first : P untouched) (bad : P br
   update_kept w (Reset l) q r h = by_valid P w l r (frees q) (resets l q)
 
   -- 12 bytes, a unit or not
-  turn_kept : (w : View) (b : List ℕ) (d : Decoded) → decode limit b ≡ d → P w → P (turn_view n w d)
-  turn_kept w b (Good u) e h =
+  turn_kept : (w : View) (b : List ℕ) (d : Option U.Unit) → decode limit b ≡ d → P w → P (turn_view n w d)
+  turn_kept w b (Some u) e h =
       let t = told limit b u e in
       cases (eqb u.node n)
       (λ s. rw s (update_kept w u.update (omega (arith, t.below, eqb-true u.node n s)) t.reset h)) (λ s. rw s h)
-  turn_kept w b Bad e h = h
+  turn_kept w b None e h = h
 
   after_kept : (count : ℕ) (b : List ℕ) (w : View) → P w → P (view_after n w (decodes limit count b))
   after_kept zero b w h = h

@@ -12,8 +12,8 @@ use Rattle.chip.specs.Geometry.{Geometry}
 use Rattle.chip.specs.Chip.{in_block}
 use Rattle.pages.specs.declared.unit.Update.{Update}
 use Rattle.pages.specs.declared.unit.Update.TheVariants.{Insert, Delete, Reset}
-use Rattle.pages.specs.declared.unit.Decoded.{Decoded}
-use Rattle.pages.specs.declared.unit.Decoded.TheVariants.{Good, Bad}
+use Rattle.std.proofs.Common.{Option, Some, None}
+use Rattle.pages.specs.declared.unit.Unit.{Unit}
 use Rattle.pages.specs.Steps.{Live, commit}
 use Rattle.views.specs.Table.{Event, events_of, events, joins, listed, Node, turn_unit, turn}
 use Rattle.views.proofs.Folds.{events_at}
@@ -37,9 +37,9 @@ module _ (hit : ℕ → Bool) where
   listed_miss (Delete k) p ps h m = joins_miss p ps h m
   listed_miss (Reset l) p ps h m = rw h
 
-  turn_miss : (n p : ℕ) (d : Decoded) (s : Node) → hit p ≡ false → any hit s.pages ≡ false → any hit (turn_unit n p d s).pages ≡ false
-  turn_miss n p (Good u) s h m = cases (eqb u.node n) (λ t. rw t (listed_miss u.update p s.pages h m)) (λ t. rw t m)
-  turn_miss n p Bad s h m = m
+  turn_miss : (n p : ℕ) (d : Option Unit) (s : Node) → hit p ≡ false → any hit s.pages ≡ false → any hit (turn_unit n p d s).pages ≡ false
+  turn_miss n p (Some u) s h m = cases (eqb u.node n) (λ t. rw t (listed_miss u.update p s.pages h m)) (λ t. rw t m)
+  turn_miss n p None s h m = m
 
   fold_miss : (n : ℕ) {es : List Event} (s : Node) → All (λ (e : Event). hit e.place ≡ false) es → any hit s.pages ≡ false
       → any hit (foldl (turn n) s es).pages ≡ false

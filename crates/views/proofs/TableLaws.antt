@@ -16,8 +16,7 @@ use Rattle.lists.proofs.Flats.{flat_append, all_append}
 use Rattle.chip.specs.Geometry.{Geometry, most_pages, page_size}
 use Rattle.chip.proofs.ImageLaws.{length_pages, page_at_lem}
 use Rattle.pages.specs.declared.unit.Unit as U
-use Rattle.pages.specs.declared.unit.Decoded.{Decoded}
-use Rattle.pages.specs.declared.unit.Decoded.TheVariants.{Good, Bad}
+use Rattle.std.proofs.Common.{Option, Some, None}
 use Rattle.pages.specs.Units.{half, decode, decodes}
 use Rattle.views.specs.Table.{Event, event_at, events_of, events, is_good, is_sound, Node, listed, turn_unit, turn}
 use Rattle.views.specs.Stored.{Stores}
@@ -26,11 +25,11 @@ use Rattle.views.proofs.Folds.{sound_events}
 
 -- ---- one unit
 -- the list of its node altered is the unit's turn
-pub turned_unit : (p : ℕ) (u : U.Unit) (d : Decoded) (l s r t : List ℕ) → d ≡ Good u → Becomes u.node (listed u.update p) l s r t
+pub turned_unit : (p : ℕ) (u : U.Unit) (d : Option U.Unit) (l s r t : List ℕ) → d ≡ Some u → Becomes u.node (listed u.update p) l s r t
     → Turned (event_at p d ∷ []) l s r t
 turned_unit p u d l s r t e b m h x st =
     let k = b m h x.pages st in
-    let q : turn_unit m p d x ≡ turn_unit m p (Good u) x = ap (λ (y : Decoded). turn_unit m p y x) e in
+    let q : turn_unit m p d x ≡ turn_unit m p (Some u) x = ap (λ (y : Option U.Unit). turn_unit m p y x) e in
     subst (λ (y : Node). Stores r t m y.pages) (sym q)
     (cases (eqb u.node m) (λ c. rw c (rw c at k)) (λ c. rw c (rw c at k)))
 
@@ -41,7 +40,7 @@ length_decodes limit zero b = refl
 length_decodes limit (suc n) b = ap suc (length_decodes limit n (drop 12 b))
 
 -- the unit at i
-decodes_at : (limit n i : ℕ) (b : List ℕ) → i < n → get_or (decodes limit n b) i Bad ≡ decode limit (drop (12 * i) b)
+decodes_at : (limit n i : ℕ) (b : List ℕ) → i < n → get_or (decodes limit n b) i None ≡ decode limit (drop (12 * i) b)
 decodes_at limit zero i b h = absurd (omega arith)
 decodes_at limit (suc n) zero b h = refl
 decodes_at limit (suc n) (suc i) b h =
@@ -49,7 +48,7 @@ decodes_at limit (suc n) (suc i) b h =
     ∙ ap (decode limit) (drop-drop (12 * i) 12 b ∙ ap (λ (m : ℕ). drop m b) (let e : 12 + 12 * i ≡ 12 * suc i = omega arith in e))
 
 -- units by unit are events by unit
-flat_events : (p : ℕ) (ds : List Decoded) → flat (λ (d : Decoded). event_at p d ∷ []) ds ≡ map (event_at p) ds
+flat_events : (p : ℕ) (ds : List (Option U.Unit)) → flat (λ (d : Option U.Unit). event_at p d ∷ []) ds ≡ map (event_at p) ds
 flat_events p [] = refl
 flat_events p (d ∷ ds) = ap (λ (es : List Event). event_at p d ∷ es) (flat_events p ds)
 
@@ -113,11 +112,11 @@ module _ {A : Type 0} (t : A → Bool) (f : A → List Event) (xs : List A) (l�
 
 -- ---- the loop over the units of a page
 module _ (limit n p : ℕ) (b l₀ s₀ : List ℕ) where
-  abbrev units : List Decoded
+  abbrev units : List (Option U.Unit)
   units = decodes limit n b
 
   abbrev pub Noting : ℕ → List ℕ → List ℕ → Type 0
-  Noting i l s = Passed is_good (λ (d : Decoded). event_at p d ∷ []) units l₀ s₀ i l s
+  Noting i l s = Passed is_good (λ (d : Option U.Unit). event_at p d ∷ []) units l₀ s₀ i l s
 
   abbrev pub Noted : List ℕ → List ℕ → Bool → Type 0
   Noted l s a = Notes (all is_good units) (map (event_at p) units) l₀ s₀ l s a
@@ -125,8 +124,8 @@ module _ (limit n p : ℕ) (b l₀ s₀ : List ℕ) where
   pub noting_start : Noting 0 l₀ s₀
   noting_start = passed_start is_good (λ d. event_at p d ∷ []) units l₀ s₀
 
-  module _ (i : ℕ) (l s : List ℕ) (d : Decoded) (h : i < n) (k : Noting i l s) (e : d ≡ decode limit (take (length b - 12 * i) (drop (12 * i) b))) where
-    this : get_or units i Bad ≡ d
+  module _ (i : ℕ) (l s : List ℕ) (d : Option U.Unit) (h : i < n) (k : Noting i l s) (e : d ≡ decode limit (take (length b - 12 * i) (drop (12 * i) b))) where
+    this : get_or units i None ≡ d
     this =
         decodes_at limit n i b h
         ∙ sym (e ∙ ap (decode limit) (take_all (length b - 12 * i) (drop (12 * i) b) (omega (arith, length-drop (12 * i) b))))
@@ -134,15 +133,15 @@ module _ (limit n p : ℕ) (b l₀ s₀ : List ℕ) where
     fits : i < length units
     fits = rw length_decodes h
 
-    pub noting_next : (r t : List ℕ) (u : U.Unit) → d ≡ Good u → Becomes u.node (listed u.update p) l s r t → Noting (i + 1) r t
+    pub noting_next : (r t : List ℕ) (u : U.Unit) → d ≡ Some u → Becomes u.node (listed u.update p) l s r t → Noting (i + 1) r t
     noting_next r t u q c =
-        passed_next is_good (λ x. event_at p x ∷ []) units l₀ s₀ Bad i l s fits k r t (ap is_good (this ∙ q))
-        (turned_unit p u (get_or units i Bad) l s r t (this ∙ q) c)
+        passed_next is_good (λ x. event_at p x ∷ []) units l₀ s₀ None i l s fits k r t (ap is_good (this ∙ q))
+        (turned_unit p u (get_or units i None) l s r t (this ∙ q) c)
 
-    pub noting_stop : d ≡ Bad → Noted l s false
+    pub noting_stop : d ≡ None → Noted l s false
     noting_stop q =
         rw (← flat_events p units)
-        (passed_stop is_good (λ x. event_at p x ∷ []) units l₀ s₀ Bad i l s fits k (ap is_good (this ∙ q)))
+        (passed_stop is_good (λ x. event_at p x ∷ []) units l₀ s₀ None i l s fits k (ap is_good (this ∙ q)))
 
   pub noting_end : (i : ℕ) (l s : List ℕ) → n ≤ i → Noting i l s → Noted l s true
   noting_end i l s h k =

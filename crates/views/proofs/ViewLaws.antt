@@ -17,8 +17,8 @@ use Rattle.chip.specs.Geometry.{Geometry}
 use Rattle.chip.specs.Page.{Page, is_live}
 use Rattle.pages.specs.declared.unit.Update.{Update}
 use Rattle.pages.specs.declared.unit.Update.TheVariants.{Insert, Delete, Reset}
-use Rattle.pages.specs.declared.unit.Decoded.{Decoded}
-use Rattle.pages.specs.declared.unit.Decoded.TheVariants.{Good, Bad}
+use Rattle.std.proofs.Common.{Option, Some, None}
+use Rattle.pages.specs.declared.unit.Unit as U
 use Rattle.pages.specs.Units.{decodes}
 use Rattle.pages.specs.Data.{head_of, obeys}
 use Rattle.pages.specs.Steps.{Live, live, live_from, before, ordered, refused, stand, without, split_last, steps, last_from, full, of_commit, commit}
@@ -37,21 +37,21 @@ use Rattle.views.proofs.Folds.{sound_events}
 
 -- ---- the units of one page for one node
 -- the updates of node n among what is decoded, in order
-abbrev pub mine : ℕ → Decoded → List Update → List Update
-mine n (Good u) us = cond (eqb u.node n) (u.update ∷ us) us
-mine n Bad us = us
+abbrev pub mine : ℕ → Option U.Unit → List Update → List Update
+mine n (Some u) us = cond (eqb u.node n) (u.update ∷ us) us
+mine n None us = us
 
 -- the same of a whole run
-abbrev pub updates_of : ℕ → List Decoded → List Update
+abbrev pub updates_of : ℕ → List (Option U.Unit) → List Update
 updates_of n [] = []
 updates_of n (d ∷ ds) = mine n d (updates_of n ds)
 
 module _ (n : ℕ) where
   -- a page's turn is that of its updates
-  pub turned_is : (p : ℕ) (ds : List Decoded) (s : Node) → foldl (turn n) s (map (event_at p) ds) ≡ updated_all p s (updates_of n ds)
+  pub turned_is : (p : ℕ) (ds : List (Option U.Unit)) (s : Node) → foldl (turn n) s (map (event_at p) ds) ≡ updated_all p s (updates_of n ds)
   turned_is p [] s = refl
-  turned_is p (Bad ∷ ds) s = turned_is p ds s
-  turned_is p (Good u ∷ ds) s =
+  turned_is p (None ∷ ds) s = turned_is p ds s
+  turned_is p (Some u ∷ ds) s =
       cases (eqb u.node n)
       (λ t. ap (λ (b : Bool). foldl (turn n) (cond b (updated p u.update s) s) (map (event_at p) ds)) t
       ∙ turned_is p ds (updated p u.update s)
@@ -61,10 +61,10 @@ module _ (n : ℕ) where
       ∙ ap (λ (b : Bool). updated_all p s (cond b (u.update ∷ updates_of n ds) (updates_of n ds))) (sym t))
 
   -- the view after a run is that after its updates
-  pub view_is : (ds : List Decoded) (w : View) → view_after n w ds ≡ foldl apply w (updates_of n ds)
+  pub view_is : (ds : List (Option U.Unit)) (w : View) → view_after n w ds ≡ foldl apply w (updates_of n ds)
   view_is [] w = refl
-  view_is (Bad ∷ ds) w = view_is ds w
-  view_is (Good u ∷ ds) w =
+  view_is (None ∷ ds) w = view_is ds w
+  view_is (Some u ∷ ds) w =
       cases (eqb u.node n)
       (λ t. ap (λ (b : Bool). foldl (turn_view n) (cond b (apply w u.update) w) ds) t
       ∙ view_is ds (apply w u.update)
@@ -86,7 +86,7 @@ joins_new p [] h = refl
 joins_new p (q ∷ qs) h = rw (All-head (any_false (eqb p) (q ∷ qs) h))
 
 -- ---- the view from a list of pages, the newest first; f gives what stands on the page at a place
-module _ (n : ℕ) (f : ℕ → List Decoded) where
+module _ (n : ℕ) (f : ℕ → List (Option U.Unit)) where
   -- the oldest page first
   abbrev pub again : List ℕ → View
   again ps = foldl (λ (w : View) (p : ℕ). view_after n w (f p)) untouched (reverse ps)
@@ -151,7 +151,7 @@ apart_live g i (x ∷ xs) =
 -- ---- the view of every node from the pages of its list
 module _ (limit : ℕ) (D : ℕ → List ℕ) where
   -- what is decoded of the page at a place
-  abbrev pub units_at : ℕ → List Decoded
+  abbrev pub units_at : ℕ → List (Option U.Unit)
   units_at p = decodes limit (head_of (D p)).units (drop 8 (D p))
 
   -- the events of a page are what is decoded at its place

@@ -1,7 +1,6 @@
 -- How the code folds the units of one node: the view that its structs and arrays show.
-use Rattle.std.specs.Prelude.{◌≡◌, Bool, true, false, cond, List, [], ℕ, ◌*◌, ◌-◌, ◌<◌, ◌≤◌, eqb, drop, get_or, length, take}
+use Rattle.std.specs.Prelude.{◌≡◌, Bool, true, false, cond, List, [], ℕ, ◌*◌, ◌-◌, ◌<◌, ◌≤◌, eqb, drop, get_or, length, take, Some}
 use Rattle.pages.specs.declared.unit.Unit as U
-use Rattle.pages.specs.declared.unit.Decoded.TheVariants.{Good}
 use Rattle.pages.specs.Units.{decode, decode_kind, word}
 use Rattle.views.specs.declared.node.Node.{Node}
 use Rattle.views.specs.declared.fold.Stage.{Stage}
@@ -53,11 +52,11 @@ pub record IsReset (value : ℕ) (r : Shape) : Type 0 where
 
 -- kind, key and value of the bytes obey the layout, whatever the node
 abbrev pub IsLaid : List ℕ → Type 0
-IsLaid b = (m : ℕ) → (u : U.Unit) × (decode_kind m (get_or b 0 0) (word b 4) (word b 8) ≡ Good u) × (u.node ≡ m)
+IsLaid b = (m : ℕ) → (u : U.Unit) × (decode_kind m (get_or b 0 0) (word b 4) (word b 8) ≡ Some u) × (u.node ≡ m)
 
 -- the bytes are a unit that obeys the layout and is of another node than n
 abbrev pub IsPassed : ℕ → ℕ → List ℕ → Type 0
-IsPassed limit n b = (u : U.Unit) × (decode limit b ≡ Good u) × (eqb u.node n ≡ false)
+IsPassed limit n b = (u : U.Unit) × (decode limit b ≡ Some u) × (eqb u.node n ≡ false)
 
 -- the units of p from i on, below r, are such
 pub record Skips (limit n : ℕ) (p : List ℕ) (count i r : ℕ) : Type 0 where

@@ -1,11 +1,10 @@
 -- The units of the reservation buffer, and the pages of a commit as groups of units, each node in one group.
-use Rattle.std.specs.Prelude.{◌≡◌, Bool, true, false, cond, ℕ, eqb}
+use Rattle.std.specs.Prelude.{◌≡◌, Bool, true, false, cond, ℕ, eqb, Some}
 use mathlib.Core.List.{List, [], ◌∷◌, map, foldl}
 use Rattle.lists.specs.Lists.{All, flat}
 use Rattle.pages.specs.declared.unit.Update.{Update}
 use Rattle.pages.specs.declared.unit.Update.TheVariants.{Insert, Delete, Reset}
 use Rattle.pages.specs.declared.unit.Unit as U
-use Rattle.pages.specs.declared.unit.Decoded.TheVariants.{Good}
 use Rattle.views.specs.Nodes.{View, apply}
 use Rattle.views.specs.Table.{Event, event_at}
 
@@ -28,7 +27,7 @@ abbrev pub unit_for : ℕ → Update → U.Unit
 unit_for n u = record { node = n; update = u }
 
 abbrev pub event_in : Group → Update → Event
-event_in q u = event_at q.place (Good (unit_for q.node u))
+event_in q u = event_at q.place (Some (unit_for q.node u))
 
 -- the units of the groups in order
 abbrev pub events_in : List Group → List Event

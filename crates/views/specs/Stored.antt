@@ -1,11 +1,10 @@
 -- The node table as it is stored in arrays, and a node's view read from its pages and then from the buffer. Defined for any arrays.
-use Rattle.std.specs.Prelude.{◌≡◌, Bool, true, false, cond, ℕ, ◌*◌, ◌≤◌, min, leb, eqb, length, take, drop, get_or}
+use Rattle.std.specs.Prelude.{◌≡◌, Bool, true, false, cond, ℕ, ◌*◌, ◌≤◌, min, leb, eqb, length, take, drop, get_or, Option, Some, None}
 use mathlib.Core.List.{List, [], foldl, reverse}
 use Rattle.lists.specs.Lists.{all, part}
 use Rattle.chip.specs.Geometry.{Geometry}
 use Rattle.chip.specs.Page.{Page}
-use Rattle.pages.specs.declared.unit.Decoded.{Decoded}
-use Rattle.pages.specs.declared.unit.Decoded.TheVariants.{Good, Bad}
+use Rattle.pages.specs.declared.unit.Unit.{Unit}
 use Rattle.pages.specs.Units.{decodes}
 use Rattle.pages.specs.Data.{head_of}
 use Rattle.views.specs.Nodes.{View, untouched, freed, broken, view, apply}
@@ -21,16 +20,16 @@ pub record Stores (lens slots : List ℕ) (n : ℕ) (ps : List ℕ) : Type 0 whe
   pub pages : length ps ≤ 4 → stored_list lens slots n ≡ reverse ps
 
 -- what 12 bytes do to the view of node n: nothing where they are for another node, or no unit
-abbrev pub turn_view : ℕ → View → Decoded → View
-turn_view n w (Good u) = cond (eqb u.node n) (apply w u.update) w
-turn_view n w Bad = w
+abbrev pub turn_view : ℕ → View → Option Unit → View
+turn_view n w (Some u) = cond (eqb u.node n) (apply w u.update) w
+turn_view n w None = w
 
 -- the view of node n after these
-abbrev pub view_after : ℕ → View → List Decoded → View
+abbrev pub view_after : ℕ → View → List (Option Unit) → View
 view_after n w ds = foldl (turn_view n) w ds
 
 -- a view after the units: broken where 12 bytes are no unit
-abbrev pub view_over : ℕ → View → List Decoded → View
+abbrev pub view_over : ℕ → View → List (Option Unit) → View
 view_over n w ds = cond (all is_good ds) (view_after n w ds) broken
 
 -- a view after the units of a page, whatever its bytes: broken where it claims more units than a page holds

@@ -1,13 +1,12 @@
 -- Steps 4 and 5: the units of the standing pages in order make, for each node, its view and its list of pages.
-use Rattle.std.specs.Prelude.{Bool, true, false, cond, ◌&&◌, ℕ, leb, eqb, length, drop}
+use Rattle.std.specs.Prelude.{Bool, true, false, cond, ◌&&◌, ℕ, leb, eqb, length, drop, Option, Some, None}
 use mathlib.Core.List.{List, [], ◌∷◌, map, foldl}
 use Rattle.lists.specs.Lists.{all, tab, flat}
 use Rattle.chip.specs.Geometry.{Geometry}
 use Rattle.chip.specs.Page.{Page}
 use Rattle.pages.specs.declared.unit.Update.{Update}
 use Rattle.pages.specs.declared.unit.Update.TheVariants.{Insert, Delete, Reset}
-use Rattle.pages.specs.declared.unit.Decoded.{Decoded}
-use Rattle.pages.specs.declared.unit.Decoded.TheVariants.{Good, Bad}
+use Rattle.pages.specs.declared.unit.Unit.{Unit}
 use Rattle.pages.specs.Units.{decodes}
 use Rattle.pages.specs.Data.{head_of}
 use Rattle.pages.specs.Steps.{Live, commit, last_from, Stood, refused, stand, steps}
@@ -16,9 +15,9 @@ use Rattle.views.specs.Nodes.{View, untouched, freed, broken, view, apply}
 -- what stands at a place of a page: a unit, or 12 bytes that are none
 pub record Event : Type 0 where
   pub place : ℕ
-  pub unit : Decoded
+  pub unit : Option Unit
 
-abbrev pub event_at : ℕ → Decoded → Event
+abbrev pub event_at : ℕ → Option Unit → Event
 event_at p d = record { place = p; unit = d }
 
 -- the units of a page in order; node numbers are below limit
@@ -30,9 +29,9 @@ abbrev pub events : ℕ → List Live → List Event
 events limit xs = flat (events_of limit) xs
 
 -- it obeys the layout
-abbrev pub is_good : Decoded → Bool
-is_good (Good u) = true
-is_good Bad = false
+abbrev pub is_good : Option Unit → Bool
+is_good (Some u) = true
+is_good None = false
 
 abbrev pub is_sound : Event → Bool
 is_sound e = is_good e.unit
@@ -58,9 +57,9 @@ abbrev pub updated : ℕ → Update → Node → Node
 updated p u s = record { now = apply s.now u; pages = listed u p s.pages }
 
 -- what a unit on page p does to node n: nothing where it is for another node
-abbrev pub turn_unit : ℕ → ℕ → Decoded → Node → Node
-turn_unit n p (Good u) s = cond (eqb u.node n) (updated p u.update s) s
-turn_unit n p Bad s = s
+abbrev pub turn_unit : ℕ → ℕ → Option Unit → Node → Node
+turn_unit n p (Some u) s = cond (eqb u.node n) (updated p u.update s) s
+turn_unit n p None s = s
 
 abbrev pub turn : ℕ → Node → Event → Node
 turn n s e = turn_unit n e.place e.unit s

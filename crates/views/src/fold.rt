@@ -1,15 +1,14 @@
 // One node while its units are folded: its entries stand in two lent arrays, and all else of its view is a small struct.
-ghost use Rattle.std.specs.Prelude.{◌≡◌, true, ◌*◌, ◌≤◌, length};
+ghost use Rattle.std.specs.Prelude.{◌≡◌, true, Some, ◌*◌, ◌≤◌, length};
 ghost use Rattle.pages.specs.Units.{decodes};
 ghost use Rattle.pages.specs.declared.unit.Update.TheVariants.{Insert, Delete};
-ghost use Rattle.pages.specs.declared.unit.Decoded.TheVariants.{Good};
 ghost use Rattle.views.specs.Nodes.{apply};
 ghost use Rattle.views.specs.FoldCode.{view_in, StandsIn, IsReset, IsLaid, IsPassed, Skips};
 ghost use Rattle.views.specs.Stored.{turn_view, view_over};
 
 use crate::node;
 use crate::node::Node;
-use pages::unit::{Decoded, Unit, Update, decode_unit, is_reset_value, read_half, read_word};
+use pages::unit::{Unit, Update, decode_unit, is_reset_value, read_half, read_word};
 
 // No unit yet; freed by its last reset; units without a reset or after one that frees, or above 16 entries since the last one; a level and entries.
 #[derive(Clone, Copy)]
@@ -20,7 +19,7 @@ pub enum Stage {
     Full,
 }
 
-// A node's view so far: its stage, and where that is full the node.
+// A node's view so far: its stage, and where that is full the node. A variant with the node would be copied at each unit (docs/DECISIONS.md 45).
 #[derive(Clone, Copy)]
 pub struct Folded {
     pub stage: Stage,
@@ -52,11 +51,7 @@ fn insert(s: Shape, keys: &mut [u32], values: &mut [u32], key: u32, value: u32) 
     requires { (length keys.old ≡ 17) × (length values.old ≡ 17) × (s.len ≤ 16) }
     ensures { StandsIn result keys.new values.new (apply (view_in s keys.old values.old) (Insert key value)) }
 {
-    let stage = s.stage;
-    match stage {
-        Stage::Untouched => spoil(s),
-        Stage::Freed => spoil(s),
-        Stage::Broken => spoil(s),
+    match s.stage {
         Stage::Full => {
             let len = node::put(keys, values, s.len, key, value);
             if len <= 16 {
@@ -69,6 +64,7 @@ fn insert(s: Shape, keys: &mut [u32], values: &mut [u32], key: u32, value: u32) 
                 spoil(s)
             }
         }
+        _ => spoil(s),
     }
 }
 
@@ -77,11 +73,7 @@ fn delete(s: Shape, keys: &mut [u32], values: &mut [u32], key: u32) -> Shape
     requires { (length keys.old ≡ 17) × (length values.old ≡ 17) × (s.len ≤ 16) }
     ensures { StandsIn result keys.new values.new (apply (view_in s keys.old values.old) (Delete key)) }
 {
-    let stage = s.stage;
-    match stage {
-        Stage::Untouched => spoil(s),
-        Stage::Freed => spoil(s),
-        Stage::Broken => spoil(s),
+    match s.stage {
         Stage::Full => {
             let len = node::take_out(keys, values, s.len, key);
             Shape {
@@ -90,6 +82,7 @@ fn delete(s: Shape, keys: &mut [u32], values: &mut [u32], key: u32) -> Shape
                 len,
             }
         }
+        _ => spoil(s),
     }
 }
 
@@ -126,16 +119,13 @@ fn apply(s: Shape, keys: &mut [u32], values: &mut [u32], u: Update) -> Shape
 // A node after one more unit, which counts where it is of `node`. Another node's unit gives the shape back field by field, without its padding.
 fn turn(s: Shape, keys: &mut [u32], values: &mut [u32], u: Unit, node: u32) -> Shape
     requires { (length keys.old ≡ 17) × (length values.old ≡ 17) × (s.len ≤ 16) }
-    ensures { StandsIn result keys.new values.new (turn_view node (view_in s keys.old values.old) (Good u)) }
+    ensures { StandsIn result keys.new values.new (turn_view node (view_in s keys.old values.old) (Some u)) }
 {
-    let n = u.node;
-    if n == node {
-        let update = u.update;
-        apply(s, keys, values, update)
+    if u.node == node {
+        apply(s, keys, values, u.update)
     } else {
-        let stage = s.stage;
         Shape {
-            stage,
+            stage: s.stage,
             level: s.level,
             len: s.len,
         }
@@ -147,20 +137,12 @@ fn is_laid(bytes: &[u8]) -> bool
     requires { 12 ≤ length bytes.now }
     ensures { result ≡ true → IsLaid bytes.now }
 {
-    let kind = bytes[0];
-    if kind == 1 {
-        return true;
+    match bytes[0] {
+        1 => true,
+        2 => read_word(bytes, 8) == 0,
+        3 => read_word(bytes, 4) == 0 && is_reset_value(read_word(bytes, 8)),
+        _ => false,
     }
-    let value = read_word(bytes, 8);
-    if kind == 2 {
-        return value == 0;
-    }
-    if kind == 3 {
-        if read_word(bytes, 4) == 0 {
-            return is_reset_value(value);
-        }
-    }
-    false
 }
 
 // Is this a unit of another node? It is tested, and not decoded.
@@ -168,14 +150,8 @@ fn is_passed(bytes: &[u8], node: u32, limit: u32) -> bool
     requires { 12 ≤ length bytes.now }
     ensures { result ≡ true → IsPassed limit node bytes.now }
 {
-    if bytes[1] != 0 {
-        return false;
-    }
     let n = read_half(bytes, 2);
-    if n == node {
-        return false;
-    }
-    if n >= limit {
+    if bytes[1] != 0 || n == node || n >= limit {
         return false;
     }
     is_laid(bytes)
@@ -186,14 +162,12 @@ fn skip(units: &[u8], from: usize, count: usize, node: u32, limit: u32) -> usize
     requires { (12 * count ≤ length units.now) × (from ≤ count) }
     ensures { Skips limit node units.now count from result }
 {
-    let mut i = from;
-    while i < count {
+    for i in from..count {
         if !is_passed(&units[12 * i..], node, limit) {
             return i;
         }
-        i += 1;
     }
-    i
+    count
 }
 
 // A node after the first `count` units, of which those of `node` count; broken where 12 bytes are no unit.
@@ -211,10 +185,10 @@ pub fn fold_units(
         (view_over node (view_in s keys.old values.old) (decodes limit count units.now)) }
 {
     let mut g = s;
+    // Not a `for`: `skip` moves the index past the units of other nodes, which are not decoded (docs/DECISIONS.md 66).
     let mut i = skip(units, 0, count, node, limit);
     while i < count {
-        let d = decode_unit(&units[12 * i..], limit);
-        let Decoded::Good(u) = d else {
+        let Some(u) = decode_unit(&units[12 * i..], limit) else {
             return spoil(g);
         };
         g = turn(g, keys, values, u, node);

@@ -4,7 +4,9 @@
 pub mod buffer;
 pub mod fold;
 pub mod node;
+pub mod nodes;
 pub mod read;
 pub mod table;
+pub mod units;
 pub mod view;
 pub mod well;

@@ -3,7 +3,7 @@ ghost use Rattle.std.specs.Prelude.{◌≡◌, [], ◌+◌, ◌-◌, ◌<◌, �
 ghost use Rattle.views.specs.Nodes.{insert_entry, delete_entry};
 ghost use Rattle.views.specs.NodeCode.{entries_in, entries_of, rank, Pushed, Pulled, HoldsEntries, Shows};
 
-// The entries are the first `len` keys, each with the value at its index.
+// The entries are the first `len` keys, each with the value at its index: memory is fixed, and the two arrays are lent (docs/DECISIONS.md 45).
 #[derive(Clone, Copy)]
 pub struct Node {
     pub level: u32,
@@ -17,14 +17,12 @@ fn position(keys: &[u32], len: usize, key: u32) -> usize
     requires { len ≤ length keys.now }
     ensures { (result ≡ rank key (take len keys.now)) × (result ≤ len) }
 {
-    let mut i: usize = 0;
-    while i < len {
+    for i in 0..len {
         if key <= keys[i] {
             return i;
         }
-        i += 1;
     }
-    i
+    len
 }
 
 // `x` at `p`, and what stood from there on among the first `len` one place further.
@@ -32,14 +30,8 @@ fn insert_at(a: &mut [u32], len: usize, p: usize, x: u32)
     requires { (p ≤ len) × (len < length a.old) }
     ensures { Pushed len p x a.old a.new }
 {
-    let mut carry = x;
-    let mut i = p;
-    while i <= len {
-        let t = a[i];
-        a[i] = carry;
-        carry = t;
-        i += 1;
-    }
+    a.copy_within(p..len, p + 1);
+    a[p] = x;
 }
 
 // Without what stands at `p`: what follows among the first `len` moves down.
@@ -47,11 +39,7 @@ fn remove_at(a: &mut [u32], len: usize, p: usize)
     requires { (p < len) × (len ≤ length a.old) }
     ensures { Pulled len p a.old a.new }
 {
-    let mut i = p + 1;
-    while i < len {
-        a[i - 1] = a[i];
-        i += 1;
-    }
+    a.copy_within(p + 1..len, p);
 }
 
 // An entry more, at `p`. Returns how many there are then.
@@ -80,13 +68,9 @@ pub fn put(keys: &mut [u32], values: &mut [u32], len: usize, key: u32, value: u3
     ensures { HoldsEntries result keys.new values.new (insert_entry key value (entries_in len keys.old values.old)) }
 {
     let p = position(keys, len, key);
-    if p < len {
-        if keys[p] == key {
-            values[p] = value;
-            len
-        } else {
-            gain(keys, values, len, p, key, value)
-        }
+    if p < len && keys[p] == key {
+        values[p] = value;
+        len
     } else {
         gain(keys, values, len, p, key, value)
     }
@@ -98,12 +82,8 @@ pub fn take_out(keys: &mut [u32], values: &mut [u32], len: usize, key: u32) -> u
     ensures { HoldsEntries result keys.new values.new (delete_entry key (entries_in len keys.old values.old)) × (result ≤ len) }
 {
     let p = position(keys, len, key);
-    if p < len {
-        if keys[p] == key {
-            lose(keys, values, len, p)
-        } else {
-            len
-        }
+    if p < len && keys[p] == key {
+        lose(keys, values, len, p)
     } else {
         len
     }

@@ -4,6 +4,7 @@ ghost use Rattle.lists.specs.Lists.{part};
 ghost use Rattle.chip.specs.Geometry.{Fits, most_pages, page_size};
 ghost use Rattle.views.specs.ReadCode.{Reads};
 
+use crate::nodes::Nodes;
 use crate::{table, well};
 use chip::geometry::{CHIP_PAGES, Geometry};
 
@@ -26,5 +27,11 @@ pub fn read_nodes(
     if !table::note_all(geometry, image, order, from, to, limit, lens, slots) {
         return false;
     }
-    well::all_well(geometry, image, lens, slots, limit)
+    well::all_well(Nodes {
+        geometry,
+        image,
+        lens,
+        slots,
+        limit,
+    })
 }

@@ -8,7 +8,7 @@ ghost use Rattle.views.specs.PassCode.{Becomes, Empty, Notes, Passes, is_readabl
 
 use chip::geometry::{CHIP_PAGES, Geometry};
 use pages::standing::PLACES;
-use pages::unit::{Decoded, Unit, Update, decode_unit, read_half};
+use pages::unit::{Unit, Update, decode_unit, read_half};
 
 // The list of node `n` made this page alone.
 fn begin(lens: &mut [u32], slots: &mut [u32], n: usize, page: u32)
@@ -49,10 +49,8 @@ fn note(lens: &mut [u32; 256], slots: &mut [u32; 1024], unit: Unit, page: u32)
     ensures { Becomes unit.node (listed unit.update page) lens.old slots.old lens.new slots.new }
 {
     let n = unit.node as usize;
-    let update = unit.update;
-    match update {
-        Update::Insert(_, _) => join(lens, slots, n, page),
-        Update::Delete(_) => join(lens, slots, n, page),
+    match unit.update {
+        Update::Insert(_, _) | Update::Delete(_) => join(lens, slots, n, page),
         Update::Reset(_) => begin(lens, slots, n, page),
     }
 }
@@ -70,14 +68,11 @@ fn note_units(
     ensures { Notes (all is_good (decodes limit count units.now)) (map (event_at place) (decodes limit count units.now))
         lens.old slots.old lens.new slots.new result }
 {
-    let mut i: usize = 0;
-    while i < count {
-        let d = decode_unit(&units[12 * i..], limit);
-        let Decoded::Good(u) = d else {
+    for i in 0..count {
+        let Some(u) = decode_unit(&units[12 * i..], limit) else {
             return false;
         };
         note(lens, slots, u, place);
-        i += 1;
     }
     true
 }
@@ -140,13 +135,11 @@ fn note_keys(
     ensures { Passes geometry image.now keys.now limit
         lens.old slots.old lens.new slots.new result }
 {
-    let mut i = 0;
-    while i < keys.len() {
-        let place = (keys[i] % PLACES) as u32;
+    for key in keys {
+        let place = (*key % PLACES) as u32;
         if !note_at(geometry, image, place, limit, lens, slots) {
             return false;
         }
-        i += 1;
     }
     true
 }

@@ -1,5 +1,5 @@
 // A node's view read again: from the pages of its list, the oldest first, and then from the buffer.
-ghost use Rattle.std.specs.Prelude.{◌≡◌, cond, [], ◌+◌, ◌*◌, ◌%◌, ◌<◌, ◌≤◌, length, get_or};
+ghost use Rattle.std.specs.Prelude.{◌≡◌, cond, [], ◌+◌, ◌*◌, ◌<◌, ◌≤◌, length, get_or};
 ghost use Rattle.chip.specs.Geometry.{Fits, page_size};
 ghost use Rattle.chip.specs.Chip.{pages_of};
 ghost use Rattle.views.specs.FoldCode.{view_in, folded_in, Stands, StandsIn, is_freed_stage};
@@ -9,16 +9,9 @@ ghost use Rattle.views.specs.ReadCode.{ReadNode};
 use crate::fold;
 use crate::fold::{Folded, Shape, Stage};
 use crate::node::Node;
+use crate::nodes::Nodes;
 use chip::geometry::Geometry;
 use pages::unit;
-
-// What a node is read with: the geometry of the chip, how many units the buffer has, and how many nodes there are.
-#[derive(Clone, Copy)]
-pub struct Scope {
-    pub geometry: Geometry,
-    pub count: usize,
-    pub limit: u32,
-}
 
 // A node's view, and its length on flash: how many pages its list has, none where they leave it freed.
 #[derive(Clone, Copy)]
@@ -52,25 +45,25 @@ fn page_view(
 
 // A node after the units of page `at`; a page that is not on the chip adds nothing.
 fn place_view(
-    geometry: Geometry,
+    nodes: Nodes<'_>,
     s: Shape,
     keys: &mut [u32],
     values: &mut [u32],
-    image: &[u8],
     at: u32,
-    node: u32,
-    limit: u32,
+    number: u32,
 ) -> Shape
-    requires { (length keys.old ≡ 17) × (length values.old ≡ 17) × (s.len ≤ 16) × (length image.now % page_size geometry ≡ 0) × Fits geometry }
-    ensures { StandsIn result keys.new values.new
-        (page_view geometry limit node (view_in s keys.old values.old) (get_or (pages_of geometry image.now) at [])) }
+    requires { (length keys.old ≡ 17) × (length values.old ≡ 17) × (s.len ≤ 16) }
+    ensures { let n = nodes.entry in StandsIn result keys.new values.new (page_view n.geometry n.limit number (view_in s keys.old values.old)
+        (get_or (pages_of n.geometry n.image.now) at [])) }
 {
+    let geometry = nodes.geometry;
+    let image = nodes.image;
     let p = at as usize;
     let size = geometry.area + geometry.spare;
     if p < image.len() / size {
         let a = p * size;
         let e = a + size;
-        page_view(geometry, s, keys, values, &image[a..e], node, limit)
+        page_view(geometry, s, keys, values, &image[a..e], number, nodes.limit)
     } else {
         s
     }
@@ -83,8 +76,7 @@ pub fn used_slots(lens: &[u32], slots: &[u32], node: u32) -> usize
 {
     let n = node as usize;
     if n < 256 {
-        let len = lens[n] as usize;
-        if len < 4 { len } else { 4 }
+        (lens[n] as usize).min(4)
     } else {
         0
     }
@@ -99,33 +91,23 @@ fn slot(slots: &[u32], node: u32, i: usize) -> u32
     slots[base + i]
 }
 
-// The view of `node` from the pages of its list, its entries put into `keys` and `values`.
-fn slots_view(
-    geometry: Geometry,
-    keys: &mut [u32],
-    values: &mut [u32],
-    image: &[u8],
-    lens: &[u32],
-    slots: &[u32],
-    node: u32,
-    limit: u32,
-) -> Shape
-    requires { (length keys.old ≡ 17) × (length values.old ≡ 17)
-        × (length image.now % page_size geometry ≡ 0) × (length lens.now ≡ 256) × (length slots.now ≡ 1024) × Fits geometry }
-    ensures { StandsIn result keys.new values.new
-        (list_view geometry limit (pages_of geometry image.now) node (stored_list lens.now slots.now node)) }
+// The view of a node from the pages of its list, its entries put into `keys` and `values`.
+fn slots_view(nodes: Nodes<'_>, keys: &mut [u32], values: &mut [u32], number: u32) -> Shape
+    requires { (length keys.old ≡ 17) × (length values.old ≡ 17) }
+    ensures { let n = nodes.entry in StandsIn result keys.new values.new (list_view n.geometry n.limit (pages_of n.geometry n.image.now) number
+        (stored_list n.lens.now n.slots.now number)) }
 {
-    let used = used_slots(lens, slots, node);
+    let lens = nodes.lens;
+    let slots = nodes.slots;
+    let used = used_slots(lens, slots, number);
     let mut s = Shape {
         stage: Stage::Untouched,
         level: 0,
         len: 0,
     };
-    let mut i: usize = 0;
-    while i < used {
-        let at = slot(slots, node, i);
-        s = place_view(geometry, s, keys, values, image, at, node, limit);
-        i += 1;
+    for i in 0..used {
+        let at = slot(slots, number, i);
+        s = place_view(nodes, s, keys, values, at, number);
     }
     s
 }
@@ -144,30 +126,14 @@ fn whole(s: Shape, keys: [u32; 17], values: [u32; 17]) -> Folded
     Folded { stage, node }
 }
 
-// The view of `node` from the pages of its list, the oldest first.
-pub fn list_view(
-    geometry: Geometry,
-    image: &[u8],
-    lens: &[u32; 256],
-    slots: &[u32; 1024],
-    node: u32,
-    limit: u32,
-) -> Folded
-    requires { (length image.now % page_size geometry ≡ 0) × Fits geometry }
-    ensures { Stands result (list_view geometry limit (pages_of geometry image.now) node (stored_list lens.now slots.now node)) }
+// The view of a node from the pages of its list, the oldest first.
+pub fn list_view(nodes: Nodes<'_>, number: u32) -> Folded
+    ensures { let n = nodes.entry in Stands result (list_view n.geometry n.limit (pages_of n.geometry n.image.now) number
+        (stored_list n.lens.now n.slots.now number)) }
 {
     let mut keys: [u32; 17] = [0; 17];
     let mut values: [u32; 17] = [0; 17];
-    let s = slots_view(
-        geometry,
-        &mut keys,
-        &mut values,
-        image,
-        lens,
-        slots,
-        node,
-        limit,
-    );
+    let s = slots_view(nodes, &mut keys, &mut values, number);
     whole(s, keys, values)
 }
 
@@ -198,61 +164,42 @@ fn counted_pages(stage: Stage, used: usize) -> u32
     ensures { (result ≡ cond (is_freed_stage stage) 0 used) × (result ≤ 4) }
 {
     match stage {
-        Stage::Untouched => used as u32,
         Stage::Freed => 0,
-        Stage::Broken => used as u32,
-        Stage::Full => used as u32,
+        _ => used as u32,
     }
 }
 
-// The view of `node`: from its pages, and then from the first units of the buffer, as many as the scope says; and its length on flash.
-pub fn read_node(
-    image: &[u8],
-    lens: &[u32; 256],
-    slots: &[u32; 1024],
-    buffer: &[u8; 11520],
-    scope: Scope,
-    node: u32,
-) -> Reading
-    requires { (length image.now % page_size scope.geometry ≡ 0) × Fits scope.geometry }
-    ensures { ReadNode scope.geometry scope.limit (pages_of scope.geometry image.now) lens.now slots.now scope.count
-        buffer.now node result }
+// The view of a node: from its pages, and then from the first `count` units of the buffer; and its length on flash.
+pub fn read_node(nodes: Nodes<'_>, buffer: &[u8; 11520], count: usize, number: u32) -> Reading
+    ensures { let n = nodes.entry in ReadNode n.geometry n.limit (pages_of n.geometry n.image.now) n.lens.now n.slots.now count buffer.now
+        number result }
 {
-    let geometry = scope.geometry;
-    let limit = scope.limit;
     let mut keys: [u32; 17] = [0; 17];
     let mut values: [u32; 17] = [0; 17];
-    let s = slots_view(
-        geometry,
-        &mut keys,
-        &mut values,
-        image,
-        lens,
-        slots,
-        node,
-        limit,
-    );
-    let used = used_slots(lens, slots, node);
+    let s = slots_view(nodes, &mut keys, &mut values, number);
+    let lens = nodes.lens;
+    let slots = nodes.slots;
+    let used = used_slots(lens, slots, number);
     let stage = s.stage;
     let pages = counted_pages(stage, used);
-    let t = buffer_view(s, &mut keys, &mut values, buffer, scope.count, node, limit);
+    let t = buffer_view(
+        s,
+        &mut keys,
+        &mut values,
+        buffer,
+        count,
+        number,
+        nodes.limit,
+    );
     let folded = whole(t, keys, values);
     Reading { folded, pages }
 }
 
-// The view of `node` alone.
-pub fn node_view(
-    image: &[u8],
-    lens: &[u32; 256],
-    slots: &[u32; 1024],
-    buffer: &[u8; 11520],
-    scope: Scope,
-    node: u32,
-) -> Folded
-    requires { (length image.now % page_size scope.geometry ≡ 0) × Fits scope.geometry }
-    ensures { Stands result (node_view scope.geometry scope.limit (pages_of scope.geometry image.now) lens.now slots.now scope.count
-        buffer.now node) }
+// The view of a node alone.
+pub fn node_view(nodes: Nodes<'_>, buffer: &[u8; 11520], count: usize, number: u32) -> Folded
+    ensures { let n = nodes.entry in Stands result (node_view n.geometry n.limit (pages_of n.geometry n.image.now) n.lens.now n.slots.now count
+        buffer.now number) }
 {
-    let r = read_node(image, lens, slots, buffer, scope, node);
+    let r = read_node(nodes, buffer, count, number);
     r.folded
 }

@@ -1,19 +1,15 @@
 use Rattle.std.proofs.Common.{sym, ◌∙◌, eq-eqb, ne_eqb}
 use Rattle.chip.proofs.BlockLaws.{blank_block}
 use Rattle.chip.proofs.block.erase.Goals as goal
+use Rattle.chip.proofs.block.erase.Goals.{in-Whole, in-Torn+then-torn-ne0, in-Torn+else-torn-ne0, in-Nothing}
 
-pub returns-then-torn-eq0 : goal.returns-then-torn-eq0
-returns-then-torn-eq0 c = let out = sym c.next.ensures ∙ c.in-Torn.is in
-    record { told = c.tell-told.ensures; left = rw (out, eq-eqb _ _ c.if-torn-eq0.true) }
-
-pub returns-in-Whole : goal.returns-in-Whole
-returns-in-Whole c = let out = sym c.next.ensures ∙ c.in-Whole.is in
-    record { told = c.tell-told.ensures; left = rw out (c.blank_from.ensures ∙ blank_block c.args.geometry c.args.block.now c.requires.0) }
-
-pub returns-else-torn-eq0 : goal.returns-else-torn-eq0
-returns-else-torn-eq0 c = let out = sym c.next.ensures ∙ c.in-Torn.is in
-    record { told = c.tell-told.ensures; left = rw (out, ne_eqb _ _ c.if-torn-eq0.false) c.fill_torn.ensures }
-
-pub returns-in-Nothing : goal.returns-in-Nothing
-returns-in-Nothing c = let out = sym c.next.ensures ∙ c.in-Nothing.is in
-    record { told = c.tell-told.ensures; left = rw out }
+pub returns : goal.returns
+returns c = record {
+  told = c.tell.ensures;
+  left = elim c.match-next.branch [
+    | in-Whole w ↦ rw (w.block-is, sym c.next.ensures ∙ w.in-Whole.is) (w.fill.ensures.after (λ y e. e) ∙ blank_block c.args.geometry c.args.block.now c.requires.0)
+    | in-Torn+then-torn-ne0 w ↦ rw (w.block-is, sym c.next.ensures ∙ w.in-Torn.is, ne_eqb _ _ w.if-torn-ne0.true) w.fill_torn.ensures
+    | in-Torn+else-torn-ne0 w ↦ rw (w.block-is, sym c.next.ensures ∙ w.in-Torn.is, eq-eqb _ _ w.if-torn-ne0.false)
+    | in-Nothing w ↦ rw (w.block-is, sym c.next.ensures ∙ w.in-Nothing.is)
+  ];
+}

@@ -1,43 +1,59 @@
-use Rattle.std.proofs.Common.{ℕ, ◌*◌, ◌<◌, [], length, sym, refl, ap, ◌∙◌, arith, take_all, rules}
-use native.Mathlib.Nat.{add-sub_cancel_left}
-use Rattle.lists.specs.Lists.{cut, part}
-use Rattle.lists.proofs.Parts.{cut_at, length_cut}
+use Rattle.std.proofs.Common.{ℕ, ◌<◌, ◌*◌, [], length, drop, sym, ap, ◌∙◌, arith, take_all, rules}
+use Rattle.std.specs.Slice.Iter.{chunks_exact_rest}
+use Rattle.lists.specs.Lists.{cut}
+use Rattle.lists.proofs.Parts.{length_cut}
 use Rattle.chip.specs.Geometry.{page_size}
 use Rattle.chip.specs.Page.{is_free}
 use Rattle.chip.specs.SetCode.{set_of}
 use Rattle.chip.proofs.SetLaws.{set_more, set_same}
 use Rattle.chip.proofs.ImageLaws.{block_cut}
-use Rattle.chip.proofs.Sizes.{page_in}
+use Rattle.chip.proofs.Pieces.{next_piece, last_piece}
+use Rattle.chip.proofs.Sizes.{page_pos}
 use Rattle.chip.proofs.block.free_set.Goals as goal
-use Rattle.chip.proofs.block.free_set.Goals.{then-is_free, else-is_free}
 
 pub loop-i-init : goal.loop-i-init
 unfolding set_of
-loop-i-init c = (search rules, refl)
+loop-i-init c = search rules
 
-pub overflow_mul-a : goal.overflow_mul-a
-overflow_mul-a c = search (page_in c.args.geometry c.loop-i.i (omega arith), rules)
+pub overflow_shl-free : goal.overflow_shl-free
+overflow_shl-free c = let s = c.in-Some.ensures.steps in
+    let p = next_piece (page_size c.args.geometry) c.args.geometry.pages c.loop-i.i-iterator.count c.args.block.now (page_pos c.args.geometry c.requires.1) c.requires.0
+    c.in-Some.page.now (chunks_exact_rest c.next.new.self.iter) (sym c.loop-i.invariant.rest ∙ s.0.1.0) (s.0.1.1 ∙ c.loop-i.invariant.size) in
+    omega arith
 
-pub overflow_add-end : goal.overflow_add-end
-overflow_add-end c = search (page_in c.args.geometry c.loop-i.i (omega arith), rules)
-
-pub slice_bounds-is_free-end : goal.slice_bounds-is_free-end
-slice_bounds-is_free-end c = search (page_in c.args.geometry c.loop-i.i (omega arith), rules)
+pub loop-i-preserved-then-is_free : goal.loop-i-preserved-then-is_free
+loop-i-preserved-then-is_free c = let s = c.in-Some.ensures.steps in
+    let size : ℕ = page_size c.args.geometry in
+    let ps = cut size c.args.geometry.pages c.args.block.now in
+    let p = next_piece size c.args.geometry.pages c.loop-i.i-iterator.count c.args.block.now (page_pos c.args.geometry c.requires.1) c.requires.0
+    c.in-Some.page.now (chunks_exact_rest c.next.new.self.iter) (sym c.loop-i.invariant.rest ∙ s.0.1.0) (s.0.1.1 ∙ c.loop-i.invariant.size) in
+    let below : c.loop-i.i-iterator.count < length ps = rw (length_cut size c.args.geometry.pages c.args.block.now) p.below in
+    record {
+      size = s.0.0 ∙ c.loop-i.invariant.size;
+      rest = p.rest ∙ ap (λ (n : ℕ). drop (n * size) c.args.block.now) (sym s.2);
+      within = omega arith;
+      free = rw (s.1, s.2) (set_more is_free ps [] c.loop-i.i-iterator.count c.loop-i.free below c.loop-i.invariant.free (omega (arith, c.requires.1)) (ap is_free p.stands ∙ sym c.is_free.ensures ∙ c.if-is_free.true));
+    }
 
 pub loop-i-preserved : goal.loop-i-preserved
-loop-i-preserved c = let size : ℕ = page_size c.args.geometry in
+loop-i-preserved c = let s = c.in-Some.ensures.steps in
+    let size : ℕ = page_size c.args.geometry in
     let ps = cut size c.args.geometry.pages c.args.block.now in
-    let h : c.loop-i.i < c.args.geometry.pages = omega arith in
-    let below : c.loop-i.i < length ps = rw (length_cut size c.args.geometry.pages c.args.block.now) h in
-    let is =
-    ap is_free (cut_at size c.args.geometry.pages c.loop-i.i c.args.block.now [] h)
-    ∙ ap (λ (m : ℕ). is_free (part (c.loop-i.i * size) m c.args.block.now)) (sym (add-sub_cancel_left (c.loop-i.i * size) size))
-    ∙ sym c.is_free.ensures in
-    elim c.if-is_free.branch [
-      | then-is_free w ↦ (search rules, w.free-is ∙ set_more is_free ps [] c.loop-i.i c.loop-i.free below c.loop-i.invariant.1 (omega (arith, c.requires.1)) (is ∙ w.if-is_free.true))
-      | else-is_free w ↦ (search rules, w.free-is ∙ set_same is_free ps [] c.loop-i.i c.loop-i.free below c.loop-i.invariant.1 (is ∙ w.if-is_free.false))
-    ]
+    let p = next_piece size c.args.geometry.pages c.loop-i.i-iterator.count c.args.block.now (page_pos c.args.geometry c.requires.1) c.requires.0
+    c.in-Some.page.now (chunks_exact_rest c.next.new.self.iter) (sym c.loop-i.invariant.rest ∙ s.0.1.0) (s.0.1.1 ∙ c.loop-i.invariant.size) in
+    let below : c.loop-i.i-iterator.count < length ps = rw (length_cut size c.args.geometry.pages c.args.block.now) p.below in
+    record {
+      size = s.0.0 ∙ c.loop-i.invariant.size;
+      rest = p.rest ∙ ap (λ (n : ℕ). drop (n * size) c.args.block.now) (sym s.2);
+      within = omega arith;
+      free = rw s.2 (set_same is_free ps [] c.loop-i.i-iterator.count c.loop-i.free below c.loop-i.invariant.free (ap is_free p.stands ∙ sym c.is_free.ensures ∙ c.if-is_free.false));
+    }
 
 pub returns : goal.returns
-returns c = c.loop-i.invariant.1
-    ∙ ap (set_of is_free) (take_all c.loop-i.i (cut (page_size c.args.geometry) c.args.geometry.pages c.args.block.now) (rw (length_cut (page_size c.args.geometry) c.args.geometry.pages c.args.block.now) (omega arith)) ∙ sym (block_cut c.args.geometry c.args.block.now c.requires.1 c.requires.0))
+returns c = let s = c.in-None.ensures.steps in
+    let size : ℕ = page_size c.args.geometry in
+    let n : ℕ = c.args.geometry.pages in
+    let all = last_piece size n c.loop-i.i-iterator.count c.args.block.now (page_pos c.args.geometry c.requires.1) c.requires.0
+    (rw (← c.loop-i.invariant.rest, ← c.loop-i.invariant.size) s.0.1.0) c.loop-i.invariant.within in
+    c.loop-i.invariant.free
+    ∙ ap (set_of is_free) (take_all c.loop-i.i-iterator.count (cut size n c.args.block.now) (rw (length_cut size n c.args.block.now) (omega arith)) ∙ sym (block_cut c.args.geometry c.args.block.now c.requires.1 c.requires.0))

@@ -1,11 +1,8 @@
 use Rattle.std.proofs.Common.{ℕ, ◌+◌, ◌-◌, ◌*◌, ◌/◌, ◌≤◌, length, refl, arith, rules}
 use Rattle.chip.specs.Geometry.{page_size, block_size}
 use Rattle.chip.proofs.ImageLaws.{block_stepped}
-use Rattle.chip.proofs.Sizes.{block_most, block_within, whole_pages}
+use Rattle.chip.proofs.Sizes.{block_within, whole_pages}
 use Rattle.chip.proofs.image.erase.Goals as goal
-
-pub overflow_mul-size : goal.overflow_mul-size
-overflow_mul-size c = search (block_most c.args.geometry c.requires.3, rules)
 
 pub overflow_mul-a : goal.overflow_mul-a
 overflow_mul-a c =

@@ -1,4 +1,4 @@
-use Rattle.std.proofs.Common.{◌≡◌, ℕ, ◌+◌, ◌*◌, ◌/◌, ◌≤◌, length, get_or, refl, ◌∙◌, rules}
+use Rattle.std.proofs.Common.{◌≡◌, ℕ, ◌+◌, ◌*◌, ◌/◌, ◌≤◌, length, get_or, refl, ◌∙◌}
 use Rattle.lists.specs.Lists.{part}
 use Rattle.lists.proofs.Parts.{length_part}
 use Rattle.chip.specs.Geometry.{page_size}
@@ -8,21 +8,6 @@ use Rattle.chip.proofs.PageLaws.{length_marked}
 use Rattle.chip.proofs.ImageLaws.{page_stepped}
 use Rattle.chip.proofs.Sizes.{page_end, whole_pages}
 use Rattle.chip.proofs.image.set_mark.Goals as goal
-
-pub overflow_mul-a : goal.overflow_mul-a
-overflow_mul-a c =
-    let ends : c.args.at * page_size c.args.geometry + page_size c.args.geometry ≤ length c.args.image.now = page_end c.args.geometry (length c.args.image.now) c.args.at c.requires.0 in
-    search (ends, rules)
-
-pub overflow_add-e : goal.overflow_add-e
-overflow_add-e c =
-    let ends : c.args.at * page_size c.args.geometry + page_size c.args.geometry ≤ length c.args.image.now = page_end c.args.geometry (length c.args.image.now) c.args.at c.requires.0 in
-    search (ends, rules)
-
-pub slice_bounds-set_mark-end : goal.slice_bounds-set_mark-end
-slice_bounds-set_mark-end c =
-    let ends : c.args.at * page_size c.args.geometry + page_size c.args.geometry ≤ length c.args.image.now = page_end c.args.geometry (length c.args.image.now) c.args.at c.requires.0 in
-    search (ends, rules)
 
 pub returns : goal.returns
 returns c =

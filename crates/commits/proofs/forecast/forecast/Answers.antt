@@ -1,18 +1,22 @@
-use mathlib.Core.Path.{◌≡◌}
-use Prim.Native.Nat.{ℕ, ◌<◌}
+use mathlib.Core.Path.{refl}
 use native.Mathlib.Omega.{arith}
 use Rattle.commits.proofs.ForecastLaws.{forecasts_none, forecasts_some}
 use Rattle.commits.proofs.forecast.forecast.Goals as goal
 
-some : {n : ℕ} → (n ≡ 0 → ⊥) → 0 < n
-some h = omega arith
+pub returns-in_err-plan : goal.returns-in_err-plan
+returns-in_err-plan c = rw c.from_residual.ensures (forecasts_none c.in_err-plan.ensures refl)
 
-pub returns-then-plan-eq0 : goal.returns-then-plan-eq0
-returns-then-plan-eq0 c = rw c.nothing-ops.ensures (forecasts_none c.make-plan.ensures c.if-plan-eq0.true)
+pub overflow_cast-pages : goal.overflow_cast-pages
+overflow_cast-pages c = let m = c.in_ok-plan.ensures.made _ refl in
+    record { fits = omega (arith, m.decision.2.few, c.requires.2) }
 
 pub overflow_cast-erases : goal.overflow_cast-erases
-overflow_cast-erases c = let l = c.make-plan.ensures.laid (some c.if-plan-eq0.false) in
-    record { fits = omega (arith, l.most) }
+overflow_cast-erases c = let m = c.in_ok-plan.ensures.made _ refl in
+    record { fits = omega (arith, m.laid.most) }
+
+pub overflow_mul-result : goal.overflow_mul-result
+overflow_mul-result c = let m = c.in_ok-plan.ensures.made _ refl in
+    record { fits = omega (arith, m.decision.2.few, c.requires.2) }
 
 pub returns : goal.returns
-returns c = forecasts_some c.make-plan.ensures (some c.if-plan-eq0.false)
+returns c = forecasts_some (c.in_ok-plan.ensures.made _ refl)

@@ -1,9 +1,13 @@
-use Prim.Native.Nat.{◌-◌, ◌≤◌}
+use mathlib.Core.Path.{◌≡◌}
+use Prim.Native.Nat.{◌*◌}
+use lib.ListN.{drop, length, take}
+use Rattle.std.specs.Slice.Iter.{chunks_exact_rest, chunks_exact_size}
 use Rattle.contents.proofs.KeepLaws.{Keeping}
 use Rattle.contents.proofs.own.keep_own.Given as goal
 
-abbrev pub invariant-loop-i : goal.invariant-loop-i
-invariant-loop-i l = (l.i ≤ l.count) × Keeping l.limit l.number l.count l.buffer l.initial.units l.i l.k l.units
-
-abbrev pub decreases-loop-i : goal.decreases-loop-i
-decreases-loop-i l = l.count - l.i
+abbrev pub invariant-loop-bytes : goal.invariant-loop-bytes
+invariant-loop-bytes l = record {
+  size : chunks_exact_size l.bytes-iterator ≡ 12;
+  rest : chunks_exact_rest l.bytes-iterator ≡ drop (12 * length l.yielded) (take (12 * l.fn.count) l.buffer);
+  keeping : Keeping l.limit l.number l.fn.count l.buffer l.initial.units (length l.yielded) l.k l.units;
+}

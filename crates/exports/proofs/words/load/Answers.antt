@@ -2,4 +2,4 @@ use Rattle.exports.proofs.WordLaws.{loaded}
 use Rattle.exports.proofs.words.load.Goals as goal
 
 pub returns : goal.returns
-returns c = loaded c.args.words.now _ _ _ _ c.part_in-nand.ensures c.wide.ensures c.wide-2.ensures
+returns c = loaded c.args.words.now _ _ c.part_in-nand.ensures c.fits-words

@@ -1,16 +1,12 @@
-use borrow.Author.Rules.{rules}
-use Rattle.frames.proofs.Digits.{stops, goes, ends}
+use Rattle.std.proofs.Common.{◌∙◌, rules}
+use borrow.Author.Tests.{tests}
+use Rattle.std.proofs.lemmas.Iterator.{YieldsList-from_slice}
+use Rattle.std.proofs.lemmas.Iterator.Search.{all_from_yields_List}
+use Rattle.chip.proofs.PageLaws.{list_all_same}
+use Rattle.frames.specs.Frames.{is_digit}
 use Rattle.frames.proofs.frame.all_digits.Goals as goal
 
-pub returns-then-digit-eq16 : goal.returns-then-digit-eq16
-returns-then-digit-eq16 c = stops _ c.loop-i.i c.digit.result c.loop-i-test.true c.digit.ensures.0 c.if-digit-eq16.true c.loop-i.invariant.1
-
-pub loop-i-preserved : goal.loop-i-preserved
-loop-i-preserved c = (
-  search rules,
-  goes _ c.loop-i.i c.digit.result c.loop-i-test.true c.digit.ensures.0 c.digit.ensures.1
-      c.if-digit-eq16.false c.loop-i.invariant.1,
-)
-
 pub returns : goal.returns
-returns c = ends _ c.loop-i.i c.loop-i-test.false c.loop-i.invariant.1
+returns c =
+    all_from_yields_List is_digit _ _ _ c.all.ensures.ran (YieldsList-from_slice c.args.s.now cc) (λ x b q k. search (rules, tests))
+    ∙ list_all_same is_digit c.args.s.now

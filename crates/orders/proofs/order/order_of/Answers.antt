@@ -1,15 +1,15 @@
-use borrow.Author.Rules.{rules}
-use mathlib.Core.Path.{◌≡◌}
-use native.Mathlib.Omega.{arith}
-use lib.ListN.{length}
+use mathlib.Core.Path.{ap, ◌∙◌}
+use Rattle.std.specs.Prelude.{option_and_then}
+use Rattle.orders.specs.Orders.{ordered}
 use Rattle.orders.proofs.OrderLaws.{too_long, in_full}
 use Rattle.orders.proofs.order.order_of.Goals as goal
 
-pub returns-then-len-gt18 : goal.returns-then-len-gt18
-returns-then-len-gt18 c = too_long c.args.line c.if-len-gt18.true
+pub returns-in_err-bytes : goal.returns-in_err-bytes
+returns-in_err-bytes c = rw c.from_residual.ensures (too_long c.args.line c.in_err-bytes.ensures)
 
-pub slice_bounds-order_in-end : goal.slice_bounds-order_in-end
-slice_bounds-order_in-end c = let s : length c.args.line.bytes ≡ 18 = search rules in omega arith
+pub returns-in_err-fields_of : goal.returns-in_err-fields_of
+returns-in_err-fields_of c =
+    rw c.from_residual-in_err-fields_of.ensures (in_full c.args.line _ _ c.in_ok-bytes.ensures (ap (option_and_then ordered) c.in_err-fields_of.ensures))
 
 pub returns : goal.returns
-returns c = in_full c.args.line c.order_in.result c.if-len-gt18.false c.order_in.ensures
+returns c = in_full c.args.line _ _ c.in_ok-bytes.ensures (c.ordered.ensures ∙ ap (option_and_then ordered) c.in_ok-fields_of.ensures)

@@ -1,10 +1,7 @@
 use borrow.Author.Rules.{rules}
-use Rattle.orders.proofs.ReplyLaws.{both, length_bytes}
+use Rattle.orders.proofs.ReplyLaws.{length_bytes}
 use Rattle.orders.proofs.reply.put_shown.Goals as goal
 
 pub put_feed-requires : goal.put_feed-requires
 put_feed-requires c = let k = length_bytes c.args.bytes.now in
     search rules
-
-pub returns : goal.returns
-returns c = both c.put_number-a.ensures (both c.put_bytes-b.ensures c.put_feed.ensures)

@@ -6,6 +6,6 @@ pub returns-then-value-le3 : goal.returns-then-value-le3
 unfolding is_reset_value
 returns-then-value-le3 c = search (le-leb, lt-leb)
 
-pub returns : goal.returns
+pub returns-else-value-le3 : goal.returns-else-value-le3
 unfolding is_reset_value
-returns c = search (le-leb, lt-leb)
+returns-else-value-le3 c = search (le-leb, lt-leb)

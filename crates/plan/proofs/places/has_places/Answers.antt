@@ -22,5 +22,5 @@ overflow_add-result c =
 
 pub returns : goal.returns
 returns c = let ps = pages_of c.args.geometry c.args.image.now in
-    let m = found_low c.args.geometry c.args.head c.excess-more.result c.put_free-n.result ps _ (omega (arith, c.put_free-n.ensures.1, c.put_free-n.ensures.3, c.requires.3.pages_most)) c.put_free-n.ensures.0 in
-    enough_found c.args.need (c.args.width * c.args.geometry.pages) c.put_free-n.result (length (free_pages c.args.geometry ps c.args.head)) m.1 (rw (sym c.excess-more.ensures) m.2)
+    let m = found_low c.args.geometry c.args.head c.saturating_sub-more.result c.put_free-n.result ps _ (omega (arith, c.put_free-n.ensures.1, c.put_free-n.ensures.3, c.requires.3.pages_most)) c.put_free-n.ensures.0 in
+    enough_found c.args.need (c.args.width * c.args.geometry.pages) c.put_free-n.result (length (free_pages c.args.geometry ps c.args.head)) m.1 (rw (sym c.saturating_sub-more.ensures) m.2)

@@ -1,19 +1,18 @@
-use mathlib.Core.Path.{refl, sym, ap, ◌∙◌}
-use mathlib.Core.Bool.{Bool, cond}
-use mathlib.Core.List.{[], ◌∷◌, ◌++◌}
+use mathlib.Core.Path.{sym, ap, ◌∙◌}
 use Prim.Native.Nat.{ℕ, ◌+◌, ◌*◌, ◌≤◌}
 use native.Mathlib.Nat.{add-sub_cancel_left}
 use native.Mathlib.Omega.{arith}
-use lib.ListN.{take}
 use Rattle.lists.specs.Lists.{filter}
 use Rattle.chip.specs.Geometry.{most_pages}
 use Rattle.chip.specs.Chip.{pages_of}
 use Rattle.journal.specs.Plan.{count_from, free_at}
+use Rattle.plan.specs.SurveyCode.{Pushes}
 use Rattle.plan.proofs.PlaceLaws.{free_enough, free_over, free_pages_is}
-use Rattle.plan.proofs.MarkLaws.{push_next}
+use Rattle.plan.proofs.MarkLaws.{push_next, pushes_then, pushes_else}
 use Rattle.chip.proofs.Sizes.{block_low}
 use borrow.Author.Rules.{rules}
 use Rattle.plan.proofs.places.put_free.Goals as goal
+use Rattle.plan.proofs.places.put_free.Goals.{then-is_free_at, else-is_free_at}
 
 pub overflow_mul-first : goal.overflow_mul-first
 overflow_mul-first c =
@@ -29,46 +28,35 @@ pub loop-p-init : goal.loop-p-init
 loop-p-init c = (
   omega arith,
   omega arith,
-  omega arith,
-  omega arith,
-  refl,
   ap (λ (k : ℕ). filter (free_at (pages_of c.args.geometry c.args.image.now)) (count_from (c.args.at * c.args.geometry.pages) k)) (add-sub_cancel_left (c.args.at * c.args.geometry.pages) c.args.geometry.pages)
       ∙ sym (free_pages_is c.args.geometry (pages_of c.args.geometry c.args.image.now) c.args.at),
 )
 
 pub returns-then-n-most : goal.returns-then-n-most
 returns-then-n-most c = (
-  free_enough (free_at (pages_of c.args.geometry c.args.image.now)) c.args.most c.loop-p.p (c.args.at * c.args.geometry.pages + c.args.geometry.pages) c.loop-p.n c.loop-p.places _ (omega arith) c.loop-p.invariant.5 (omega arith),
+  free_enough (free_at (pages_of c.args.geometry c.args.image.now)) c.args.most c.loop-p.p (c.args.at * c.args.geometry.pages + c.args.geometry.pages) c.loop-p.n c.loop-p.places _ (omega arith) c.loop-p.invariant.2 (omega arith),
   omega arith,
   omega arith,
-  c.loop-p.invariant.4,
+  c.loop-p.auto.places,
 )
-
-pub overflow_cast-p : goal.overflow_cast-p
-overflow_cast-p c =
-    let low : c.args.at * c.args.geometry.pages + c.args.geometry.pages ≤ most_pages = block_low c.args.geometry c.requires.3 c.args.at c.requires.1 in
-    search (low, rules)
-
-pub overflow_add-p : goal.overflow_add-p
-overflow_add-p c =
-    let low : c.args.at * c.args.geometry.pages + c.args.geometry.pages ≤ most_pages = block_low c.args.geometry c.requires.3 c.args.at c.requires.1 in
-    search (low, rules)
 
 pub loop-p-preserved : goal.loop-p-preserved
-loop-p-preserved c = (
-  omega arith,
-  omega arith,
-  omega (arith, c.push_if-n.ensures.high),
-  omega (arith, c.push_if-n.ensures.high, c.if-n-most.false),
-  search rules,
-  push_next (free_at (pages_of c.args.geometry c.args.image.now)) c.loop-p.p (c.args.at * c.args.geometry.pages + c.args.geometry.pages) c.loop-p.n c.push_if-n.result c.loop-p.places _ _ c.loop-p-test.true c.loop-p.invariant.5
-      (c.push_if-n.ensures.list ∙ ap (λ (t : Bool). take c.loop-p.n c.loop-p.places ++ cond t (c.loop-p.p ∷ []) []) c.is_free_at.ensures),
-)
+loop-p-preserved c =
+    let pushes : Pushes (free_at (pages_of c.args.geometry c.args.image.now) c.loop-p.p) c.loop-p.p c.loop-p.places c.if-is_free_at.places c.loop-p.n c.if-is_free_at.n =
+    elim c.if-is_free_at.branch [
+      | then-is_free_at w ↦ pushes_then (omega arith) (sym c.is_free_at.ensures ∙ w.if-is_free_at.true) w.places-is w.n-is
+      | else-is_free_at w ↦ pushes_else (sym c.is_free_at.ensures ∙ w.if-is_free_at.false) w.places-is w.n-is
+    ] in (
+      omega (arith, pushes.high),
+      omega (arith, pushes.high, c.if-n-most.false),
+      push_next (free_at (pages_of c.args.geometry c.args.image.now)) c.loop-p.p (c.args.at * c.args.geometry.pages + c.args.geometry.pages) c.loop-p.n c.if-is_free_at.n c.loop-p.places _ _ c.loop-p-test.true c.loop-p.invariant.2
+          pushes.list,
+    )
 
 pub returns : goal.returns
 returns c = (
-  free_over (free_at (pages_of c.args.geometry c.args.image.now)) c.args.most c.loop-p.p (c.args.at * c.args.geometry.pages + c.args.geometry.pages) c.loop-p.n c.loop-p.places _ (omega arith) c.loop-p.invariant.5 c.loop-p-test.false c.loop-p.invariant.3,
+  free_over (free_at (pages_of c.args.geometry c.args.image.now)) c.args.most c.loop-p.p (c.args.at * c.args.geometry.pages + c.args.geometry.pages) c.loop-p.n c.loop-p.places _ (omega arith) c.loop-p.invariant.2 c.loop-p-test.false c.loop-p.invariant.1,
   omega arith,
-  c.loop-p.invariant.3,
-  c.loop-p.invariant.4,
+  c.loop-p.invariant.1,
+  c.loop-p.auto.places,
 )

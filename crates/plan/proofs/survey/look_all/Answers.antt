@@ -15,7 +15,7 @@ use Rattle.plan.proofs.survey.look_all.Goals as goal
 
 pub loop-at-init : goal.loop-at-init
 loop-at-init c = let none = sym (look_start c.args.geometry (pages_of c.args.geometry c.args.image.now) (length c.args.image.now / page_size c.args.geometry) (omega (arith, length_pages c.args.geometry c.args.image.now))) in
-    (omega arith, refl, c.none_yet-z.ensures ∙ ap (λ (l : List Live). last_in (ordered l)) none, ap (λ (l : List Live). mark_held c.args.geometry c.args.commit l c.args.marks.now) none)
+    (omega arith, refl, ap (λ (l : List Live). last_in (ordered l)) none, ap (λ (l : List Live). mark_held c.args.geometry c.args.commit l c.args.marks.now) none)
 
 pub overflow_mul-a : goal.overflow_mul-a
 overflow_mul-a c =

@@ -11,6 +11,3 @@ use Rattle.plan.proofs.survey.look_all.Given as goal
 abbrev pub invariant-loop-at : goal.invariant-loop-at
 invariant-loop-at l = (l.at ≤ length l.image / page_size l.geometry) × (length l.marks ≡ length l.initial.marks) × (l.z ≡ last_in (ordered (live_at l.geometry (pages_of l.geometry l.image) l.at)))
     × (l.marks ≡ mark_held l.geometry l.commit (live_at l.geometry (pages_of l.geometry l.image) l.at) l.initial.marks)
-
-abbrev pub decreases-loop-at : goal.decreases-loop-at
-decreases-loop-at l = l.at

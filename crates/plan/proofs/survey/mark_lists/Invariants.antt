@@ -11,6 +11,3 @@ use Rattle.plan.proofs.survey.mark_lists.Given as goal
 abbrev pub invariant-loop-n : goal.invariant-loop-n
 invariant-loop-n l = (l.n ≤ l.limit) × (length l.marks ≡ length l.initial.marks)
     × (foldl (mark l.geometry) l.marks (flat (stored_list l.lens l.slots) (count_from l.n (l.limit - l.n))) ≡ foldl (mark l.geometry) l.initial.marks (flat (stored_list l.lens l.slots) (count_from 0 l.limit)))
-
-abbrev pub decreases-loop-n : goal.decreases-loop-n
-decreases-loop-n l = l.limit - l.n

@@ -4,8 +4,8 @@ use Rattle.chip.proofs.Sizes.{blocks_whole}
 use Rattle.renewal.proofs.MakeLaws.{laid_anew, records_fit}
 use Rattle.renewal.proofs.make.lay_anew.Goals as goal
 
-pub gather-count-requires : goal.gather-count-requires
-gather-count-requires c = (blocks_whole c.args.geometry (length c.args.image.now) c.args.blocks c.requires.0, c.requires.2)
+pub invariant_of-nodes : goal.invariant_of-nodes
+invariant_of-nodes c = record { fits = c.requires.2; whole = blocks_whole c.args.geometry (length c.args.image.now) c.args.blocks c.requires.0 }
 
 pub lay_tree-requires : goal.lay_tree-requires
 lay_tree-requires c = (c.gather-count.ensures.few, omega (arith, c.requires.1), records_fit c.requires.1 c.requires.3 c.requires.4 c.gather-count.ensures)

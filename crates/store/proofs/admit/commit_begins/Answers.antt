@@ -1,29 +1,25 @@
-use mathlib.Core.Path.{◌≡◌, ap, ◌∙◌}
+use mathlib.Core.Path.{◌≡◌}
 use native.Mathlib.Omega.{arith}
 use Rattle.store.specs.AdmitCode.{tests_of, denied, idle, full, plans}
-use Rattle.store.specs.Answers.{refusal_in}
-use Rattle.store.proofs.UpdateTests.{number_for}
+use Rattle.store.proofs.AnswerLaws.{passed_up}
+use Rattle.store.proofs.UpdateTests.{refused_for, passed_for}
 use Rattle.store.proofs.admit.commit_begins.Goals as goal
 
-pub returns-then-number-gt0 : goal.returns-then-number-gt0
-returns-then-number-gt0 c =
-    let told : (c.number.result ≡ tests_of c.args.numbers c.args.len c.args.torn) = c.number.ensures ∙ ap refusal_in c.commit_tests-answer.ensures ∙ number_for _ in
-    denied _ (omega (arith, c.if-number-gt0.true, told)) c.commit_tests-answer.ensures
+pub returns-in_err-commit_tests : goal.returns-in_err-commit_tests
+returns-in_err-commit_tests c = let e = (rw c.in_err-commit_tests.was at c.commit_tests.ensures) in
+    rw (passed_up c.from_residual.result c.in_err-commit_tests.field-0.0 c.from_residual.ensures.1) (denied _ (refused_for _ _ e) e)
 
 pub returns-then-numbers-eq0 : goal.returns-then-numbers-eq0
 returns-then-numbers-eq0 c =
-    let told : (c.number.result ≡ tests_of c.args.numbers c.args.len c.args.torn) = c.number.ensures ∙ ap refusal_in c.commit_tests-answer.ensures ∙ number_for _ in
-    let past : (tests_of c.args.numbers c.args.len c.args.torn ≡ 0) = omega (arith, c.if-number-gt0.false, told) in
+    let past : (tests_of c.args.numbers c.args.len c.args.torn ≡ 0) = passed_for _ (rw c.in_ok-commit_tests.was at c.commit_tests.ensures) in
     idle past (omega (arith, c.if-numbers-eq0.true))
 
 pub returns-then-numbers-gt-UNITS : goal.returns-then-numbers-gt-UNITS
 returns-then-numbers-gt-UNITS c =
-    let told : (c.number.result ≡ tests_of c.args.numbers c.args.len c.args.torn) = c.number.ensures ∙ ap refusal_in c.commit_tests-answer.ensures ∙ number_for _ in
-    let past : (tests_of c.args.numbers c.args.len c.args.torn ≡ 0) = omega (arith, c.if-number-gt0.false, told) in
+    let past : (tests_of c.args.numbers c.args.len c.args.torn ≡ 0) = passed_for _ (rw c.in_ok-commit_tests.was at c.commit_tests.ensures) in
     full past (omega (arith, c.if-numbers-eq0.false)) (omega (arith, c.if-numbers-gt-UNITS.true))
 
 pub returns : goal.returns
 returns c =
-    let told : (c.number.result ≡ tests_of c.args.numbers c.args.len c.args.torn) = c.number.ensures ∙ ap refusal_in c.commit_tests-answer.ensures ∙ number_for _ in
-    let past : (tests_of c.args.numbers c.args.len c.args.torn ≡ 0) = omega (arith, c.if-number-gt0.false, told) in
+    let past : (tests_of c.args.numbers c.args.len c.args.torn ≡ 0) = passed_for _ (rw c.in_ok-commit_tests.was at c.commit_tests.ensures) in
     plans past (omega (arith, c.if-numbers-eq0.false)) (omega (arith, c.if-numbers-gt-UNITS.false))

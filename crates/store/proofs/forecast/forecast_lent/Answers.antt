@@ -1,24 +1,29 @@
-use mathlib.Core.Path.{subst}
+use mathlib.Core.Bool.{false}
 use Prim.Native.Nat.{◌<◌}
 use lib.ListN.{length}
+use Rattle.std.specs.Prelude.{Ok, Err}
 use Rattle.chip.specs.Geometry.{geometry_of, page_size}
-use Rattle.store.specs.declared.admit.Beginning.{Beginning}
 use Rattle.store.specs.AdmitCode.{CommitBegins}
 use Rattle.store.specs.Parts.{with_free}
+use Rattle.store.proofs.AnswerLaws.{passed_up}
 use Rattle.store.proofs.CommitTests.{begins_free}
-use Rattle.store.proofs.ForecastState.{forecast_ends}
+use Rattle.store.proofs.ForecastState.{forecast_denied, forecast_rests}
 use borrow.Author.Rules.{rules}
 use Rattle.store.proofs.forecast.forecast_lent.Goals as goal
 
-pub forecast_pending-requires : goal.forecast_pending-requires
-forecast_pending-requires c =
-    let begins : (CommitBegins c.args.numbers (length c.args.image.now) (page_size (geometry_of c.args.numbers.nand)) c.commit_begins.result) = (rw c.page_size-torn.ensures at c.commit_begins.ensures) in
-    subst (λ (r : Beginning). CommitBegins c.args.numbers (length c.args.image.now) (page_size (geometry_of c.args.numbers.nand)) r) c.in-Plans.is begins
-
-pub returns-in-Ends : goal.returns-in-Ends
-returns-in-Ends c free erases =
+pub returns-in_err-commit_begins : goal.returns-in_err-commit_begins
+returns-in_err-commit_begins c free erases =
     let low : c.args.numbers.commit < 4294967296 = search rules in
-    let begins : (CommitBegins c.args.numbers (length c.args.image.now) (page_size (geometry_of c.args.numbers.nand)) c.commit_begins.result) = (rw c.page_size-torn.ensures at c.commit_begins.ensures) in
-    rw c.quiet.ensures
-    (forecast_ends (with_free c.args.numbers free) c.args.buffer.now c.args.lens.now c.args.slots.now erases c.args.image.now _ low
-    (begins_free c.args.numbers free _ _ _ (subst (λ (r : Beginning). CommitBegins c.args.numbers (length c.args.image.now) (page_size (geometry_of c.args.numbers.nand)) r) c.in-Ends.is begins)))
+    let begun : CommitBegins c.args.numbers (length c.args.image.now) (page_size (geometry_of c.args.numbers.nand)) (Err c.in_err-commit_begins.field-0.0) = (rw (c.in_err-commit_begins.was, c.page_size-torn.ensures) at c.commit_begins.ensures) in
+    rw (passed_up c.from_residual.result c.in_err-commit_begins.field-0.0 c.from_residual.ensures.1)
+    (forecast_denied (with_free c.args.numbers free) c.args.buffer.now c.args.lens.now c.args.slots.now erases c.args.image.now low _ (begins_free c.args.numbers free _ _ _ begun))
+
+pub forecast_pending-requires : goal.forecast_pending-requires
+forecast_pending-requires c = (rw (c.in_ok-commit_begins.was, c.if-branch.true, c.page_size-torn.ensures) at c.commit_begins.ensures)
+
+pub returns-else-branch : goal.returns-else-branch
+returns-else-branch c free erases =
+    let low : c.args.numbers.commit < 4294967296 = search rules in
+    let begun : CommitBegins c.args.numbers (length c.args.image.now) (page_size (geometry_of c.args.numbers.nand)) (Ok false) = (rw (c.in_ok-commit_begins.was, c.if-branch.false, c.page_size-torn.ensures) at c.commit_begins.ensures) in
+    rw c.nothing.ensures
+    (forecast_rests (with_free c.args.numbers free) c.args.buffer.now c.args.lens.now c.args.slots.now erases c.args.image.now low (begins_free c.args.numbers free _ _ _ begun))

@@ -29,4 +29,4 @@ returns c =
     let size-x : length (entries_of c.args.x) ≡ c.args.x.len = length_entries c.args.x (search rules) (search rules) (omega (arith, c.requires)) in
     let size-y : length (entries_of c.args.y) ≡ c.args.y.len = length_entries c.args.y (search rules) (search rules) (omega (arith, c.requires)) in
     balance_join c.args.pair c.args.len c.args.x c.args.y size-x size-y c.args.count c.if-both-gt16.false c.args.buffer.now c.args.free.now _ _ c.join-used.result _ c.join-used.ensures.0 c.join-used.ensures.1
-    (c.has_room.ensures.fits c.if-not-has_room.false).0 refl refl refl refl
+    (c.has_room.ensures.fits c.if-not-has_room.false).0 refl refl refl

@@ -9,35 +9,37 @@ use Rattle.tree.specs.Tree as T
 use Rattle.lists.proofs.Tests.{and_left}
 use Prim.Native.Nat.{suc, ◌-◌}
 use Rattle.tree.proofs.check.+subtrees_visit.Goals as goal
+use Rattle.tree.proofs.check.+subtrees_visit.Goals.{visit-then-not-own-via-then-not-own, visit-then-not-own-via-else-not-own+then-not-mark}
 
-pub subtrees-returns-then-len-i : goal.subtrees-returns-then-len-i
-subtrees-returns-then-len-i t c = kids_none (pages_table c.args.geometry c.args.image.now c.args.lens.now c.args.slots.now c.args.limit) c.args.level c.args.hi c.args.n.len c.args.i c.args.n.keys c.args.n.values c.args.seen.now c.args.seen.now c.if-len-i.true
+pub subtrees-returns-then-n-i : goal.subtrees-returns-then-n-i
+subtrees-returns-then-n-i t c = kids_none (pages_table c.args.nodes.geometry c.args.nodes.image.now c.args.nodes.lens.now c.args.nodes.slots.now c.args.nodes.limit) c.args.level c.args.hi c.args.n.len c.args.i c.args.n.keys c.args.n.values c.args.seen.now c.args.seen.now c.if-n-i.true
 
-pub subtrees-returns-then-not-tree : goal.subtrees-returns-then-not-tree
-subtrees-returns-then-not-tree t c = kids_stop (pages_table c.args.geometry c.args.image.now c.args.lens.now c.args.slots.now c.args.limit) c.args.level c.args.hi c.args.n.len c.args.i c.args.n.keys c.args.n.values c.args.seen.now _
-    c.if-len-i.false (omega arith) (omega arith) c.end_at-end.result c.end_at-end.ensures.0 (walk_as c.if-not-tree.true c.visit-tree.ensures)
+pub subtrees-returns-else-visit : goal.subtrees-returns-else-visit
+subtrees-returns-else-visit t c = walk_as (sym c.if-visit.false) (kids_stop (pages_table c.args.nodes.geometry c.args.nodes.image.now c.args.nodes.lens.now c.args.nodes.slots.now c.args.nodes.limit) c.args.level c.args.hi c.args.n.len c.args.i c.args.n.keys c.args.n.values c.args.seen.now _
+    c.if-n-i.false (omega arith) (omega arith) c.end_at-end.result c.end_at-end.ensures.0 (walk_as c.if-visit.false c.visit.ensures))
 
-pub subtrees-returns : goal.subtrees-returns
-subtrees-returns t c = kids_next (pages_table c.args.geometry c.args.image.now c.args.lens.now c.args.slots.now c.args.limit) c.args.level c.args.hi c.args.n.len c.args.i c.args.n.keys c.args.n.values c.args.seen.now _
-    c.if-len-i.false (omega arith) (omega arith) c.end_at-end.result c.end_at-end.ensures.0 _ c.subtrees.result (walk_as c.if-not-tree.false c.visit-tree.ensures) c.subtrees.ensures
+pub subtrees-returns-then-visit : goal.subtrees-returns-then-visit
+subtrees-returns-then-visit t c = kids_next (pages_table c.args.nodes.geometry c.args.nodes.image.now c.args.nodes.lens.now c.args.nodes.slots.now c.args.nodes.limit) c.args.level c.args.hi c.args.n.len c.args.i c.args.n.keys c.args.n.values c.args.seen.now _
+    c.if-n-i.false (omega arith) (omega arith) c.end_at-end.result c.end_at-end.ensures.0 _ c.subtrees.result (walk_as c.if-visit.true c.visit.ensures) c.subtrees.ensures
 
-pub visit-returns-then-not-fit : goal.visit-returns-then-not-fit
-visit-returns-then-not-fit t c = visit_unfit c.args.geometry c.args.image.now c.args.lens.now c.args.slots.now c.args.limit c.args.level c.args.number c.args.lo c.args.hi (view_of c.list_view-f.result)
-    c.list_view-f.ensures.is c.args.seen.now (sym c.own-fit.ensures ∙ c.if-not-fit.true)
-
-pub visit-returns-then-not-new : goal.visit-returns-then-not-new
-visit-returns-then-not-new t c = visit_old c.args.geometry c.args.image.now c.args.lens.now c.args.slots.now c.args.limit c.args.level c.args.number c.args.lo c.args.hi (view_of c.list_view-f.result)
-    c.list_view-f.ensures.is (sym c.own-fit.ensures ∙ c.if-not-fit.false) c.args.seen.now _ (mark_as c.if-not-new.true c.mark-new.ensures)
+pub visit-returns-then-not-own : goal.visit-returns-then-not-own
+visit-returns-then-not-own t c =
+    elim c.then-not-own.branch [
+      | visit-then-not-own-via-then-not-own w ↦ rw w.seen-is (visit_unfit c.args.nodes.geometry c.args.nodes.image.now c.args.nodes.lens.now c.args.nodes.slots.now c.args.nodes.limit c.args.level c.args.number c.args.lo c.args.hi (view_of c.list_view-f.result)
+          c.list_view-f.ensures.is c.args.seen.now (sym c.own.ensures ∙ w.if-not-own.true))
+      | visit-then-not-own-via-else-not-own+then-not-mark w ↦ rw w.seen-is (visit_old c.args.nodes.geometry c.args.nodes.image.now c.args.nodes.lens.now c.args.nodes.slots.now c.args.nodes.limit c.args.level c.args.number c.args.lo c.args.hi (view_of c.list_view-f.result)
+          c.list_view-f.ensures.is (sym c.own.ensures ∙ w.if-not-own.false) c.args.seen.now _ (mark_as w.if-not-mark.true w.mark.ensures))
+    ]
 
 pub visit-returns-then-level-eq0 : goal.visit-returns-then-level-eq0
-visit-returns-then-level-eq0 t c = visit_leaf c.args.geometry c.args.image.now c.args.lens.now c.args.slots.now c.args.limit c.args.level c.args.number c.args.lo c.args.hi (view_of c.list_view-f.result)
-    c.list_view-f.ensures.is (sym c.own-fit.ensures ∙ c.if-not-fit.false) c.args.seen.now _ c.if-level-eq0.true (mark_as c.if-not-new.false c.mark-new.ensures)
+visit-returns-then-level-eq0 t c = visit_leaf c.args.nodes.geometry c.args.nodes.image.now c.args.nodes.lens.now c.args.nodes.slots.now c.args.nodes.limit c.args.level c.args.number c.args.lo c.args.hi (view_of c.list_view-f.result)
+    c.list_view-f.ensures.is (sym c.own.ensures ∙ c.if-not-own.false) c.args.seen.now _ c.if-level-eq0.true (mark_as c.if-not-mark.false c.mark.ensures)
 
 pub visit-returns : goal.visit-returns
 visit-returns t c = let w = view_of c.list_view-f.result in
-    let fit = sym c.own-fit.ensures ∙ c.if-not-fit.false in
+    let fit = sym c.own.ensures ∙ c.if-not-own.false in
     let e : c.args.level ≡ suc (c.args.level - 1) = omega arith in
     let i = and_left (is_level c.args.level w) (obeys_at c.args.level c.args.lo c.args.hi (T.entries_of w)) fit in
-    visit_branch c.args.geometry c.args.image.now c.args.lens.now c.args.slots.now c.args.limit c.args.level c.args.number c.args.lo c.args.hi (view_of c.list_view-f.result)
+    visit_branch c.args.nodes.geometry c.args.nodes.image.now c.args.nodes.lens.now c.args.nodes.slots.now c.args.nodes.limit c.args.level c.args.number c.args.lo c.args.hi (view_of c.list_view-f.result)
     c.list_view-f.ensures.is fit (c.args.level - 1) (entries_of c.list_view-f.result.node) c.args.seen.now _ _ c.subtrees.result e
-    (level_entries c.args.level c.list_view-f.result.stage c.list_view-f.result.node i) (mark_as c.if-not-new.false c.mark-new.ensures) c.subtrees.ensures
+    (level_entries c.args.level c.list_view-f.result.stage c.list_view-f.result.node i) (mark_as c.if-not-mark.false c.mark.ensures) c.subtrees.ensures

@@ -3,5 +3,5 @@ use Rattle.tree.proofs.CheckLaws.{listed_shown}
 use Rattle.tree.proofs.check.listed_node.Goals as goal
 
 pub returns : goal.returns
-returns c = listed_shown c.args.geometry c.args.image.now c.args.lens.now c.args.slots.now c.args.limit c.args.number (view_of c.list_view-f.result) c.node_or_empty.result
-    c.list_view-f.ensures.is c.node_or_empty.ensures
+returns c = listed_shown c.args.nodes.geometry c.args.nodes.image.now c.args.nodes.lens.now c.args.nodes.slots.now c.args.nodes.limit c.args.number (view_of c.list_view.result) c.node_or_empty.result
+    c.list_view.ensures.is c.node_or_empty.ensures

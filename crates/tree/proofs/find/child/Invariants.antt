@@ -1,11 +1,7 @@
 use mathlib.Core.Path.{◌≡◌}
-use Prim.Native.Nat.{◌-◌, ◌≤◌}
 use Rattle.tree.specs.Tree.{below}
 use Rattle.tree.specs.FindCode.{entries_from}
 use Rattle.tree.proofs.find.child.Given as goal
 
 abbrev pub invariant-loop-i : goal.invariant-loop-i
-invariant-loop-i l = (l.i ≤ l.len) × (below l.key l.found (entries_from l.len l.i l.n.keys l.n.values) ≡ below l.key 0 (entries_from l.len 0 l.n.keys l.n.values))
-
-abbrev pub decreases-loop-i : goal.decreases-loop-i
-decreases-loop-i l = l.len - l.i
+invariant-loop-i l = below l.key l.found (entries_from l.n.len l.i l.n.keys l.n.values) ≡ below l.key 0 (entries_from l.n.len 0 l.n.keys l.n.values)

@@ -6,20 +6,18 @@ use borrow.Author.Rules.{rules}
 use Rattle.tree.proofs.find.lookup.Goals as goal
 
 pub loop-i-init : goal.loop-i-init
-loop-i-init c = (omega arith, refl)
+loop-i-init c = refl
 
 pub returns-then-n-i : goal.returns-then-n-i
 returns-then-n-i c = let lk : length c.args.n.keys ≡ 17 = search rules in
     let lv : length c.args.n.values ≡ 17 = search rules in
-    sym (lookup_hit c.args.key c.args.n.len c.loop-i.i c.args.n.keys c.args.n.values (omega arith) (omega arith) (omega arith) c.if-n-i.true) ∙ c.loop-i.invariant.1
+    sym (lookup_hit c.args.key c.args.n.len c.loop-i.i c.args.n.keys c.args.n.values (omega arith) (omega arith) (omega arith) c.if-n-i.true) ∙ c.loop-i.invariant
 
 pub loop-i-preserved : goal.loop-i-preserved
 loop-i-preserved c = let lk : length c.args.n.keys ≡ 17 = search rules in
-    let lv : length c.args.n.values ≡ 17 = search rules in (
-      omega arith,
-      lookup_pass c.args.key c.args.n.len c.loop-i.i c.args.n.keys c.args.n.values (omega arith) (omega arith) (omega arith) c.if-n-i.false ∙ c.loop-i.invariant.1,
-    )
+    let lv : length c.args.n.values ≡ 17 = search rules in
+    lookup_pass c.args.key c.args.n.len c.loop-i.i c.args.n.keys c.args.n.values (omega arith) (omega arith) (omega arith) c.if-n-i.false ∙ c.loop-i.invariant
 
 pub returns : goal.returns
 returns c = let e : c.loop-i.i ≡ c.args.n.len = omega arith in
-    sym (lookup_end c.args.key c.args.n.len c.args.n.keys c.args.n.values) ∙ (rw e at c.loop-i.invariant.1)
+    sym (lookup_end c.args.key c.args.n.len c.args.n.keys c.args.n.values) ∙ (rw e at c.loop-i.invariant)

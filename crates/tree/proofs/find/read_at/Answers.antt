@@ -5,5 +5,5 @@ use Rattle.tree.proofs.FindLaws.{reads_shown}
 use Rattle.tree.proofs.find.read_at.Goals as goal
 
 pub returns : goal.returns
-returns c = reads_shown c.args.scope.geometry c.args.scope.limit (pages_of c.args.scope.geometry c.args.image.now) c.args.lens.now c.args.slots.now c.args.scope.count c.args.buffer.now c.args.number
-    (view_of c.read_node-r.result.folded) c.read_node-r.result c.node_or_empty-node.result c.read_node-r.ensures refl c.node_or_empty-node.ensures
+returns c = reads_shown c.args.nodes.geometry c.args.nodes.limit (pages_of c.args.nodes.geometry c.args.nodes.image.now) c.args.nodes.lens.now c.args.nodes.slots.now c.args.count c.args.buffer.now c.args.number
+    (view_of c.read_node-r.result.folded) c.read_node-r.result c.node_or_empty.result c.read_node-r.ensures refl c.node_or_empty.ensures

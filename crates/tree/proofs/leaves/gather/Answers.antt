@@ -8,5 +8,5 @@ use Rattle.tree.proofs.leaves.gather.Goals as goal
 pub returns : goal.returns
 returns c = let lk : length c.args.keys.now ≡ 4096 = omega arith in
     let lv : length c.args.values.now ≡ 4096 = omega arith in
-    gathers_all c.listed_node-n.result.level (pages_table c.args.geometry c.args.image.now c.args.lens.now c.args.slots.now c.args.limit) c.gather_under.result c.args.keys.now c.args.values.now _ _
+    gathers_all c.listed_node-n.result.level (pages_table c.args.nodes.geometry c.args.nodes.image.now c.args.nodes.lens.now c.args.nodes.slots.now c.args.nodes.limit) c.gather_under.result c.args.keys.now c.args.values.now _ _
     c.listed_node-n.ensures.level lk lv c.gather_under.ensures

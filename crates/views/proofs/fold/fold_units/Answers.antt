@@ -15,7 +15,7 @@ loop-i-init c = let w = view_in c.args.s c.args.keys.now c.args.values.now in (
 pub returns-in_default : goal.returns-in_default
 returns-in_default c = spoilt c.spoil.result c.loop-i.keys c.loop-i.values _ c.loop-i.invariant.1 c.loop-i.invariant.2 c.spoil.ensures
     (stopped c.args.limit c.args.node c.args.count c.args.units.now (view_in c.args.s c.args.keys.now c.args.values.now) c.loop-i.i (view_in c.loop-i.g c.loop-i.keys c.loop-i.values)
-    c.decode_unit-d.result c.loop-i.invariant.4 c.loop-i-test.true c.decode_unit-d.ensures c.in_default.is)
+    c.decode_unit.result c.loop-i.invariant.4 c.loop-i-test.true c.decode_unit.ensures c.in_default.is)
 
 pub loop-i-preserved : goal.loop-i-preserved
 loop-i-preserved c = (
@@ -25,7 +25,7 @@ loop-i-preserved c = (
   c.turn-g.ensures.room,
   left_skip c.args.limit c.args.node c.args.count c.args.units.now (view_in c.args.s c.args.keys.now c.args.values.now) (c.loop-i.i + 1) c.skip-i-in-loop-i.result _
       (left_next c.args.limit c.args.node c.args.count c.args.units.now (view_in c.args.s c.args.keys.now c.args.values.now) c.loop-i.i (view_in c.loop-i.g c.loop-i.keys c.loop-i.values)
-      c.decode_unit-d.result c.loop-i.invariant.4 c.loop-i-test.true c.decode_unit-d.ensures _ _ c.in-Good.is c.turn-g.ensures.is) c.skip-i-in-loop-i.ensures,
+      c.decode_unit.result c.loop-i.invariant.4 c.loop-i-test.true c.decode_unit.ensures _ _ c.in-Some.is c.turn-g.ensures.is) c.skip-i-in-loop-i.ensures,
 )
 
 pub returns : goal.returns

@@ -7,18 +7,18 @@ use Rattle.pages.specs.Units.{is_reset_value}
 use Rattle.views.proofs.FoldLaws.{laid_delete, laid_insert, laid_reset}
 use Rattle.views.proofs.fold.is_laid.Goals as goal
 
-pub returns-then-kind-eq1 : goal.returns-then-kind-eq1
-returns-then-kind-eq1 c = λ e. laid_insert c.args.bytes.now c.if-kind-eq1.true
+pub returns-in-1 : goal.returns-in-1
+returns-in-1 c = λ e. laid_insert c.args.bytes.now c.in-1.is
 
-pub returns-then-kind-eq2 : goal.returns-then-kind-eq2
-returns-then-kind-eq2 c = λ e. laid_delete c.args.bytes.now c.if-kind-eq2.true (sym c.read_word-value.ensures ∙ eqb-true c.read_word-value.result 0 e)
+pub returns-in-2 : goal.returns-in-2
+returns-in-2 c = λ e. laid_delete c.args.bytes.now c.in-2.is (sym c.read_word.ensures ∙ eqb-true c.read_word.result 0 e)
 
 pub returns-then-read_word-eq0 : goal.returns-then-read_word-eq0
-returns-then-read_word-eq0 c = λ e. laid_reset c.args.bytes.now c.if-kind-eq3.true (sym c.read_word.ensures ∙ c.if-read_word-eq0.true)
-    (subst (λ (x : ℕ). is_reset_value x ≡ true) c.read_word-value.ensures (sym c.is_reset_value.ensures ∙ e))
+returns-then-read_word-eq0 c = λ e. laid_reset c.args.bytes.now c.in-3.is (sym c.read_word-in-3.ensures ∙ c.if-read_word-eq0.true)
+    (subst (λ (x : ℕ). is_reset_value x ≡ true) c.read_word-then-read_word-eq0.ensures (sym c.is_reset_value.ensures ∙ e))
 
 pub returns-else-read_word-eq0 : goal.returns-else-read_word-eq0
-returns-else-read_word-eq0 c = λ e. clash e refl
+returns-else-read_word-eq0 c = λ e. absurd (c.if-read_word-eq0.false (eqb-true c.read_word-in-3.result 0 e))
 
-pub returns-else-kind-eq3 : goal.returns-else-kind-eq3
-returns-else-kind-eq3 c = λ e. clash e refl
+pub returns-in_default : goal.returns-in_default
+returns-in_default c = λ e. clash e refl

@@ -19,4 +19,4 @@ pub loop-i-preserved : goal.loop-i-preserved
 loop-i-preserved c = (omega arith, omega (arith, c.loop-i-test.true), skips_next c.args.limit c.args.node c.args.units.now c.args.from c.loop-i.i c.loop-i.invariant.2 (c.is_passed.ensures (passes c.is_passed.result c.if-not-is_passed.false-raw)))
 
 pub returns : goal.returns
-returns c = record { low = c.loop-i.invariant.0; high = c.loop-i.invariant.1; are = c.loop-i.invariant.2 }
+returns c = record { low = c.requires.1; high = omega arith; are = λ k a b. c.loop-i.invariant.2 k a (omega arith) }

@@ -5,6 +5,3 @@ use Rattle.views.proofs.fold.skip.Given as goal
 
 abbrev pub invariant-loop-i : goal.invariant-loop-i
 invariant-loop-i l = (l.from ≤ l.i) × (l.i ≤ l.count) × ((k : ℕ) → l.from ≤ k → k < l.i → IsPassed l.limit l.node (take (length l.units - 12 * k) (drop (12 * k) l.units)))
-
-abbrev pub decreases-loop-i : goal.decreases-loop-i
-decreases-loop-i l = l.count - l.i

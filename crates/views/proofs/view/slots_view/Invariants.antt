@@ -1,5 +1,5 @@
 use mathlib.Core.Path.{◌≡◌}
-use Prim.Native.Nat.{◌-◌, ◌≤◌}
+use Prim.Native.Nat.{◌≤◌}
 use lib.ListN.{length, drop}
 use Rattle.chip.specs.Chip.{pages_of}
 use Rattle.views.specs.FoldCode.{view_in}
@@ -9,8 +9,5 @@ use Rattle.views.proofs.view.slots_view.Given as goal
 
 abbrev pub invariant-loop-i : goal.invariant-loop-i
 invariant-loop-i l = (l.i ≤ l.used) × (length l.keys ≡ 17) × (length l.values ≡ 17) × (l.s.len ≤ 16)
-    × (after_pages l.geometry l.limit (pages_of l.geometry l.image) l.node (view_in l.s l.keys l.values) (drop l.i (stored_list l.lens l.slots l.node))
-    ≡ list_view l.geometry l.limit (pages_of l.geometry l.image) l.node (stored_list l.lens l.slots l.node))
-
-abbrev pub decreases-loop-i : goal.decreases-loop-i
-decreases-loop-i l = l.used - l.i
+    × (after_pages l.nodes.geometry l.nodes.limit (pages_of l.nodes.geometry l.nodes.image.now) l.number (view_in l.s l.keys l.values) (drop l.i (stored_list l.nodes.lens.now l.nodes.slots.now l.number))
+    ≡ list_view l.nodes.geometry l.nodes.limit (pages_of l.nodes.geometry l.nodes.image.now) l.number (stored_list l.nodes.lens.now l.nodes.slots.now l.number))

@@ -1,24 +1,23 @@
-use mathlib.Core.Path.{refl}
+use mathlib.Core.Path.{sym, ◌∙◌}
 use native.Mathlib.Omega.{arith}
 use borrow.Author.Tests.{not-true, not-false}
-use Rattle.lists.specs.Lists.{all_below}
+use Rattle.lists.proofs.Anys.{below_all, below_not}
 use Rattle.chip.specs.Chip.{pages_of}
 use Rattle.views.specs.WellCode.{well_stored}
-use Rattle.views.proofs.WellLaws.{below_fails, below_passes, below_none}
+use Rattle.views.proofs.WellLaws.{below_next}
 use borrow.Author.Rules.{rules}
 use Rattle.views.proofs.well.all_well.Goals as goal
 
 pub loop-n-init : goal.loop-n-init
-loop-n-init c = (search rules, refl)
+loop-n-init c = λ k h. absurd (omega arith)
 
 pub returns-then-not-is_well : goal.returns-then-not-is_well
-returns-then-not-is_well c = let p = well_stored c.args.geometry c.args.limit (pages_of c.args.geometry c.args.image.now) c.args.lens.now c.args.slots.now in
-    below_fails p (all_below c.args.limit p) c.loop-n.n c.is_well.result (search rules) c.loop-n.invariant.1 c.is_well.ensures (not-true _ c.if-not-is_well.true-raw)
+returns-then-not-is_well c = sym (below_not c.args.nodes.limit (well_stored c.args.nodes.geometry c.args.nodes.limit (pages_of c.args.nodes.geometry c.args.nodes.image.now) c.args.nodes.lens.now c.args.nodes.slots.now) c.loop-n.n
+    (search rules) (sym c.is_well.ensures ∙ not-true _ c.if-not-is_well.true-raw))
 
 pub loop-n-preserved : goal.loop-n-preserved
-loop-n-preserved c = let p = well_stored c.args.geometry c.args.limit (pages_of c.args.geometry c.args.image.now) c.args.lens.now c.args.slots.now in
-    (search rules, below_passes p (all_below c.args.limit p) c.loop-n.n c.is_well.result (search rules) c.loop-n.invariant.1 c.is_well.ensures (not-false _ c.if-not-is_well.false-raw))
+loop-n-preserved c = below_next (well_stored c.args.nodes.geometry c.args.nodes.limit (pages_of c.args.nodes.geometry c.args.nodes.image.now) c.args.nodes.lens.now c.args.nodes.slots.now) c.loop-n.n c.loop-n.invariant
+    (sym c.is_well.ensures ∙ not-false _ c.if-not-is_well.false-raw)
 
 pub returns : goal.returns
-returns c = let p = well_stored c.args.geometry c.args.limit (pages_of c.args.geometry c.args.image.now) c.args.lens.now c.args.slots.now in
-    below_none p (all_below c.args.limit p) c.loop-n.n (omega arith) c.loop-n.invariant.1
+returns c = sym (below_all c.args.nodes.limit (well_stored c.args.nodes.geometry c.args.nodes.limit (pages_of c.args.nodes.geometry c.args.nodes.image.now) c.args.nodes.lens.now c.args.nodes.slots.now) (λ k h. c.loop-n.invariant k (omega arith)))

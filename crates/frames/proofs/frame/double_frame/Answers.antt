@@ -1,9 +1,0 @@
-use borrow.Author.Rules.{rules}
-use borrow.Author.Tests.{eq-eqb, ne_eqb}
-use Rattle.frames.proofs.frame.double_frame.Goals as goal
-
-pub returns-then-kind-eq1 : goal.returns-then-kind-eq1
-returns-then-kind-eq1 c = search (eq-eqb, ne_eqb, rules)
-
-pub returns : goal.returns
-returns c = search (eq-eqb, ne_eqb, rules)

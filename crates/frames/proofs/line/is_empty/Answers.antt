@@ -1,5 +1,0 @@
-use Rattle.frames.proofs.LineLaws.{empties}
-use Rattle.frames.proofs.line.is_empty.Goals as goal
-
-pub returns : goal.returns
-returns c = empties c.args.line

@@ -1,4 +1,0 @@
-use Rattle.store.proofs.forecast.quiet.Goals as goal
-
-pub returns : goal.returns
-returns c = rw c.nothing-ops.ensures
