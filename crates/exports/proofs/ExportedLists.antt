@@ -25,6 +25,7 @@ use Rattle.store.specs.Parts.{joined, with_free, updated_with, wrote_with, wrote
 use Rattle.store.specs.Step.{told, of_look, of_forecast}
 use Rattle.store.specs.declared.step.Stepped.{Stepped}
 use Rattle.store.specs.Lent.{state_from, Meets, lent_step, RunsLent}
+use Rattle.store.proofs.AnswerLaws.{number_in}
 use Rattle.store.proofs.Foretold.{foretells}
 use Rattle.store.proofs.StepLaws.{told_answer, look_answer}
 use Rattle.store.proofs.LentLists.{lent_figures, lent_promise, lent_unbroken}
@@ -103,13 +104,13 @@ module _ (x : Exported) where
 
   -- what a call tells is its answer
   tells_by : (c : Call) (h : Ensures x.torn x.given x.lent x.refusal x.told x.after x.left c) → x.refusal ≡ refusal_in (step_answer (answer_by x.torn x.given x.lent x.refusal x.told x.after x.left c h))
-  tells_by (Format p n) h = h.0.tells.refusal ∙ ap refusal_in (sym (told_answer h.0.result.answer))
-  tells_by (Mount p n) h = h.0.tells.refusal ∙ ap refusal_in (sym (told_answer h.0.result.answer))
-  tells_by (Commit n) h = h.0.tells.refusal ∙ ap refusal_in (sym (told_answer h.0.result.answer))
-  tells_by (Insert k v) h = h.0.refusal ∙ ap refusal_in (sym (told_answer h.0.result.answer))
-  tells_by (Delete k) h = h.0.refusal ∙ ap refusal_in (sym (told_answer h.0.result.answer))
+  tells_by (Format p n) h = h.0.tells.refusal ∙ number_in h.0.result.answer ∙ ap refusal_in (sym (told_answer h.0.result.answer))
+  tells_by (Mount p n) h = h.0.tells.refusal ∙ number_in h.0.result.answer ∙ ap refusal_in (sym (told_answer h.0.result.answer))
+  tells_by (Commit n) h = h.0.tells.refusal ∙ number_in h.0.result.answer ∙ ap refusal_in (sym (told_answer h.0.result.answer))
+  tells_by (Insert k v) h = h.0.refusal ∙ number_in h.0.result.answer ∙ ap refusal_in (sym (told_answer h.0.result.answer))
+  tells_by (Delete k) h = h.0.refusal ∙ number_in h.0.result.answer ∙ ap refusal_in (sym (told_answer h.0.result.answer))
   tells_by (LookUp k) h = h.0.refusal ∙ ap refusal_in (sym (look_answer h.0.look))
-  tells_by Forecast h = h.0.refusal ∙ ap refusal_in (sym (told_answer (forecast_answer h.0.result)))
+  tells_by Forecast h = h.0.refusal ∙ number_in (forecast_answer h.0.result) ∙ ap refusal_in (sym (told_answer (forecast_answer h.0.result)))
 
   value_by : (c : Call) (h : Ensures x.torn x.given x.lent x.refusal x.told x.after x.left c) (k : ℕ) → c ≡ LookUp k
       → get_or x.told 0 0 ≡ value_in (step_answer (answer_by x.torn x.given x.lent x.refusal x.told x.after x.left c h))
@@ -183,8 +184,8 @@ module _ (x y : Exported) (n : ℕ) (size : length y.torn ≡ page_size (geometr
       record {
         enough =
             λ l. let e = t.enough (omega (arith, sum)) in
-            (d.refusal ∙ ap refusal_in e.0 ∙ sym f.0.refusal, d.done ∙ ap (λ (o : Counts). o.programs ∷ o.marks ∷ o.erases ∷ []) e.1 ∙ sym f.0.done);
-        short = λ l. let e = t.short (omega (arith, sum)) in (d.refusal ∙ ap refusal_in e.0, ap sum_told d.done ∙ e.1);
+            (d.refusal ∙ number_in c.0.result.answer ∙ ap refusal_in e.0 ∙ sym (number_in (forecast_answer f.0.result)) ∙ sym f.0.refusal, d.done ∙ ap (λ (o : Counts). o.programs ∷ o.marks ∷ o.erases ∷ []) e.1 ∙ sym f.0.done);
+        short = λ l. let e = t.short (omega (arith, sum)) in (d.refusal ∙ number_in c.0.result.answer ∙ ap refusal_in e.0, ap sum_told d.done ∙ e.1);
       }
 
   -- a forecast, and a commit from the same memory and image with a torn slice of a page of the state's part: what the forecast told is what the commit tells

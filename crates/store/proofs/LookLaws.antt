@@ -6,6 +6,7 @@ use Prim.Native.Nat.{ℕ, zero, suc, ◌+◌, ◌*◌, ◌<◌, ◌≤◌}
 use native.Mathlib.Omega.{arith}
 use lib.ListN.{length, length-reverse}
 use Rattle.std.specs.Prelude.{Option, Some, None, Result, Ok, Err}
+use Rattle.std.specs.Result.{is_ok}
 use Rattle.lists.specs.Lists.{All, more}
 use Rattle.lists.proofs.Flats.{get_d_tab}
 use Rattle.chip.specs.Geometry.{Geometry}
@@ -25,7 +26,7 @@ use Rattle.promise.specs.Calls.{state_of, tells_or}
 use Rattle.store.specs.declared.answer.Look.{Look}
 use Rattle.store.specs.declared.answer.Refusal.{Refusal}
 use Rattle.store.specs.declared.state.State.{State}
-use Rattle.store.specs.Answers.{look_of, number_of, pages_told}
+use Rattle.store.specs.Answers.{look_of, number_of, pages_told, value_of}
 use Rattle.store.specs.State.{limit_of, node_from, nodes_of, present_of, Good, geometry_in}
 use Rattle.store.specs.Ensured.{flash_length, list_lengths, Looks}
 use Rattle.store.proofs.AdmitLaws.{first_refused, first_passed, not_one, admission_low, number_some}
@@ -68,9 +69,17 @@ look_told : (h : Option ℕ) (n : ℕ) → look_from (hit_of h) n ≡ Ok (record
 look_told (Some v) n = refl
 look_told None n = refl
 
-look_is : (f : Found) (n : ℕ) → (look_of (look_from f n) ≡ looked_up f) × (pages_told (look_from f n) ≡ n) × (look_of (look_from f n) ≡ refuses 1 → ⊥) × (look_of (look_from f n) ≡ refuses 2 → ⊥) × (tells_or (2 ∷ 1 ∷ 4 ∷ []) (look_of (look_from f n)) ≡ true)
-look_is absent n = (refl, refl, λ e. not_one e (λ z. omega arith), λ e. not_one e (λ z. omega arith), refl)
-look_is (found v) n = (refl, refl, λ e. (let z : ◌≡◌ {A = ℕ} 0 1 = cc in absurd (omega arith)), λ e. (let z : ◌≡◌ {A = ℕ} 0 1 = cc in absurd (omega arith)), refl)
+value_is : (h : Option ℕ) → value_of h ≡ looked_up (hit_of h)
+value_is (Some v) = refl
+value_is None = refl
+
+given_from : (f : Found) (n : ℕ) → (look_of (look_from f n) ≡ looked_up f) × (pages_told (look_from f n) ≡ n) × (is_ok (look_from f n) ≡ true)
+given_from absent n = (refl, refl, refl)
+given_from (found v) n = (refl, refl, refl)
+
+looked_is : (f : Found) → (looked_up f ≡ refuses 1 → ⊥) × (looked_up f ≡ refuses 2 → ⊥) × (tells_or (2 ∷ 1 ∷ 4 ∷ []) (looked_up f) ≡ true)
+looked_is absent = (λ e. not_one e (λ z. omega arith), λ e. not_one e (λ z. omega arith), refl)
+looked_is (found v) = (λ e. (let z : ◌≡◌ {A = ℕ} 0 1 = cc in absurd (omega arith)), λ e. (let z : ◌≡◌ {A = ℕ} 0 1 = cc in absurd (omega arith)), refl)
 
 module _ (k : ℕ) (s : State) (i : List ℕ) where
   abbrev g : Geometry
@@ -92,6 +101,7 @@ module _ (k : ℕ) (s : State) (i : List ℕ) where
         pages = λ h. let z : suc n ≡ 0 = e ∙ h in absurd (omega arith);
         lists = λ _ h. let z : suc n ≡ 0 = e ∙ h in absurd (omega arith);
         few = omega arith;
+        given = λ h. let z : suc n ≡ 0 = e ∙ h in absurd (omega arith);
       }
 
   pub look_refused : (e : Refusal) → number_of e ≡ admission g s.on s.blocks (length i) → Looks k s i (Err e)
@@ -104,30 +114,42 @@ module _ (k : ℕ) (s : State) (i : List ℕ) where
       by (suc (suc (suc n))) p l h = absurd (omega arith)
 
   module _ (e : 0 ≡ admission g s.on s.blocks (length i)) where
-    look_done : (f : Found) (n : ℕ) → k < top → f ≡ find k (present_of g s i) → n ≡ pages_read (length_of g (limit_of s) (pages_of g i) s.lens s.slots) (path k (present_of g s i)) → n ≤ 16
-        → Looks k s i (look_from f n)
+    -- an answer that says what P says of the key, and gives the pages read
+    look_given : (r : Result Look Refusal) (f : Found) (n : ℕ) → k < top → f ≡ find k (present_of g s i) → n ≡ pages_read (length_of g (limit_of s) (pages_of g i) s.lens s.slots) (path k (present_of g s i)) → n ≤ 16
+        → look_of r ≡ looked_up f → pages_told r ≡ n → is_ok r ≡ true → Looks k s i r
     unfolding looking_up state_of
-    look_done f n h q p l =
-        let w = look_is f n in
-        let u : look_of (look_from f n) ≡ looked_up (find k (present_of g s i)) = w.0 ∙ ap looked_up q in
+    look_given r f n h q p l a b o =
+        let w = looked_is f in
+        let u : look_of r ≡ looked_up (find k (present_of g s i)) = a ∙ ap looked_up q in
         record {
           says =
               record {
-                first = first_passed (looks_up k (length i)) s i (look_of (look_from f n)) s e w.2 w.3;
-                range = w.4;
+                first = first_passed (looks_up k (length i)) s i (look_of r) s e (λ z. w.0 (sym a ∙ z)) (λ z. w.1 (sym a ∙ z));
+                range = ap (tells_or (2 ∷ 1 ∷ 4 ∷ [])) a ∙ w.2;
                 same = record { state = refl; image = refl };
                 done = λ _ _. u;
               };
           any = λ _. u;
-          pages = λ _. w.1 ∙ p;
-          lists = λ ok _ nodes G m. w.1 ∙ p ∙ sym (list_lengths_lem g s i k h ok nodes G m);
-          few = omega (arith, w.1);
+          pages = λ _. b ∙ p;
+          lists = λ ok _ nodes G m. b ∙ p ∙ sym (list_lengths_lem g s i k h ok nodes G m);
+          few = omega (arith, b);
+          given = λ _. o;
         }
 
-    looked : (t : Looked) → Answers (length_of g (8 * s.blocks) (pages_of g i) s.lens s.slots) k (shown g (8 * s.blocks) (pages_of g i) s.lens s.slots s.count s.buffer) t
+    look_done : (f : Found) (n : ℕ) → k < top → f ≡ find k (present_of g s i) → n ≡ pages_read (length_of g (limit_of s) (pages_of g i) s.lens s.slots) (path k (present_of g s i)) → n ≤ 16
+        → Looks k s i (look_from f n)
+    look_done f n h q p l = let w = given_from f n in look_given (look_from f n) f n h q p l w.0 w.1 w.2
+
+    pub looked : (t : Looked) → Answers (length_of g (8 * s.blocks) (pages_of g i) s.lens s.slots) k (shown g (8 * s.blocks) (pages_of g i) s.lens s.slots s.count s.buffer) t
         → k < top → (f : Found) → hit_of t.hit ≡ f → Looks k s i (look_from f t.pages)
     unfolding present_of
     looked t a h f q = look_done f t.pages h (sym q ∙ a.found) a.pages a.few
+
+    -- an answer that says what a look up in the tree found, and gives the pages read
+    pub looks_by : (r : Result Look Refusal) (t : Looked) → Answers (length_of g (8 * s.blocks) (pages_of g i) s.lens s.slots) k (shown g (8 * s.blocks) (pages_of g i) s.lens s.slots s.count s.buffer) t
+        → k < top → look_of r ≡ value_of t.hit → pages_told r ≡ t.pages → is_ok r ≡ true → Looks k s i r
+    unfolding present_of
+    looks_by r t a h e = look_given r (hit_of t.hit) t.pages h a.found a.pages a.few (e ∙ value_is t.hit)
 
     pub look_answer : (t : Looked) → Answers (length_of g (8 * s.blocks) (pages_of g i) s.lens s.slots) k (shown g (8 * s.blocks) (pages_of g i) s.lens s.slots s.count s.buffer) t
         → k < top → Looks k s i (Ok (record { value = t.hit; pages = t.pages }))

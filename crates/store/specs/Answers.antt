@@ -37,8 +37,10 @@ refusal_in (P.refuses n) = n
 refusal_in P.accepted = 0
 refusal_in (P.tells vs) = 0
 
-abbrev pub refusal_number : Answer → ℕ
-refusal_number a = refusal_in (answer_of a)
+-- and of an answer that gives something where it is accepted
+abbrev pub refusal_number : {A : Type 0} → Result A Refusal → ℕ
+refusal_number (Ok x) = 0
+refusal_number (Err e) = number_of e
 
 -- what a step tells: accepted, with the value that a look up found, or refused
 abbrev pub Told : Type 0

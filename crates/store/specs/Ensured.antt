@@ -1,5 +1,6 @@
 -- What each call ensures: the records of the promise, read on the code's state and image, and what those leave out.
-use Rattle.std.specs.Prelude.{◌≡◌, not, cond, false, List, ℕ, ◌*◌, ◌<◌, ◌≤◌, max, leb, length, take, get_or, replicate, Result}
+use Rattle.std.specs.Prelude.{◌≡◌, not, cond, true, false, List, ℕ, ◌*◌, ◌<◌, ◌≤◌, max, leb, length, take, get_or, replicate, Result}
+use Rattle.std.specs.Result.{is_ok}
 use Rattle.lists.specs.Lists.{part, count, first}
 use Rattle.chip.specs.Geometry.{Geometry, Nand, geometry_of, blocks_of}
 use Rattle.chip.specs.Page.{is_free}
@@ -122,6 +123,8 @@ pub record Looks (k : ℕ) (s : State) (i : List ℕ) (r : Result Look Refusal) 
   pub lists : Good (geometry_in s) s i → admission (geometry_in s) s.on s.blocks (length i) ≡ 0 → (nodes : List Node) (G : ℕ)
       → Views.meaning (geometry_in s) (limit_of s) (pages_of (geometry_in s) i) ≡ Views.means nodes G → pages_told r ≡ list_lengths nodes (path k (present_of (geometry_in s) s i))
   pub few : pages_told r ≤ 16
+  -- past 2 and 1 the pages read are given, where the key is absent too
+  pub given : admission (geometry_in s) s.on s.blocks (length i) ≡ 0 → is_ok r ≡ true
 
 -- on any state: the part and B stay, and the units of the buffer are at most 960, or no more than there were
 pub record KeepsBounds (s s' : State) : Type 0 where

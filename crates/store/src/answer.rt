@@ -53,12 +53,12 @@ pub struct Report {
     pub erases: u64,
 }
 
-// The number of a refusal, 0 for none.
-pub fn number(answer: Result<(), Refusal>) -> u32
+// The number of a refusal, 0 for none, whatever an answer without one gives.
+pub fn number<T: Copy>(answer: Result<T, Refusal>) -> u32
     ensures { result ≡ refusal_number answer }
 {
     match answer {
-        Ok(()) => 0,
+        Ok(_) => 0,
         Err(refusal) => u32::from(refusal),
     }
 }
