@@ -29,12 +29,12 @@ fn is_well(nodes: Nodes<'_>, number: usize) -> bool
     is_whole(f)
 }
 
-// Do all nodes pass?
+// Do all nodes pass? The last one is read first.
 pub fn all_well(nodes: Nodes<'_>) -> bool
     requires { nodes.limit ≤ 256 }
     ensures { let n = nodes.entry in result ≡ all_well_stored n.geometry n.limit (pages_of n.geometry n.image.now) n.lens.now n.slots.now }
 {
-    for n in 0..nodes.limit as usize {
+    for n in (0..nodes.limit as usize).rev() {
         if !is_well(nodes, n) {
             return false;
         }
