@@ -1,3 +1,4 @@
+pub mod PowerLaws
 pub mod CountLaws
 pub mod EraseLaws
 pub mod FreeParts

@@ -6,7 +6,8 @@ use native.Mathlib.Omega.{arith}
 use lib.Dec.{eqb}
 use lib.ListN.{drop, get_or, get_or-append, length, length-append, length-drop, take, take-append-drop}
 use lib.Seq.{drop_at, drop-append-le, drop-drop, length-take-le}
-use borrow.Author.Tests.{eq-eqb, ne_eqb}
+use borrow.Author.Tests.{eq-eqb, ne_eqb, eqb-true}
+use Rattle.std.proofs.lemmas.Option.{none-some, same_Some}
 use Rattle.lists.proofs.Tests.{cases}
 use Rattle.chip.specs.Geometry.{Geometry}
 use Rattle.chip.specs.Page.{Page}
@@ -36,6 +37,14 @@ own_here limit n h b r q e d = d ∙ picked_same n (decode limit b) (λ u z. (to
 
 pub own_other : (limit n h : ℕ) (b : List ℕ) → h ≡ half b 2 → (h ≡ n → ⊥) → None ≡ picked n (decode limit b)
 own_other limit n h b q k = picked_none n (decode limit b) (λ u z e. k (q ∙ sym (told limit b u z).node ∙ e))
+
+-- a picked unit is one of the node
+pub picked_node : (n : ℕ) (d : Option U.Unit) (u : U.Unit) → Some u ≡ picked n d → u.node ≡ n
+picked_node n None u e = absurd (none-some u (sym e))
+picked_node n (Some w) u e =
+    cases (eqb w.node n)
+    (λ t. let k : Some u ≡ Some w = (rw t at e) in ap (λ (x : U.Unit). x.node) (same_Some u w k) ∙ eqb-true w.node n t)
+    (λ t. let k : ◌≡◌ {A = Option U.Unit} (Some u) None = (rw t at e) in absurd (none-some u (sym k)))
 
 -- ---- the first count units, 12 bytes after 12 bytes
 -- 12 bytes are read whatever stands behind them

@@ -1,5 +1,6 @@
 -- The turns of the loops that erase the blocks of a plan and count the erases. Assumes nothing.
-use Rattle.std.proofs.Common.{◌≡◌, ℕ, ◌+◌, ◌%◌, ◌^◌, ◌<◌, List, [], ◌∷◌, ◌++◌, map, length, get_or, take, set, sym, ap, ◌∙◌, add-one, take-suc}
+use Rattle.std.proofs.Common.{◌≡◌, ℕ, zero, suc, arith, ◌+◌, ◌%◌, ◌^◌, ◌<◌, List, [], ◌∷◌, ◌++◌, map, length, get_or, take, set, sym, ap, ◌∙◌, add-one, take-suc}
+use Rattle.lists.specs.Lists.{All, more}
 use Rattle.lists.proofs.Flats.{map_append}
 use Rattle.chip.specs.declared.progress.Progress.{Progress}
 use Rattle.chip.specs.Geometry.{Geometry}
@@ -8,6 +9,13 @@ use Rattle.chip.specs.Erases.{figures_after}
 use Rattle.chip.specs.RunCode.{Ran, Stepped}
 use Rattle.chip.proofs.EraseLaws.{figures_more}
 use Rattle.chip.proofs.Runs.{ran_append, ran_one}
+
+-- what holds of the first n holds of each of them
+pub first_at : {P : ℕ → Type 0} (n i : ℕ) (xs : List ℕ) → All P (take n xs) → i < n → i < length xs → P (get_or xs i 0)
+first_at zero i xs h l k = absurd (omega arith)
+first_at (suc n) i [] h l k = absurd (omega arith)
+first_at (suc n) zero (x ∷ xs) (more h hs) l k = h
+first_at (suc n) (suc i) (x ∷ xs) (more h hs) l k = first_at n i xs hs (omega arith) (omega arith)
 
 -- one block more
 first_more : (bs : List ℕ) (i : ℕ) → i < length bs → map erase (take (i + 1) bs) ≡ map erase (take i bs) ++ (erase (get_or bs i 0) ∷ [])

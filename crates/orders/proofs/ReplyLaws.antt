@@ -5,8 +5,8 @@ use Prim.Native.Nat.{ℕ, zero, suc, ◌+◌, ◌-◌, ◌*◌, ◌/◌, ◌%◌
 use native.Mathlib.Omega.{arith}
 use native.Mathlib.Numerals.{add-one}
 use lib.Pow.{field, mod-mod-pow, shr-shr}
-use lib.ListN.{length, take, drop, get_or, length-append, drop_of_length-le}
-use lib.Seq.{drop-cons}
+use lib.ListN.{length, take, drop, get_or, set, length-append, drop_of_length-le}
+use lib.Seq.{drop-cons, take-suc-set}
 use Rattle.frames.specs.Frames.{digit_text, hex_text}
 use Rattle.frames.proofs.TextLaws.{powers, length_hex}
 use Rattle.orders.specs.Replies.{bytes_text}
@@ -20,6 +20,10 @@ both {b} {m} {a} {xs} {ys} {at} {i} {r} p q =
       end = omega (arith, p.end, q.end, n);
       bytes = q.bytes ∙ ap (λ (t : List ℕ). t ++ ys) p.bytes ∙ append_assoc (take at b) xs ys;
     }
+
+-- one byte put at an index
+pub one : (b : List ℕ) (at x : ℕ) → at < length b → Adds b at (x ∷ []) (set b at x) (at + 1)
+one b at x h = record { end = refl; bytes = ap (λ (j : ℕ). take j (set b at x)) (add-one at) ∙ take-suc-set b at x h }
 
 -- ---- 16 digits are those of the two halves
 digit_high : (n k : ℕ) → n / 16 ^ (k + 8) % 16 ≡ n / 2 ^ 32 / 16 ^ k % 16

@@ -173,6 +173,12 @@ module _ (n : ℕ) (targets : List ℕ) (on : n < length targets) where
   pub target_some : (get_or targets n 0 ≡ 65535 → ⊥) → target_in targets n ≡ in_page (get_or targets n 0)
   target_some d = ap target_of (sym target_at) ∙ rw (ne_eqb (get_or targets n 0) 65535 d)
 
+  -- no page where it is not below count
+  pub target_beyond : (count : ℕ) → Placed count targets → count ≤ get_or targets n 0 → target_in targets n ≡ unwritten
+  target_beyond count k h =
+      cases (eqb (get_or targets n 65535) 65535) (λ t. rw t)
+      (λ t. let l = k n (eqb-false (get_or targets n 65535) 65535 t) in absurd (omega (arith, target_at)))
+
 -- ---- the two passes
 -- no node has a page
 module _ (k : ℕ) (rooms forms targets : List ℕ) (none : targets ≡ replicate k 65535) where

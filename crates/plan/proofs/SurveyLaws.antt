@@ -7,6 +7,7 @@ use native.Mathlib.Nat.{mul-le-mul}
 use native.Mathlib.Numerals.{add-one}
 use native.Mathlib.Omega.{arith}
 use lib.ListN.{length, length-append, take, drop, get_or}
+use borrow.Author.Tests.{lt-leb}
 use lib.Seq.{drop-cons, take-take}
 use Rattle.std.specs.Prelude.{Option, Some, None}
 use Rattle.std.specs.List.{range_with_len}
@@ -20,7 +21,7 @@ use Rattle.std.specs.Iterator.Adapters.{chain_first, chain_second, chain_first_d
 use Rattle.std.proofs.lemmas.Iterator.{YieldsList, YieldsList-from_range}
 use Rattle.std.proofs.lemmas.Iterator.Consumers.{YieldsList-at, YieldsList-end, YieldsList-from_chain, YieldsList-so_far, YieldsList-turn}
 use Rattle.lists.specs.Lists.{All, filter, any, more}
-use Rattle.lists.proofs.Alls.{All-head, All-tail, All-map, All-take, All-filter}
+use Rattle.lists.proofs.Alls.{All-head, All-tail, All-map, All-take, All-drop, All-filter, false_any}
 use Rattle.lists.proofs.Flats.{length_tab}
 use Rattle.lists.proofs.Filters.{filter_append}
 use Rattle.chip.specs.Geometry.{Geometry, Fits, block_size}
@@ -115,6 +116,17 @@ spare_take B head n bs s = record { range = All-take n s.range; differ = diff_ta
 all_below_lem : (m : ℕ) (xs : List ℕ) → ((j : ℕ) → get_or xs j 0 < m) → All (λ (x : ℕ). x < m) xs
 all_below_lem m [] h = All.none
 all_below_lem m (x ∷ xs) h = more (h 0) (all_below_lem m xs (λ j. h (suc j)))
+
+-- ---- a block number that no page has
+out_of : (g : Geometry) → Fits g → (p : ℕ) → p < 4294967296 → in_block g 4294967295 p ≡ false
+unfolding in_block
+out_of g f p l = rw (lt-leb (4294967295 * g.pages) p (omega (arith, f.many)))
+
+pub no_block : (g : Geometry) → Fits g → (slots : List ℕ) → ((j : ℕ) → get_or slots j 0 < 4294967296) → (lens : List ℕ) (n : ℕ)
+    → any (in_block g 4294967295) (stored_list lens slots n) ≡ false
+no_block g f slots h lens n =
+    false_any (in_block g 4294967295)
+    (All-map (λ p l. out_of g f p l) (All-take (get_or lens n 0) (All-take 4 (All-drop (4 * n) (all_below_lem 4294967296 slots h)))))
 
 -- ---- the survey
 -- the head of an image of B blocks

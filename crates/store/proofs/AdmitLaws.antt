@@ -37,13 +37,13 @@ module _ (g : Geometry) (on : Bool) (b len found : ℕ) (e : on ≡ true) (f : f
   size_refused : (ltb 0 found && eqb found b) ≡ false → Admitted g on b len (Err Size)
   size_refused q = record { number = test_is false q; chip = λ p. let z : ◌≡◌ {A = ℕ} 0 1 = cc in absurd (omega arith) }
 
-  admit_size : found ≡ 0 → Admitted g on b len (Err Size)
+  pub admit_size : found ≡ 0 → Admitted g on b len (Err Size)
   admit_size z = size_refused (rw (le-ltb 0 found (omega arith)))
 
-  admit_other : (found ≡ 0 → ⊥) → (found ≡ b → ⊥) → Admitted g on b len (Err Size)
+  pub admit_other : (found ≡ 0 → ⊥) → (found ≡ b → ⊥) → Admitted g on b len (Err Size)
   admit_other z d = size_refused (rw (lt-ltb 0 found (omega arith), ne_eqb found b d))
 
-  admit_passes : (found ≡ 0 → ⊥) → found ≡ b → Admitted g on b len (Ok tt)
+  pub admit_passes : (found ≡ 0 → ⊥) → found ≡ b → Admitted g on b len (Ok tt)
   admit_passes z d =
       record {
         number = test_is true (rw (lt-ltb 0 found (omega arith), eq-eqb found b d));

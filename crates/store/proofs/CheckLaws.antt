@@ -97,7 +97,7 @@ module _ (g : Geometry) (image lens slots : List ℕ) (limit : ℕ) (few : limit
         record { read = sym t.good ∙ e; tree = sym judged_same ∙ h; lists = t.lists e; numbers = judged_free h free f; thin = sym y ∙ k.thin h ∙ ap thin same_views }
 
 -- ---- an image that steps 1 to 3 refuse means the refusal
-says_refused : (q : Stood) (order : List ℕ) (e : Unsettled) → Says (Err e) order q → q ≡ refused (number_of e)
+pub says_refused : (q : Stood) (order : List ℕ) (e : Unsettled) → Says (Err e) order q → q ≡ refused (number_of e)
 says_refused (refused m) order e k = let p = k.1 in let d : e ≡ k.0 = cc in ap refused (sym k.2 ∙ ap number_of (sym d))
 says_refused (stand v s) order e k = let p = k.answer in let u : ◌≡◌ {A = ℕ} 0 1 = cc in absurd (omega arith)
 
@@ -283,13 +283,13 @@ module _ (g : Geometry) (image order : List ℕ) (first voids : ℕ) (bytes : (i
         }
 
 -- ---- from what the code of steps 1 to 3 says of an image with standing pages
-record StandsBy (q : Stood) (order : List ℕ) (r : Standing) : Type 0 where
+pub record StandsBy (q : Stood) (order : List ℕ) (r : Standing) : Type 0 where
   pub v : List Live
   pub xs : List Live
   pub is : q ≡ stand v xs
   pub keys : Shown (stands r.first r.voids) order v xs
 
-says_stands : (q : Stood) (order : List ℕ) (r : Standing) → Says (Ok r) order q → StandsBy q order r
+pub says_stands : (q : Stood) (order : List ℕ) (r : Standing) → Says (Ok r) order q → StandsBy q order r
 says_stands (refused m) order r e = let p = e.1 in let u : ◌≡◌ {A = ℕ} 0 1 = cc in absurd (omega arith)
 says_stands (stand v s) order r k = record { v = v; xs = s; is = refl; keys = k }
 

@@ -135,7 +135,7 @@ module _ (nand : Nand) (allowance : ℕ) (torn : List ℕ) (s : State) (i : List
     passes = admitted g b (length i) (length torn) chip long
 
     -- refused for what the image means
-    invalid_mounts : (a : Refusal) (n : ℕ) → answer_of (Err a) ≡ refuses n → 2 < n → is_one_of n (1 ∷ 7 ∷ 8 ∷ 9 ∷ 12 ∷ 10 ∷ []) ≡ true → image_meaning g i ≡ invalid n → Mounts nand allowance torn s i (refused_with a nothing s) i
+    pub invalid_mounts : (a : Refusal) (n : ℕ) → answer_of (Err a) ≡ refuses n → 2 < n → is_one_of n (1 ∷ 7 ∷ 8 ∷ 9 ∷ 12 ∷ 10 ∷ []) ≡ true → image_meaning g i ≡ invalid n → Mounts nand allowance torn s i (refused_with a nothing s) i
     invalid_mounts a n is low kind m =
         let zero : first ≡ 0 = passes in
         let no : (K : Table) (G : ℕ) → image_meaning g i ≡ P.means K G → ⊥ = λ K G e. let u : ◌≡◌ {A = ℕ} 0 1 = cc in omega arith in

@@ -163,7 +163,7 @@ module _ (nand : Nand) (allowance : ℕ) (torn : List ℕ) (s : State) (i : List
     passes = admitted g b (length i) (length torn) chip long
 
     -- 7, 8 and 9
-    invalid_rebuilds : (a : Refusal) (n : ℕ) → answer_of (Err a) ≡ refuses n → n < 10 → is_one_of n (1 ∷ 7 ∷ 8 ∷ 9 ∷ 6 ∷ 5 ∷ 10 ∷ []) ≡ true → image_meaning g i ≡ invalid n
+    pub invalid_rebuilds : (a : Refusal) (n : ℕ) → answer_of (Err a) ≡ refuses n → n < 10 → is_one_of n (1 ∷ 7 ∷ 8 ∷ 9 ∷ 6 ∷ 5 ∷ 10 ∷ []) ≡ true → image_meaning g i ≡ invalid n
         → Rebuilds nand allowance torn s i (refused_with a nothing s) i
     invalid_rebuilds a n is low kind m =
         let no : (K : Table) (G : ℕ) → image_meaning g i ≡ P.means K G → ⊥ = λ K G e. let u : ◌≡◌ {A = ℕ} 0 1 = cc in omega arith in

@@ -14,7 +14,7 @@ use Rattle.promise.specs.Calls.{ProperUpdate, state_of, is_one_of, accepts_or}
 use Rattle.store.specs.declared.state.State.{State}
 use Rattle.store.specs.declared.state.Updated.{Updated}
 use Rattle.store.specs.AdmitCode.{ChipOf, update_tests, answer_for}
-use Rattle.store.specs.Answers.{answer_of}
+use Rattle.store.specs.Answers.{answer_of, refusal_in}
 use Rattle.store.specs.State.{present_of, Good, geometry_in}
 use Rattle.store.specs.Ensured.{index, KeepsBounds, UpdatesBy}
 use Rattle.store.specs.UpdateCode.{Stays, UpdatesIn}
@@ -154,3 +154,8 @@ refused_for m (suc n) e = omega arith
 pub passed_for : (n : ℕ) → accepted ≡ answer_for n → n ≡ 0
 passed_for zero e = refl
 passed_for (suc n) e = let z : ◌≡◌ {A = ℕ} 0 1 = cc in absurd (omega arith)
+
+-- the number of an answer
+pub number_for : (n : ℕ) → refusal_in (answer_for n) ≡ n
+number_for zero = refl
+number_for (suc n) = refl

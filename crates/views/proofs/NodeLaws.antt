@@ -44,6 +44,37 @@ module _ {A : Type 0} where
   remove_split zero (x ∷ xs) = refl
   remove_split (suc p) (x ∷ xs) = ap (λ (r : List A). x ∷ r) (remove_split p xs)
 
+  -- to insert at i is to put it there and to insert what stood there one place further
+  insert_push_suc : (i : ℕ) (a d : A) (l : List A) → i < length l → insert_index (suc i) (get_or l i d) (set l i a) ≡ insert_index i a l
+  insert_push_suc i a d [] h = absurd (not-suc-le-zero h)
+  insert_push_suc zero a d (x ∷ xs) h = refl
+  insert_push_suc (suc i) a d (x ∷ xs) h = ap (λ (r : List A). x ∷ r) (insert_push_suc i a d xs (le_of_suc-le-suc h))
+
+  pub insert_push : (i : ℕ) (a d : A) (l : List A) → i < length l → insert_index (i + 1) (get_or l i d) (set l i a) ≡ insert_index i a l
+  insert_push i a d l h = rw add-one (insert_push_suc i a d l h)
+
+  -- to remove what stands before i is to put the element at i there and to remove the one at i
+  remove_pull_suc : (i : ℕ) (d : A) (l : List A) → suc i < length l → remove_index (suc i) (set l i (get_or l (suc i) d)) ≡ remove_index i l
+  remove_pull_suc i d [] h = absurd (not-suc-le-zero h)
+  remove_pull_suc zero d (x ∷ []) h = absurd (not-suc-le-zero (le_of_suc-le-suc h))
+  remove_pull_suc zero d (x ∷ y ∷ xs) h = refl
+  remove_pull_suc (suc i) d (x ∷ xs) h = ap (λ (r : List A). x ∷ r) (remove_pull_suc i d xs (le_of_suc-le-suc h))
+
+  pub remove_pull : (i : ℕ) (d : A) (l : List A) → 1 ≤ i → i < length l
+      → remove_index (i + 1 - 1) (set l (i - 1) (get_or l i d)) ≡ remove_index (i - 1) l
+  remove_pull i d l p h =
+      let e : i ≡ suc (i - 1) = omega arith in
+      let q : i + 1 - 1 ≡ suc (i - 1) = omega arith in
+      ap (λ (m : ℕ). remove_index m (set l (i - 1) (get_or l i d))) q
+      ∙ ap (λ (m : ℕ). remove_index (suc (i - 1)) (set l (i - 1) (get_or l m d))) e ∙ remove_pull_suc (i - 1) d l (omega arith)
+
+  -- to remove the last element is to take the others
+  pub remove_last : (n : ℕ) (l : List A) → length l ≡ suc n → remove_index n l ≡ take n l
+  remove_last n [] h = absurd (omega arith)
+  remove_last zero (x ∷ []) h = refl
+  remove_last zero (x ∷ y ∷ xs) h = absurd (omega arith)
+  remove_last (suc n) (x ∷ xs) h = ap (λ (r : List A). x ∷ r) (remove_last n xs (omega arith))
+
 -- the elements of n from p on copied one place up, and x put in their place
 pub pushed : (n p x : ℕ) (xs ys : List ℕ) → p ≤ n → n < length xs → ys ≡ set (copy_within xs p n (p + 1)) p x → Pushed n p x xs ys
 pushed n p x xs ys h g e =
