@@ -73,13 +73,13 @@ value_is : (h : Option ℕ) → value_of h ≡ looked_up (hit_of h)
 value_is (Some v) = refl
 value_is None = refl
 
-given_from : (f : Found) (n : ℕ) → (look_of (look_from f n) ≡ looked_up f) × (pages_told (look_from f n) ≡ n) × (is_ok (look_from f n) ≡ true)
-given_from absent n = (refl, refl, refl)
-given_from (found v) n = (refl, refl, refl)
+given_from : (f : Found) (n : ℕ) → is_ok (look_from f n) ≡ true
+given_from absent n = refl
+given_from (found v) n = refl
 
-looked_is : (f : Found) → (looked_up f ≡ refuses 1 → ⊥) × (looked_up f ≡ refuses 2 → ⊥) × (tells_or (2 ∷ 1 ∷ 4 ∷ []) (looked_up f) ≡ true)
-looked_is absent = (λ e. not_one e (λ z. omega arith), λ e. not_one e (λ z. omega arith), refl)
-looked_is (found v) = (λ e. (let z : ◌≡◌ {A = ℕ} 0 1 = cc in absurd (omega arith)), λ e. (let z : ◌≡◌ {A = ℕ} 0 1 = cc in absurd (omega arith)), refl)
+look_is : (f : Found) (n : ℕ) → (look_of (look_from f n) ≡ looked_up f) × (pages_told (look_from f n) ≡ n) × (look_of (look_from f n) ≡ refuses 1 → ⊥) × (look_of (look_from f n) ≡ refuses 2 → ⊥) × (tells_or (2 ∷ 1 ∷ 4 ∷ []) (look_of (look_from f n)) ≡ true)
+look_is absent n = (refl, refl, λ e. not_one e (λ z. omega arith), λ e. not_one e (λ z. omega arith), refl)
+look_is (found v) n = (refl, refl, λ e. (let z : ◌≡◌ {A = ℕ} 0 1 = cc in absurd (omega arith)), λ e. (let z : ◌≡◌ {A = ℕ} 0 1 = cc in absurd (omega arith)), refl)
 
 module _ (k : ℕ) (s : State) (i : List ℕ) where
   abbrev g : Geometry
@@ -119,13 +119,13 @@ module _ (k : ℕ) (s : State) (i : List ℕ) where
         → look_of r ≡ looked_up f → pages_told r ≡ n → is_ok r ≡ true → Looks k s i r
     unfolding looking_up state_of
     look_given r f n h q p l a b o =
-        let w = looked_is f in
+        let w = look_is f 0 in
         let u : look_of r ≡ looked_up (find k (present_of g s i)) = a ∙ ap looked_up q in
         record {
           says =
               record {
-                first = first_passed (looks_up k (length i)) s i (look_of r) s e (λ z. w.0 (sym a ∙ z)) (λ z. w.1 (sym a ∙ z));
-                range = ap (tells_or (2 ∷ 1 ∷ 4 ∷ [])) a ∙ w.2;
+                first = first_passed (looks_up k (length i)) s i (look_of r) s e (λ z. w.2 (w.0 ∙ sym a ∙ z)) (λ z. w.3 (w.0 ∙ sym a ∙ z));
+                range = ap (tells_or (2 ∷ 1 ∷ 4 ∷ [])) (a ∙ sym w.0) ∙ w.4;
                 same = record { state = refl; image = refl };
                 done = λ _ _. u;
               };
@@ -138,7 +138,7 @@ module _ (k : ℕ) (s : State) (i : List ℕ) where
 
     look_done : (f : Found) (n : ℕ) → k < top → f ≡ find k (present_of g s i) → n ≡ pages_read (length_of g (limit_of s) (pages_of g i) s.lens s.slots) (path k (present_of g s i)) → n ≤ 16
         → Looks k s i (look_from f n)
-    look_done f n h q p l = let w = given_from f n in look_given (look_from f n) f n h q p l w.0 w.1 w.2
+    look_done f n h q p l = let w = look_is f n in look_given (look_from f n) f n h q p l w.0 w.1 (given_from f n)
 
     pub looked : (t : Looked) → Answers (length_of g (8 * s.blocks) (pages_of g i) s.lens s.slots) k (shown g (8 * s.blocks) (pages_of g i) s.lens s.slots s.count s.buffer) t
         → k < top → (f : Found) → hit_of t.hit ≡ f → Looks k s i (look_from f t.pages)

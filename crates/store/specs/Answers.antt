@@ -37,7 +37,7 @@ refusal_in (P.refuses n) = n
 refusal_in P.accepted = 0
 refusal_in (P.tells vs) = 0
 
--- and of an answer that gives something where it is accepted
+-- the number of the refusal of an answer, 0 where it is Ok, whatever it gives
 abbrev pub refusal_number : {A : Type 0} → Result A Refusal → ℕ
 refusal_number (Ok x) = 0
 refusal_number (Err e) = number_of e

@@ -53,7 +53,7 @@ pub struct Report {
     pub erases: u64,
 }
 
-// The number of a refusal, 0 for none, whatever an answer without one gives.
+// The number of the refusal of an answer, 0 where it is Ok, whatever it gives.
 pub fn number<T: Copy>(answer: Result<T, Refusal>) -> u32
     ensures { result ≡ refusal_number answer }
 {
